@@ -1,0 +1,135 @@
+-- "Rules of a state", each a definition of its own, and their conjunction.
+-- Assumes nothing.
+use Prim.Native.Nat.{ℕ, _+_, _-_, _/_, _%_, _^_}
+use mathlib.Core.Bool.{Bool, true, false, not, _&&_}
+use mathlib.Core.List.{List}
+use lib.ListN.{getD}
+use lib.Dec.{ltb, leb, eqb}
+use Rattle.scope.specs.declared.State.{State}
+use Rattle.scope.specs.declared.Line.{Line}
+use Rattle.scope.specs.declared.Tasks.{Tasks}
+use Rattle.scope.specs.declared.Semaphores.{Semaphores}
+use Rattle.scope.specs.declared.Pools.{Pools}
+use Rattle.scope.specs.Choice.{pick, every, number}
+use Rattle.scope.specs.Seats.{queueSeats, ringSeats, firstRing, waitsOn, queueOf, isOn, onSeat, standing, runnerOf}
+use Rattle.scope.specs.Views.{readyWith}
+use Rattle.scope.specs.Areas.{isArea, isSize, buffersOf, shareByte}
+use Rattle.scope.specs.Tasks.{lastPriority}
+use Rattle.scope.specs.Semaphores.{lastCount, isTimeOut}
+
+-- The seats say queues: a seat that is taken is taken by one task only, and is the first of its queue or directly behind
+-- another that is taken. So the places of a queue of n are 1 to n, each once.
+unfoldable pub seatRight : List ℕ → ℕ → Bool
+seatRight q x =
+    pick (eqb x 0) true
+    (eqb (number (isOn q x) 32) 1 && pick (eqb (x % 64) 1) true (ltb 1 (x % 64) && ltb (onSeat q (x - 1)) 32))
+
+unfoldable pub seatsRight : List ℕ → Bool
+seatsRight q = every (λ t. seatRight q (getD q t 0)) 32
+
+-- "The ready order holds each ready task once and no other, priorities never rising along it.": a ready task stands among
+-- those of its priority, and no other task stands among the ready
+unfoldable pub readyRight : Bool → Bool → ℕ → ℕ → Bool
+readyRight started suspended priority x =
+    pick (readyWith started suspended x) (ltb (ringSeats priority) x && ltb x (ringSeats priority + 63)) (ltb x firstRing)
+
+unfoldable pub readyOrderRight : Line → Tasks → Bool
+readyOrderRight l k =
+    every
+    (λ t. readyRight (getD (k .started) t false) (getD (k .suspended) t false) (getD (k .priority) t 0) (getD (l .seat) t 0))
+    32
+
+-- "Each waiting task stands once in one live semaphore's queue, with a time_out left of 1 to 65,535 or FOREVER, and its joining
+-- priority; queues hold no other task"; "the waiting fields of a task that doesn't wait" are zeros
+unfoldable pub waitRight : List Bool → ℕ → ℕ → ℕ → Bool
+waitRight live x left joined =
+    pick (waitsOn x)
+    (leb 64 x && (getD live (queueOf x) false && (isTimeOut left && leb joined lastPriority)))
+    (eqb left 0 && eqb joined 0)
+
+unfoldable pub waitsRight : Line → List Bool → Bool
+waitsRight l live = every (λ t. waitRight live (getD (l .seat) t 0) (getD (l .left) t 0) (getD (l .joined) t 0)) 32
+
+-- "those not FIFO never rise in joining priority": nobody has a higher one than who stands directly ahead
+unfoldable pub joinedRight : List ℕ → List ℕ → List Bool → ℕ → ℕ → Bool
+joinedRight q joined fifo x priority =
+    pick (waitsOn x && ltb 1 (x % 64))
+    (pick (getD fifo (queueOf x) false) true (leb priority (getD joined (onSeat q (x - 1)) 0)))
+    true
+
+unfoldable pub queuesSorted : Line → List Bool → Bool
+queuesSorted l fifo = every (λ t. joinedRight (l .seat) (l .joined) fifo (getD (l .seat) t 0) (getD (l .joined) t 0)) 32
+
+-- "A queue with n tasks, n above 0, has count −n; an empty queue has count 0 to 32,767."
+unfoldable pub countRight : List ℕ → ℕ → ℕ → Bool
+countRight q i units = pick (ltb 0 (standing q (queueSeats i))) (eqb units 0) (leb units lastCount)
+
+unfoldable pub countsRight : Line → Semaphores → Bool
+countsRight l m = every (λ i. countRight (l .seat) i (getD (m .units) i 0)) 16
+
+-- "Tasks not started neither wait nor are suspended."
+unfoldable pub startRight : Bool → Bool → ℕ → Bool
+startRight started suspended x = pick started true (not (waitsOn x) && not suspended)
+
+unfoldable pub startsRight : Line → Tasks → Bool
+startsRight l k = every (λ t. startRight (getD (k .started) t false) (getD (k .suspended) t false) (getD (l .seat) t 0)) 32
+
+-- "Serials, priorities and options are in range." (A live object's serial is 1 or more; no number of 16 bits is above 65,535.)
+-- "A slot without a live object holds its last serial (0 if none) and otherwise zeros"
+unfoldable pub taskRight : Tasks → ℕ → Bool
+taskRight k t =
+    pick (getD (k .live) t false)
+    (leb 1 (getD (k .serial) t 0) && leb (getD (k .priority) t 0) lastPriority)
+    (eqb (getD (k .name) t 0) 0
+    && (not (getD (k .started) t false) && (not (getD (k .suspended) t false) && eqb (getD (k .priority) t 0) 0)))
+
+unfoldable pub tasksRight : Tasks → Bool
+tasksRight k = every (taskRight k) 32
+
+unfoldable pub semRight : Semaphores → ℕ → Bool
+semRight m i =
+    pick (getD (m .live) i false)
+    (leb 1 (getD (m .serial) i 0))
+    (eqb (getD (m .name) i 0) 0 && (not (getD (m .fifo) i false) && eqb (getD (m .units) i 0) 0))
+
+unfoldable pub semsRight : Semaphores → Bool
+semsRight m = every (semRight m) 16
+
+-- "Each live pool is one that creation admits"; "marks of buffers past a pool's number" are zeros
+unfoldable pub admitted : ℕ → ℕ → ℕ → ℕ → Bool
+admitted address length size out =
+    isArea address length && (isSize length size && ltb out (2 ^ buffersOf length size))
+
+unfoldable pub poolRight : Pools → ℕ → Bool
+poolRight p i =
+    pick (getD (p .live) i false)
+    (leb 1 (getD (p .serial) i 0)
+    && admitted (getD (p .address) i 0) (getD (p .length) i 0) (getD (p .size) i 0) (getD (p .out) i 0))
+    (eqb (getD (p .out) i 0) 0
+    && (eqb (getD (p .name) i 0) 0
+    && (eqb (getD (p .address) i 0) 0
+    && (eqb (getD (p .length) i 0) 0 && (eqb (getD (p .size) i 0) 0 && not (getD (p .forced) i false))))))
+
+unfoldable pub poolsRight : Pools → Bool
+poolsRight p = every (poolRight p) 8
+
+-- "no two live pools share a byte"
+unfoldable pub pairShares : Pools → ℕ → ℕ → Bool
+pairShares p i j =
+    getD (p .live) i false && (getD (p .live) j false
+    && shareByte (getD (p .address) i 0) (getD (p .length) i 0) (getD (p .address) j 0) (getD (p .length) j 0))
+
+unfoldable pub poolsApart : Pools → Bool
+poolsApart p = every (λ i. every (λ j. pick (ltb i j) (not (pairShares p i j)) true) 8) 8
+
+-- the kept running task is the one that runs
+unfoldable pub runningRight : State → Bool
+runningRight s = eqb (s .running) (runnerOf (s .line .seat))
+
+-- no rule is broken
+unfoldable pub sound : State → Bool
+sound s =
+    seatsRight (s .line .seat) && (readyOrderRight (s .line) (s .tasks) && (waitsRight (s .line) (s .semaphores .live)
+    && (queuesSorted (s .line) (s .semaphores .fifo) && (countsRight (s .line) (s .semaphores)
+    && (startsRight (s .line) (s .tasks) && (tasksRight (s .tasks) && (semsRight (s .semaphores)
+    && (poolsRight (s .pools) && (poolsApart (s .pools) && runningRight s)))))))))

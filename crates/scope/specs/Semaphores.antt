@@ -1,0 +1,175 @@
+-- The semaphore calls: chapter 7, as document 01 fixes it. Each is given the semaphore's slot, its identifier being found.
+-- Assumes nothing.
+use Prim.Native.Nat.{ℕ, zero, suc, _+_, _-_}
+use mathlib.Core.Bool.{Bool, true, false, not, _&&_}
+use mathlib.Core.List.{List}
+use lib.ListN.{length, getD, set}
+use lib.Dec.{ltb, leb, eqb}
+use Rattle.scope.specs.declared.State.{State}
+use Rattle.scope.specs.declared.Line.{Line}
+use Rattle.scope.specs.declared.Tasks.{Tasks}
+use Rattle.scope.specs.declared.Semaphores.{Semaphores}
+use Rattle.scope.specs.declared.Waking.{Waking}
+use Rattle.scope.specs.declared.Answer.{Answer}
+use Rattle.scope.specs.declared.Found.{Found}
+use Rattle.scope.specs.Choice.{pick}
+use Rattle.scope.specs.Identifiers.{identifier, found, lowestUsable, byName}
+use Rattle.scope.specs.Statuses.{OK, PENDING, INVALID-PARAMETER, INVALID-OPTIONS, TOO-MANY-OBJECTS, NAME-NOT-FOUND, INVALID-COUNT, SEMAPHORE-NOT-AVAILABLE, SEMAPHORE-DELETED, SEMAPHORE-OVERFLOW, NO-CALLER}
+use Rattle.scope.specs.Seats.{queueSeats, firstOf, leaves, joins, becomesReady}
+use Rattle.scope.specs.Views.{withLine, withSemaphores, withWait, waitersOf, countNegative, countSize}
+use Rattle.scope.specs.Answers.{noWakes, bitOf, answer, plain, gives, wakesWith, onFound}
+
+-- the greatest count
+abbrev pub lastCount : ℕ
+lastCount = 32767
+
+-- "4,294,967,295 for FOREVER"
+abbrev pub FOREVER : ℕ
+FOREVER = 4294967295
+
+-- "Options are bit 0: FIFO, FORCED_DELETE, NOWAIT."
+abbrev pub lastOption : ℕ
+lastOption = 1
+
+abbrev pub semFound : State → ℕ → Found
+semFound s id = found (s .semaphores .serial) (s .semaphores .live) id
+
+-- slot i holds its next object
+abbrev pub semBorn : Semaphores → ℕ → ℕ → ℕ → Bool → Semaphores
+semBorn m i name count fifo =
+    record {
+      name = set (m .name) i name;
+      serial = set (m .serial) i (getD (m .serial) i 0 + 1);
+      units = set (m .units) i count;
+      live = set (m .live) i true;
+      fifo = set (m .fifo) i fifo;
+    }
+
+abbrev pub semGone : Semaphores → ℕ → Semaphores
+semGone m i =
+    record {
+      name = set (m .name) i 0;
+      serial = m .serial;
+      units = set (m .units) i 0;
+      live = set (m .live) i false;
+      fifo = set (m .fifo) i false;
+    }
+
+abbrev pub withUnits : Semaphores → ℕ → ℕ → Semaphores
+withUnits m i n = record { name = m .name; serial = m .serial; units = set (m .units) i n; live = m .live; fifo = m .fifo }
+
+-- sem_create: 9, 6, 7
+unfoldable pub semCreateAt : State → ℕ → ℕ → ℕ → ℕ → Answer
+semCreateAt s name count options i =
+    pick (leb (length (s .semaphores .serial)) i) (plain s TOO-MANY-OBJECTS)
+    (gives (withSemaphores s (semBorn (s .semaphores) i name count (eqb options 1)))
+    (identifier (getD (s .semaphores .serial) i 0 + 1) i))
+
+unfoldable pub semCreate : State → ℕ → ℕ → ℕ → Answer
+semCreate s name count options =
+    pick (ltb lastCount count) (plain s INVALID-COUNT)
+    (pick (ltb lastOption options) (plain s INVALID-OPTIONS)
+    (semCreateAt s name count options (lowestUsable (s .semaphores .serial) (s .semaphores .live))))
+
+-- where task t stands when it is woken: "it becomes ready when it neither waits nor is suspended"
+unfoldable pub wokenSeats : Line → Bool → ℕ → ℕ → List ℕ
+wokenSeats l suspended priority t =
+    pick suspended (leaves (l .seat) t) (becomesReady (leaves (l .seat) t) (l .joined) t priority)
+
+-- task t leaves its queue and waits no longer
+unfoldable pub wake : Line → Bool → ℕ → ℕ → Line
+wake l suspended priority t = withWait l t 0 0 (wokenSeats l suspended priority t)
+
+-- and is the next of the wake list
+unfoldable pub wakeNext : Tasks → Waking → ℕ → Waking
+wakeNext k w t =
+    record {
+      line = wake (w .line) (getD (k .suspended) t false) (getD (k .priority) t 0) t;
+      wakes = set (w .wakes) (w .woken) (identifier (getD (k .serial) t 0) t);
+      woken = w .woken + 1;
+    }
+
+abbrev pub noneWoken : Line → Waking
+noneWoken l = record { line = l; wakes = noWakes; woken = 0 }
+
+-- "Delete wakes all waiters in queue order": the first, while there is one (at most n)
+unfoldable pub wakeAll : Tasks → ℕ → ℕ → Waking → Waking
+wakeAll k i zero w = w
+wakeAll k i (suc n) w =
+    elim (ltb (firstOf (w .line .seat) (queueSeats i)) 32) [
+      | true ↦ wakeAll k i n (wakeNext k w (firstOf (w .line .seat) (queueSeats i)))
+      | false ↦ w
+    ]
+
+-- sem_delete
+unfoldable pub semDeleteAt : State → ℕ → Answer
+semDeleteAt s i =
+    wakesWith (withSemaphores s (semGone (s .semaphores) i)) (wakeAll (s .tasks) i 32 (noneWoken (s .line))) SEMAPHORE-DELETED
+
+-- sem_ident: 8
+unfoldable pub semIdentAt : State → ℕ → Answer
+semIdentAt s i =
+    pick (leb (length (s .semaphores .live)) i) (plain s NAME-NOT-FOUND)
+    (gives s (identifier (getD (s .semaphores .serial) i 0) i))
+
+unfoldable pub semIdent : State → ℕ → Answer
+semIdent s name = semIdentAt s (byName (s .semaphores .live) (s .semaphores .name) name)
+
+-- "time_out is 1 to 65,535 ticks, or 4,294,967,295 for FOREVER"
+unfoldable pub isTimeOut : ℕ → Bool
+isTimeOut ticks = pick (eqb ticks FOREVER) true (leb 1 ticks && leb ticks 65535)
+
+-- "FIFO queues grow at the end. Others are by priority at the moment of joining, equals by arrival"
+unfoldable pub queueKey : Bool → ℕ → ℕ
+queueKey fifo priority = pick fifo 0 priority
+
+-- the running task t leaves the ready order and joins the queue of semaphore i
+unfoldable pub waits : Line → ℕ → Bool → ℕ → ℕ → ℕ → Line
+waits l i fifo priority ticks t =
+    withWait l t ticks priority (joins (leaves (l .seat) t) (l .joined) t (queueSeats i) (queueKey fifo priority))
+
+-- the running task joins the queue; 24 where nothing runs, which is tested before any claim
+unfoldable pub semWaitAt : State → ℕ → ℕ → Answer
+semWaitAt s ticks i =
+    pick (ltb (s .running) 32)
+    (plain
+    (withLine s
+    (waits (s .line) i (getD (s .semaphores .fifo) i false) (getD (s .tasks .priority) (s .running) 0) ticks (s .running)))
+    PENDING)
+    (plain s NO-CALLER)
+
+-- "Claim: count less one. At 0 or more the answer is OK; below 0 the caller joins the queue." 6, 3, 10
+unfoldable pub semClaimAt : State → ℕ → ℕ → ℕ → Answer
+semClaimAt s options ticks i =
+    pick (ltb lastOption options) (plain s INVALID-OPTIONS)
+    (pick (eqb options 0 && not (isTimeOut ticks)) (plain s INVALID-PARAMETER)
+    (pick (ltb 0 (getD (s .semaphores .units) i 0))
+    (plain (withSemaphores s (withUnits (s .semaphores) i (getD (s .semaphores .units) i 0 - 1))) OK)
+    (pick (eqb options 1) (plain s SEMAPHORE-NOT-AVAILABLE) (semWaitAt s ticks i))))
+
+-- "Release: count plus one. If there were waiters the first leaves, woken with OK: that is its grant." 12
+unfoldable pub semReleaseAt : State → ℕ → Answer
+semReleaseAt s i =
+    pick (ltb (firstOf (s .line .seat) (queueSeats i)) 32)
+    (wakesWith s (wakeNext (s .tasks) (noneWoken (s .line)) (firstOf (s .line .seat) (queueSeats i))) OK)
+    (pick (leb lastCount (getD (s .semaphores .units) i 0)) (plain s SEMAPHORE-OVERFLOW)
+    (plain (withSemaphores s (withUnits (s .semaphores) i (getD (s .semaphores .units) i 0 + 1))) OK))
+
+-- "sem_info gives options, count, tasks waiting"
+unfoldable pub semInfoAt : State → ℕ → Answer
+semInfoAt s i =
+    answer s OK (bitOf (getD (s .semaphores .fifo) i false)) (countSize (s .line) (s .semaphores) i) (waitersOf (s .line) i) 0
+    (countNegative (s .line) i)
+
+-- the calls with a semaphore's identifier
+abbrev pub semDelete : State → ℕ → Answer
+semDelete s id = onFound (semFound s id) s (semDeleteAt s)
+
+abbrev pub semClaim : State → ℕ → ℕ → ℕ → Answer
+semClaim s id options ticks = onFound (semFound s id) s (semClaimAt s options ticks)
+
+abbrev pub semRelease : State → ℕ → Answer
+semRelease s id = onFound (semFound s id) s (semReleaseAt s)
+
+abbrev pub semInfo : State → ℕ → Answer
+semInfo s id = onFound (semFound s id) s (semInfoAt s)

@@ -1,0 +1,34 @@
+-- A step: a call by a caller, on any state. "Order of tests: 26, 25, 24, 2, then identifier (4, 5), then the call's own".
+-- Assumes nothing.
+use Prim.Native.Nat.{ℕ}
+use mathlib.Core.Bool.{Bool, true, false}
+use lib.Dec.{ltb, leb, eqb}
+use Rattle.scope.specs.declared.State.{State}
+use Rattle.scope.specs.declared.Answer.{Answer}
+use Rattle.scope.specs.Choice.{pick}
+use Rattle.scope.specs.Statuses.{OK, ILLEGAL-USE, NO-CALLER, BAD-CALL}
+use Rattle.scope.specs.Answers.{plain, badState}
+use Rattle.scope.specs.Rules.{sound}
+use Rattle.scope.specs.Calls.{callAt, mayCall}
+
+-- 25: "unknown call or caller mark, or a tick with mark 0" (no other row denies the running task);
+-- 24: "task caller, nothing runs"; 2: "interrupt caller, call neither sem_release nor tick"; 0: none of these
+unfoldable pub callerRefusal : ℕ → ℕ → ℕ → ℕ
+callerRefusal call mark running =
+    pick (leb 20 call) BAD-CALL
+    (pick (ltb 1 mark) BAD-CALL
+    (pick (eqb mark 0)
+    (pick (mayCall call 0) (pick (ltb running 32) OK NO-CALLER) BAD-CALL)
+    (pick (mayCall call 1) OK ILLEGAL-USE)))
+
+-- the answer of a call on a state that keeps the rules
+unfoldable pub answered : State → ℕ → ℕ → ℕ → ℕ → ℕ → ℕ → ℕ → Answer
+answered s call mark a b c d e =
+    elim (eqb (callerRefusal call mark (s .running)) OK) [
+      | true ↦ callAt call .does s a b c d e
+      | false ↦ plain s (callerRefusal call mark (s .running))
+    ]
+
+-- "A state that breaks a listed rule gets BAD_STATE"
+unfoldable pub stepped : State → ℕ → ℕ → ℕ → ℕ → ℕ → ℕ → ℕ → Answer
+stepped s call mark a b c d e = elim (sound s) [ true ↦ answered s call mark a b c d e | false ↦ badState s ]

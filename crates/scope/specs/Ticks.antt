@@ -1,0 +1,43 @@
+-- "A tick takes one from each running time_out. Those reaching 0 are woken with 13 in ascending slot order, so a time_out of n
+-- ends at the n-th tick that finds the task not suspended."
+-- Assumes nothing.
+use Prim.Native.Nat.{ℕ, zero, suc, _+_, _-_}
+use mathlib.Core.Bool.{Bool, true, false, _&&_}
+use mathlib.Core.List.{List, [], _∷_}
+use lib.ListN.{getD}
+use lib.Dec.{eqb}
+use Rattle.scope.specs.declared.State.{State}
+use Rattle.scope.specs.declared.Line.{Line}
+use Rattle.scope.specs.declared.Tasks.{Tasks}
+use Rattle.scope.specs.declared.Waking.{Waking}
+use Rattle.scope.specs.declared.Answer.{Answer}
+use Rattle.scope.specs.Choice.{pick}
+use Rattle.scope.specs.Statuses.{TIME-OUT}
+use Rattle.scope.specs.Seats.{waitsOn}
+use Rattle.scope.specs.Semaphores.{FOREVER, wakeNext, noneWoken}
+use Rattle.scope.specs.Answers.{wakesWith}
+
+-- what a tick leaves of a time_out. "Its time_out stands still while it is suspended." A task that does not wait has 0 left.
+unfoldable pub timeLeft : Bool → ℕ → ℕ
+timeLeft suspended left = pick suspended left (pick (eqb left FOREVER) left (left - 1))
+
+unfoldable pub timesLeft : List Bool → List ℕ → List ℕ
+timesLeft [] left = left
+timesLeft (b ∷ suspended) [] = []
+timesLeft (b ∷ suspended) (x ∷ left) = timeLeft b x ∷ timesLeft suspended left
+
+-- one is taken from each running time_out
+abbrev pub ticked : Line → Tasks → Line
+ticked l k = record { left = timesLeft (k .suspended) (l .left); seat = l .seat; joined = l .joined }
+
+-- it waits, and nothing is left of its time_out
+unfoldable pub isDue : Line → ℕ → Bool
+isDue l t = waitsOn (getD (l .seat) t 0) && eqb (getD (l .left) t 0) 0
+
+-- tasks t, t + 1, .. (n of them) are woken where they are due
+unfoldable pub wakeDue : Tasks → ℕ → ℕ → Waking → Waking
+wakeDue k zero t w = w
+wakeDue k (suc n) t w = elim (isDue (w .line) t) [ true ↦ wakeDue k n (suc t) (wakeNext k w t) | false ↦ wakeDue k n (suc t) w ]
+
+unfoldable pub tick : State → Answer
+tick s = wakesWith s (wakeDue (s .tasks) 32 0 (noneWoken (ticked (s .line) (s .tasks)))) TIME-OUT

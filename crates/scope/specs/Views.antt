@@ -1,0 +1,59 @@
+-- The state with one part changed, and the paper's words for what it holds.
+-- Assumes nothing.
+use Prim.Native.Nat.{ℕ, _+_, _-_}
+use mathlib.Core.Bool.{Bool, true, false, not, _&&_}
+use mathlib.Core.List.{List}
+use lib.ListN.{getD, set}
+use lib.Dec.{ltb, eqb}
+use Rattle.scope.specs.declared.Line.{Line}
+use Rattle.scope.specs.declared.Tasks.{Tasks}
+use Rattle.scope.specs.declared.Semaphores.{Semaphores}
+use Rattle.scope.specs.declared.Pools.{Pools}
+use Rattle.scope.specs.declared.State.{State}
+use Rattle.scope.specs.Choice.{pick}
+use Rattle.scope.specs.Identifiers.{identifier}
+use Rattle.scope.specs.Seats.{leaves, joins, becomesReady, runnerOf, waitsOn, queueSeats, standing}
+
+-- the state with tasks standing elsewhere; who runs follows from where they stand
+abbrev pub withLine : State → Line → State
+withLine s l = record { line = l; tasks = s .tasks; semaphores = s .semaphores; pools = s .pools; running = runnerOf (l .seat) }
+
+abbrev pub withTasks : State → Tasks → State
+withTasks s k = record { line = s .line; tasks = k; semaphores = s .semaphores; pools = s .pools; running = s .running }
+
+abbrev pub withSemaphores : State → Semaphores → State
+withSemaphores s m = record { line = s .line; tasks = s .tasks; semaphores = m; pools = s .pools; running = s .running }
+
+abbrev pub withPools : State → Pools → State
+withPools s p = record { line = s .line; tasks = s .tasks; semaphores = s .semaphores; pools = p; running = s .running }
+
+-- the line with other seats
+abbrev pub withSeats : Line → List ℕ → Line
+withSeats l q = record { left = l .left; seat = q; joined = l .joined }
+
+-- task t with this time_out left and this joining priority, and other seats
+abbrev pub withWait : Line → ℕ → ℕ → ℕ → List ℕ → Line
+withWait l t left joined q = record { left = set (l .left) t left; seat = q; joined = set (l .joined) t joined }
+
+-- "A task is ready if started, not waiting and not suspended." (Here of a task on seat x.)
+unfoldable pub readyWith : Bool → Bool → ℕ → Bool
+readyWith started suspended x = started && (not suspended && not (waitsOn x))
+
+abbrev pub isReady : Line → Tasks → ℕ → Bool
+isReady l k t = readyWith (getD (k .started) t false) (getD (k .suspended) t false) (getD (l .seat) t 0)
+
+-- the tasks waiting for semaphore i
+abbrev pub waitersOf : Line → ℕ → ℕ
+waitersOf l i = standing (l .seat) (queueSeats i)
+
+-- The count of semaphore i is its free units less its waiting tasks. It is negative where tasks wait, and then its size is
+-- their number; else it is the units.
+unfoldable pub countNegative : Line → ℕ → Bool
+countNegative l i = ltb 0 (waitersOf l i)
+
+unfoldable pub countSize : Line → Semaphores → ℕ → ℕ
+countSize l m i = pick (countNegative l i) (waitersOf l i) (getD (m .units) i 0)
+
+-- "the running task after it, 0 if none"
+unfoldable pub runningTask : State → ℕ
+runningTask s = pick (ltb (s .running) 32) (identifier (getD (s .tasks .serial) (s .running) 0) (s .running)) 0

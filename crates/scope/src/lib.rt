@@ -1,0 +1,93 @@
+// The state of the kernel and the answers it gives, as plain data. What they mean, sentence by sentence of document 01,
+// is in specs/. Every array is by slot: 32 tasks, 16 semaphores, 8 pools.
+
+pub const TASKS: usize = 32;
+
+pub const SEMAPHORES: usize = 16;
+
+pub const POOLS: usize = 8;
+
+// Where each task stands, and what it waits with.
+// A seat is queue × 64 + place, place 1 first, 0 for a task that stands nowhere. Queue i + 1 is the wait queue of
+// semaphore i; queue 32 + p holds the ready tasks of priority p. So one number says which queue a task stands in and
+// how many stand ahead of it, and no list has to be kept.
+pub struct Line {
+    // The ticks left of a waiting task's time_out, or FOREVER.
+    pub left: [u32; 32],
+    pub seat: [u16; 32],
+    // The joining priority of a waiting task.
+    pub joined: [u8; 32],
+}
+
+pub struct Tasks {
+    pub name: [u32; 32],
+    pub serial: [u16; 32],
+    pub live: [bool; 32],
+    pub started: [bool; 32],
+    pub suspended: [bool; 32],
+    pub priority: [u8; 32],
+}
+
+pub struct Semaphores {
+    pub name: [u32; 16],
+    pub serial: [u16; 16],
+    // The units free to be claimed. The paper's count is these, or minus the number of tasks waiting.
+    pub units: [u16; 16],
+    pub live: [bool; 16],
+    pub fifo: [bool; 16],
+}
+
+pub struct Pools {
+    // Bit k is set while buffer k is out.
+    pub out: [u64; 8],
+    pub name: [u32; 8],
+    pub address: [u32; 8],
+    pub length: [u32; 8],
+    pub size: [u32; 8],
+    pub serial: [u16; 8],
+    pub live: [bool; 8],
+    pub forced: [bool; 8],
+}
+
+pub struct State {
+    pub line: Line,
+    pub tasks: Tasks,
+    pub semaphores: Semaphores,
+    pub pools: Pools,
+    // The slot of the running task, 32 where nothing runs. It follows from the seats, and is kept so that it is found once.
+    pub running: usize,
+}
+
+// The tasks that a call has woken so far, in order, beside where the tasks stand by then.
+pub struct Waking {
+    pub line: Line,
+    pub wakes: [u32; 32],
+    pub woken: usize,
+}
+
+pub struct Answer {
+    pub state: State,
+    // The wake list: the identifiers of the first `woken` places, all woken with the status `why`.
+    pub wakes: [u32; 32],
+    pub woken: usize,
+    pub why: u32,
+    pub status: u32,
+    pub values: [u32; 4],
+    // Whether the second value stands for minus that number: sem_info's count.
+    pub negative: bool,
+    // The running task's identifier, 0 if none.
+    pub running: u32,
+}
+
+// A fresh state, or the refusal of its priority beside the fresh state of priority 0.
+pub struct Fresh {
+    pub state: State,
+    pub status: u32,
+}
+
+// What an identifier names.
+pub enum Found {
+    At(usize),
+    Deleted,
+    Invalid,
+}

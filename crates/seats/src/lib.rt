@@ -1,0 +1,211 @@
+// The verbs of the queues: leave from anywhere, join behind a key, first, who runs, how many. Nobody else touches a seat.
+// A seat is queue × 64 + place; slot 32 is nobody. (scope's specs/Seats.antt.)
+ghost use mathlib.Core.Path.{_≡_};
+ghost use mathlib.Core.Bool.{Bool, true, false, _&&_};
+ghost use Prim.Native.Nat.{ℕ, _+_, _<_, _≤_};
+ghost use lib.ListN.{length, getD, set};
+ghost use lib.Dec.{ltb};
+ghost use Rattle.scope.specs.Choice.{pick};
+ghost use Rattle.scope.specs.Seats.{lower, raise, leaves, joins, becomesReady, laterOf, aheadOf, onSeat, firstOf, standsIn, standing, greater, topOf, runnerOf, waitsOn, queueSeats, ringSeats, seatsEnd};
+
+// A seat after seat `x` was left; `end` is the end of its queue's seats.
+fn lowered(y: u16, x: u16, end: u16) -> u16
+    ensures { λ r. ⌜ r ≡ lower x end y ⌝ }
+{
+    if y == x {
+        return 0;
+    }
+    if x < y {
+        if y < end {
+            return y - 1;
+        }
+    }
+    y
+}
+
+// The end of the seats of the queue that seat `x` is in.
+fn end_of(x: u16) -> u16
+    ensures { λ r. ⌜ r ≡ seatsEnd x ⌝ }
+{
+    x / 64 * 64 + 63
+}
+
+// Task `t` leaves the queue it stands in; those behind it come forward.
+pub fn leave(q: [u16; 32], t: usize) -> [u16; 32]
+    requires { ⌜ t < 32 ⌝ }
+    ensures { λ r. ⌜ r ≡ leaves q t ⌝ }
+{
+    let x = q[t];
+    let end = end_of(x);
+    let mut r = q;
+    let mut k: usize = 0;
+    while k < 32 {
+        let y = lowered(r[k], x, end);
+        r[k] = y;
+        k += 1;
+    }
+    r
+}
+
+// A seat after another task took seat `x`.
+fn raised(y: u16, x: u16, end: u16) -> u16
+    ensures { λ r. ⌜ r ≡ raise x end y ⌝ }
+{
+    if x <= y {
+        if y < end {
+            return y + 1;
+        }
+    }
+    y
+}
+
+fn later(m: u16, y: u16, end: u16, key: u8, p: u8) -> u16
+    ensures { λ r. ⌜ r ≡ laterOf m y end key p ⌝ }
+{
+    if m < y {
+        if y < end {
+            if p <= key {
+                return y;
+            }
+        }
+    }
+    m
+}
+
+// The last seat above `base` and before `end` of a task whose key is `p` or more; `base` if there is none.
+fn ahead(q: [u16; 32], key: [u8; 32], base: u16, end: u16, p: u8) -> u16
+    ensures { λ r. ⌜ r ≡ aheadOf q key base end p 32 ⌝ }
+{
+    let mut m: u16 = base;
+    let mut k: usize = 0;
+    while k < 32 {
+        m = later(m, q[k], end, key[k], p);
+        k += 1;
+    }
+    m
+}
+
+// Task `t`, which stands nowhere, joins the queue whose seats begin above `base`, behind all whose key is `p` or more.
+pub fn join(q: [u16; 32], key: [u8; 32], t: usize, base: u16, p: u8) -> [u16; 32]
+    requires { ⌜ (t < 32) × (base < 65000) ⌝ }
+    ensures { λ r. ⌜ r ≡ joins q key t base p ⌝ }
+{
+    let end = base + 63;
+    let x = ahead(q, key, base, end, p) + 1;
+    let mut r = q;
+    let mut k: usize = 0;
+    while k < 32 {
+        let y = raised(r[k], x, end);
+        r[k] = y;
+        k += 1;
+    }
+    r[t] = x;
+    r
+}
+
+fn wide(p: u8) -> u16
+    ensures { λ r. ⌜ r ≡ p ⌝ }
+{
+    p as u16
+}
+
+// Task `t`, which stands nowhere, goes behind all ready tasks of priority `p`.
+pub fn make_ready(q: [u16; 32], key: [u8; 32], t: usize, p: u8) -> [u16; 32]
+    requires { ⌜ t < 32 ⌝ }
+    ensures { λ r. ⌜ r ≡ becomesReady q key t p ⌝ }
+{
+    join(q, key, t, wide(p) * 64 + 2048, 0)
+}
+
+// The task on seat `x`; 32 if there is none.
+pub fn on_seat(q: [u16; 32], x: u16) -> usize
+    ensures { λ r. ⌜ r ≡ onSeat q x ⌝ }
+{
+    let mut t: usize = 0;
+    while t < 32 {
+        if q[t] == x {
+            return t;
+        }
+        t += 1;
+    }
+    t
+}
+
+// The first waiter of semaphore `i`; 32 if there is none.
+pub fn first_waiter(q: [u16; 32], i: usize) -> usize
+    requires { ⌜ i < 16 ⌝ }
+    ensures { λ r. ⌜ r ≡ firstOf q (queueSeats i) ⌝ }
+{
+    on_seat(q, (i * 64 + 65) as u16)
+}
+
+// 1 for a task that stands above `base`, before `end`; else 0.
+fn one_in(y: u16, base: u16, end: u16) -> usize
+    ensures { λ r. ⌜ r ≡ pick {A = ℕ} (ltb base y && ltb y end) 1 0 ⌝ }
+{
+    if base < y {
+        if y < end {
+            return 1;
+        }
+    }
+    0
+}
+
+// How many tasks wait for semaphore `i`.
+pub fn waiters(q: [u16; 32], i: usize) -> usize
+    requires { ⌜ i < 16 ⌝ }
+    ensures { λ r. ⌜ r ≡ standing q (queueSeats i) ⌝ }
+{
+    let base = (i * 64 + 64) as u16;
+    let end = base + 63;
+    let mut n: usize = 0;
+    let mut t: usize = 0;
+    while t < 32 {
+        n += one_in(q[t], base, end);
+        t += 1;
+    }
+    n
+}
+
+fn larger(x: u16, y: u16) -> u16
+    ensures { λ r. ⌜ r ≡ greater x y ⌝ }
+{
+    if x < y {
+        return y;
+    }
+    x
+}
+
+// The greatest of all seats.
+fn top(q: [u16; 32]) -> u16
+    ensures { λ r. ⌜ r ≡ topOf q 32 ⌝ }
+{
+    let mut m: u16 = 0;
+    let mut t: usize = 0;
+    while t < 32 {
+        m = larger(m, q[t]);
+        t += 1;
+    }
+    m
+}
+
+// The running task, 32 if nothing runs.
+pub fn runner(q: [u16; 32]) -> usize
+    ensures { λ r. ⌜ r ≡ runnerOf q ⌝ }
+{
+    let x = top(q);
+    if x < 2048 {
+        return 32;
+    }
+    on_seat(q, x / 64 * 64 + 1)
+}
+
+// Whether a task on this seat waits in a semaphore's queue.
+pub fn waits_on(x: u16) -> bool
+    ensures { λ r. ⌜ r ≡ waitsOn x ⌝ }
+{
+    if 0 < x {
+        return x < 2048;
+    }
+    false
+}

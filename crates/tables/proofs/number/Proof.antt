@@ -1,0 +1,21 @@
+-- `tables::number` meets its contract: past the end a read gives the default.
+-- Assumes nothing.
+use Rattle.laws.proofs.Arrays.{past}
+use borrow.Author.Needs.{needs}
+use Rattle.tables.proofs.number.Statement.{statement}
+use Rattle.tables.proofs.number.Tie as tie
+
+mul-result : tie.Need-mul-result
+mul-result c = search needs
+
+shared-slice-read-result : tie.Need-shared-slice-read-result
+shared-slice-read-result c = search needs
+
+returns : tie.Need-returns
+returns c = search needs
+
+returns-2 : tie.Need-returns-2
+returns-2 c = search (needs, past)
+
+pub number-spec : {M : Type 1} → statement M
+number-spec = tie.close (tie.spec mul-result shared-slice-read-result returns returns-2)

@@ -1,0 +1,134 @@
+/*
+ * The script player.
+ *
+ * "The whole listing (record, status, four values, running, wakes) ...
+ * Records count from 1; one space between fields, a newline after each line,
+ * no leading zeros; sem_info's count is signed ...; wakes are `task:status`
+ * in order. A listing without records is empty."
+ */
+#include "script.h"
+
+#include "kernel.h"
+
+struct writer {
+    char *out;
+    size_t room;
+    size_t length; /* counts on past the room */
+};
+
+struct header {
+    uint32_t records;
+    uint32_t offset;
+    uint32_t priority;
+};
+
+static void put_sign(struct writer *w, char sign)
+{
+    if (w->length < w->room)
+        w->out[w->length] = sign;
+    w->length++;
+}
+
+static void put_text(struct writer *w, const char *text)
+{
+    for (; *text != 0; text++)
+        put_sign(w, *text);
+}
+
+static void put_number(struct writer *w, int64_t number)
+{
+    char digits[20];
+    int count = 0;
+    uint64_t left = number < 0 ? 0 - (uint64_t)number : (uint64_t)number;
+
+    if (number < 0)
+        put_sign(w, '-');
+    do {
+        digits[count++] = (char)('0' + left % 10);
+        left /= 10;
+    } while (left != 0);
+    while (count > 0)
+        put_sign(w, digits[--count]);
+}
+
+static void put_field(struct writer *w, int64_t number)
+{
+    put_sign(w, ' ');
+    put_number(w, number);
+}
+
+static void put_answer(struct writer *w, uint32_t record,
+                       const struct answer *a)
+{
+    put_number(w, record);
+    put_field(w, a->status);
+    for (int i = 0; i < VALUES; i++)
+        put_field(w, a->value[i]);
+    put_field(w, a->running);
+    for (uint32_t i = 0; i < a->wakes; i++) {
+        put_field(w, a->wake[i].task);
+        put_sign(w, ':');
+        put_number(w, a->wake[i].status);
+    }
+    put_sign(w, '\n');
+}
+
+static uint32_t number_at(const uint8_t *bytes)
+{
+    return (uint32_t)bytes[0] | (uint32_t)bytes[1] << 8
+         | (uint32_t)bytes[2] << 16 | (uint32_t)bytes[3] << 24;
+}
+
+/* "Refused with the one line `script refused`: too long, shorter than 16,
+ * offset below 16, offset + 28 × count above the script's length, priority
+ * above 15, fourth number not zero." */
+static bool header_is_admitted(const uint8_t *script, size_t length,
+                               struct header *h)
+{
+    if (length > MOST_SCRIPT || length < HEADER_BYTES)
+        return false;
+    h->records = number_at(script);
+    h->offset = number_at(script + 4);
+    h->priority = number_at(script + 8);
+    return h->offset >= HEADER_BYTES
+        && h->offset + RECORD_BYTES * (uint64_t)h->records <= length
+        && h->priority < PRIORITIES
+        && number_at(script + 12) == 0;
+}
+
+static void play_record(struct kernel *k, const uint8_t *record, int trust,
+                        struct answer *a)
+{
+    uint32_t call = number_at(record);
+    uint32_t mark = number_at(record + 4);
+    uint32_t arg[ARGUMENTS];
+
+    for (int i = 0; i < ARGUMENTS; i++)
+        arg[i] = number_at(record + 8 + 4 * i);
+    if (trust)
+        kernel_step(k, call, mark, arg, a);
+    else
+        kernel_step_checked(k, call, mark, arg, a);
+}
+
+size_t script_listing(const uint8_t *script, size_t length, int trust,
+                      char *out, size_t room)
+{
+    struct writer w = { .out = out, .room = room };
+    struct header h;
+    struct kernel k;
+    struct answer a;
+
+    if (!header_is_admitted(script, length, &h)) {
+        put_text(&w, "script refused\n");
+        return w.length;
+    }
+    kernel_fresh(&k, h.priority);
+    for (uint32_t record = 0; record < h.records; record++) {
+        const uint8_t *bytes = script + h.offset + RECORD_BYTES * record;
+
+        play_record(&k, bytes, trust, &a);
+        put_answer(&w, record + 1, &a);
+    }
+    return w.length;
+}

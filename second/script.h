@@ -1,0 +1,30 @@
+/*
+ * Scripts and listings.
+ *
+ * "A script is at most 65,536 bytes, of little-endian 32-bit numbers".
+ */
+#ifndef SCRIPT_H
+#define SCRIPT_H
+
+#include <stddef.h>
+#include <stdint.h>
+
+enum {
+    MOST_SCRIPT = 65536,
+    HEADER_BYTES = 16,
+    RECORD_BYTES = 28,
+    /* No line is longer: a record of 4 digits, a status of 2, four values of
+     * 11 signs, a running task of 7, 32 wakes of 12, spaces and newline. */
+    MOST_LINE = 456,
+    MOST_LISTING = (MOST_SCRIPT - HEADER_BYTES) / RECORD_BYTES * MOST_LINE
+};
+
+/*
+ * Plays the script and writes as much of its listing as there is room for.
+ * Gives the length of the whole listing. With trust the rules of a state are
+ * not tested before each step.
+ */
+size_t script_listing(const uint8_t *script, size_t length, int trust,
+                      char *out, size_t room);
+
+#endif
