@@ -1,2 +1,5 @@
-pub mod Marks
 pub mod Sizes
+pub mod Marks
+pub mod Overlaps
+pub mod Bytes
+pub mod Buffers

@@ -1,8 +1,11 @@
-// Areas of memory and the buffers in them, on numbers alone. (scope's specs/Areas.antt.)
+// Areas of memory and the buffers in them, on numbers alone (scope's specs/Areas.antt); then whether an area overlaps a live
+// pool's, and whether all pools are apart (specs/Pools.antt, specs/Rules.antt).
 ghost use mathlib.Core.Path.{_≡_};
-ghost use mathlib.Core.Bool.{Bool, true, false};
-ghost use Prim.Native.Nat.{ℕ, _+_, _-_, _^_, _<_, _≤_};
+ghost use mathlib.Core.Bool.{true, _&&_};
+ghost use Prim.Native.Nat.{_+_, _-_, _^_, _<_, _≤_};
 ghost use Rattle.scope.specs.Areas.{isArea, isSize, buffersOf, shareByte, isOut, isFree, lowestFree, freeOf, bufferAddress, bufferAt};
+ghost use Rattle.scope.specs.Pools.{overlapped};
+ghost use Rattle.scope.specs.Rules.{poolsApart};
 
 fn wide(x: u32) -> u64
     ensures { λ r. ⌜ r ≡ x ⌝ }
@@ -147,4 +150,64 @@ pub fn buffer_at(address: u32, size: u32, n: u32, x: u32) -> u32
         return 64;
     }
     64
+}
+
+// Whether the second area is a live pool's and shares a byte with the first.
+fn live_shares(live: bool, a1: u32, n1: u32, a2: u32, n2: u32) -> bool
+    ensures { λ r. ⌜ r ≡ (live && shareByte a1 n1 a2 n2) ⌝ }
+{
+    if live {
+        return share_byte(a1, n1, a2, n2);
+    }
+    false
+}
+
+// Whether both areas are live pools' and share a byte.
+fn pair_shares(live1: bool, live2: bool, a1: u32, n1: u32, a2: u32, n2: u32) -> bool
+    ensures { λ r. ⌜ r ≡ (live1 && (live2 && shareByte a1 n1 a2 n2)) ⌝ }
+{
+    if live1 {
+        return live_shares(live2, a1, n1, a2, n2);
+    }
+    false
+}
+
+// The lowest slot of a live pool whose area shares a byte with this one, 8 where there is none.
+pub fn overlapped(p: scope::Pools, address: u32, length: u32) -> usize
+    ensures { λ r. ⌜ r ≡ overlapped p address length ⌝ }
+{
+    let live = p.live;
+    let at = p.address;
+    let long = p.length;
+    let mut k: usize = 0;
+    while k < 8 {
+        if live_shares(live[k], address, length, at[k], long[k]) {
+            return k;
+        }
+        k += 1;
+    }
+    k
+}
+
+// "No two live pools share a byte, and the test stops at the first pair that does."
+pub fn pools_apart(p: scope::Pools) -> bool
+    ensures { λ r. ⌜ r ≡ poolsApart p ⌝ }
+{
+    let live = p.live;
+    let at = p.address;
+    let long = p.length;
+    let mut apart = true;
+    let mut i: usize = 0;
+    'pairs: while i < 8 {
+        let mut j: usize = i + 1;
+        while j < 8 {
+            if pair_shares(live[i], live[j], at[i], long[i], at[j], long[j]) {
+                apart = false;
+                break 'pairs;
+            }
+            j += 1;
+        }
+        i += 1;
+    }
+    apart
 }

@@ -1,12 +1,11 @@
 // The verbs of the queues: leave from anywhere, join behind a key, first, who runs, how many. Nobody else touches a seat.
 // A seat is queue × 64 + place; slot 32 is nobody. (scope's specs/Seats.antt.)
 ghost use mathlib.Core.Path.{_≡_};
-ghost use mathlib.Core.Bool.{Bool, true, false, _&&_};
-ghost use Prim.Native.Nat.{ℕ, _+_, _<_, _≤_};
-ghost use lib.ListN.{length, getD, set};
+ghost use mathlib.Core.Bool.{_&&_};
+ghost use Prim.Native.Nat.{ℕ, _<_};
 ghost use lib.Dec.{ltb};
 ghost use Rattle.scope.specs.Choice.{pick};
-ghost use Rattle.scope.specs.Seats.{lower, raise, leaves, joins, becomesReady, laterOf, aheadOf, onSeat, firstOf, standsIn, standing, greater, topOf, runnerOf, waitsOn, queueSeats, ringSeats, seatsEnd};
+ghost use Rattle.scope.specs.Seats.{lower, raise, leaves, joins, becomesReady, laterOf, aheadOf, onSeat, firstOf, standing, greater, topOf, runnerOf, waitsOn, queueSeats, seatsEnd};
 
 // A seat after seat `x` was left; `end` is the end of its queue's seats.
 fn lowered(y: u16, x: u16, end: u16) -> u16

@@ -1,3 +1,4 @@
+-- `buffer_address` meets its contract: 63 sizes and an address are far from wrapping a u64. Assumes nothing.
 use borrow.Author.Needs.{needs}
 use native.Mathlib.Omega.{arith}
 use Rattle.scope.specs.Areas.{bufferAddress}

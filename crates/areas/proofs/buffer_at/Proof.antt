@@ -1,3 +1,4 @@
+-- `buffer_at` meets its contract, a law of Sizes for each return. Assumes nothing.
 use borrow.Author.Needs.{needs}
 use borrow.Author.Tests.{lt-ltb, le-ltb}
 use mathlib.Core.Path.{refl}

@@ -1,3 +1,4 @@
+-- `free_of` meets its contract: `free` is the number of the free buffers passed. Assumes nothing.
 use mathlib.Core.Path.{_≡_, refl, _∙_}
 use mathlib.Core.Logic.{⊎-elim}
 use Prim.Native.Nat.{_-_, _≤_}

@@ -1,5 +1,5 @@
+-- `give_back` meets its contract: the bit is there, and is no more than the marks it is taken from. Assumes nothing.
 use borrow.Author.Needs.{needs}
-use Prim.Native.Nat.{_+_}
 use native.Mathlib.Nat.{one-mul}
 use Rattle.areas.proofs.Marks.{bit-fits, back-fits}
 use Rattle.areas.proofs.give_back.Statement.{statement}

@@ -1,3 +1,4 @@
+-- `is_area` meets its contract: where the length is 1 or more, the second test decides. Assumes nothing.
 use borrow.Author.Needs.{needs}
 use borrow.Author.Tests.{le-leb, lt-leb}
 use mathlib.Core.Path.{sym}

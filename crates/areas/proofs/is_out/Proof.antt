@@ -1,3 +1,4 @@
+-- `is_out` meets its contract: the shift is the division by a power of two. Assumes nothing.
 use borrow.Author.Needs.{needs}
 use mathlib.Core.Path.{refl}
 use Rattle.scope.specs.Areas.{isOut}

@@ -1,3 +1,4 @@
+-- `lowest_free` meets its contract: no buffer passed is free. Assumes nothing.
 use mathlib.Core.Path.{_≡_}
 use mathlib.Core.Bool.{false}
 use Prim.Native.Nat.{ℕ, _-_, _≤_, _<_}

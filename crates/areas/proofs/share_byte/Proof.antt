@@ -1,3 +1,4 @@
+-- `share_byte` meets its contract, a law of Sizes for each return, the ends being sums that do not wrap. Assumes nothing.
 use borrow.Author.Needs.{needs}
 use native.Mathlib.Omega.{arith}
 use Rattle.areas.proofs.Sizes.{share-one, share-none}

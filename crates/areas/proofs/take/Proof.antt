@@ -1,6 +1,6 @@
+-- `take` meets its contract: the bit is there, and the sum stays below 2 ^ 64 since the bit was clear. Assumes nothing.
 use borrow.Author.Needs.{needs, fits-under}
 use mir.Syntax.{w64}
-use Prim.Native.Nat.{_+_}
 use native.Mathlib.Nat.{one-mul}
 use Rattle.areas.proofs.Marks.{bit-fits, take-fits}
 use Rattle.areas.proofs.take.Statement.{statement}

@@ -1,0 +1,34 @@
+// Time_outs: which are in range, and what a tick leaves of one. (scope's specs/Semaphores.antt and Ticks.antt.)
+ghost use mathlib.Core.Path.{_≡_};
+ghost use mathlib.Core.Bool.{Bool, true, false};
+ghost use Rattle.scope.specs.Semaphores.{isTimeOut};
+ghost use Rattle.scope.specs.Ticks.{timeLeft};
+
+// "time_out is 1 to 65,535 ticks, or 4,294,967,295 for FOREVER"
+pub fn is_time_out(ticks: u32) -> bool
+    ensures { λ r. ⌜ r ≡ isTimeOut ticks ⌝ }
+{
+    if ticks == 4294967295 {
+        return true;
+    }
+    if 1 <= ticks {
+        return ticks <= 65535;
+    }
+    false
+}
+
+// What a tick leaves of a time_out. "Its time_out stands still while it is suspended."
+pub fn time_left(suspended: bool, left: u32) -> u32
+    ensures { λ r. ⌜ r ≡ timeLeft suspended left ⌝ }
+{
+    if suspended {
+        return left;
+    }
+    if left == 4294967295 {
+        return left;
+    }
+    if left == 0 {
+        return 0;
+    }
+    left - 1
+}
