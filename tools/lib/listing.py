@@ -1,0 +1,127 @@
+"""Listings as lines, checked against the script they belong to.
+
+"The whole listing (record, status, four values, running, wakes) ... Records
+count from 1; one space between fields, a newline after each line, no leading
+zeros; sem_info's count is signed; wakes are `task:status` in order."
+"""
+
+import re
+from collections import namedtuple
+
+from lib import script as scripts
+from lib import tables
+from lib.files import Trouble, trouble_at
+
+Answer = namedtuple("Answer", "status values running wakes")
+Wake = namedtuple("Wake", "task status")
+
+REFUSED = "script refused"
+FORM = "record, status, four values, running, then task:status wakes"
+NUMBER = re.compile(r"(0|-?[1-9][0-9]{0,9})\Z")
+WAKE = re.compile(r"([1-9][0-9]{0,9}):(0|[1-9][0-9]{0,9})\Z")
+FIGURES = 7
+
+
+def fitted(data, name, script, script_name):
+    """The records of the script and the answers of its listing.
+
+    A refused script has the line `script refused` and gives None.
+    """
+    why = scripts.refusal(script)
+    lines = lines_of(data, name)
+    if why is not None:
+        if lines != [REFUSED]:
+            raise trouble_at(name, 1, "expected the one line `%s`, for %s is "
+                             "refused: %s" % (REFUSED, script_name, why))
+        return None
+    if lines == [REFUSED]:
+        raise trouble_at(name, 1, "found `%s`, but %s is a good script of %s"
+                         % (REFUSED, script_name, header_words(script)))
+    records = scripts.taken_apart(script).records
+    answers = [answer_of(line, number, record, name) for number, (line, record)
+               in enumerate(zip(lines, records), 1)]
+    if len(lines) != len(records):
+        raise Trouble(miscounted(name, lines, script_name, records))
+    return records, answers
+
+
+def header_words(script):
+    return "%d records" % scripts.taken_apart(script).header.count
+
+
+def miscounted(name, lines, script_name, records):
+    what = "%s:%d: " % (name, min(len(lines), len(records)) + 1)
+    if len(lines) < len(records):
+        what += "expected a line for record %d" % (len(lines) + 1)
+    else:
+        what += "expected the end of the listing"
+    return what + (": %s has %d records, the listing %d lines"
+                   % (script_name, len(records), len(lines)))
+
+
+def lines_of(data, name):
+    """The lines of a listing, each with its newline taken off."""
+    try:
+        text = data.decode("ascii")
+    except UnicodeDecodeError as error:
+        line = data.count(b"\n", 0, error.start) + 1
+        raise trouble_at(name, line, "expected figures, found the byte 0x%02x"
+                         % data[error.start])
+    lines = text.split("\n")
+    if lines.pop() != "":
+        raise trouble_at(name, len(lines) + 1,
+                         "expected a newline at the end of the last line")
+    return lines
+
+
+def answer_of(line, number, record, name):
+    parts = line.split(" ")
+    if len(parts) < FIGURES:
+        raise trouble_at(name, number, "expected %s; found `%s`"
+                         % (FORM, line))
+    figures = [figure_of(part, number, name) for part in parts[:FIGURES]]
+    wakes = [wake_of(part, number, name) for part in parts[FIGURES:]]
+    answer = Answer(figures[1], tuple(figures[2:6]), figures[6], wakes)
+    if figures[0] != number:
+        raise trouble_at(name, number, "expected record %d, found record %d"
+                         % (number, figures[0]))
+    wrong = fault_of(answer, record)
+    if wrong:
+        raise trouble_at(name, number, wrong)
+    return answer
+
+
+def figure_of(part, number, name):
+    if not NUMBER.match(part):
+        raise trouble_at(name, number, "expected a number without leading "
+                         "zeros, found `%s`" % part)
+    return int(part)
+
+
+def wake_of(part, number, name):
+    found = WAKE.match(part)
+    if not found:
+        raise trouble_at(name, number, "expected a wake as task:status, "
+                         "found `%s`" % part)
+    return Wake(int(found.group(1)), int(found.group(2)))
+
+
+def fault_of(answer, record):
+    """What no answer to this record can hold, or None."""
+    for status in [answer.status] + [wake.status for wake in answer.wakes]:
+        if not 0 <= status < len(tables.STATUSES):
+            return "expected a status of the table, found %d" % status
+    if tables.is_refusal(answer.status):
+        if any(answer.values) or answer.wakes:
+            return ("expected zero values and no wakes with a refusal (%s)"
+                    % tables.STATUSES[answer.status].name)
+    call = tables.call_of(record.call)
+    fields = call.values if call else ()
+    for place, value in enumerate(answer.values):
+        kind = fields[place].kind if place < len(fields) else None
+        if value < 0 and kind != "count":
+            return "expected value %d not negative, found %d" % (
+                place + 1, value)
+    if answer.running < 0:
+        return "expected a running task or 0, found %d" % answer.running
+    return None

@@ -1,0 +1,290 @@
+"""What happened in a run, from the script's calls and the listing's answers.
+
+Nothing is decided here: a call changes what the answer says it changed. Where
+the answers contradict one another (a task runs that waits, sem_info counts
+otherwise) the run keeps a doubt for its reader and goes on.
+"""
+
+from collections import namedtuple
+
+from lib import tables
+
+# What a row of the picture shows of an object between two records.
+TaskView = namedtuple("TaskView", "identifier state waits_on suspended "
+                                  "priority")
+SemaphoreView = namedtuple("SemaphoreView", "identifier count")
+PoolView = namedtuple("PoolView", "identifier out buffers")
+
+# A view that holds after records first to last; 0 is before the first.
+Span = namedtuple("Span", "first last view")
+Event = namedtuple("Event", "number record answer caller wakes tick")
+Doubt = namedtuple("Doubt", "number words")
+
+RUNNING, READY, WAITING = "running", "ready", "waiting"
+SUSPENDED, NOT_STARTED = "suspended", "not started"
+
+
+class Task:
+    def __init__(self, identifier, name, priority):
+        self.identifier, self.name, self.priority = identifier, name, priority
+        self.started = self.suspended = False
+        self.waits_on = None         # (kind, identifier)
+
+    def view(self, running):
+        if self.identifier == running:
+            state = RUNNING
+        elif not self.started:
+            state = NOT_STARTED
+        elif self.waits_on:
+            state = WAITING
+        else:
+            state = SUSPENDED if self.suspended else READY
+        return TaskView(self.identifier, state, self.waits_on,
+                        self.suspended, self.priority)
+
+
+class Semaphore:
+    def __init__(self, identifier, name, count):
+        self.identifier, self.name, self.count = identifier, name, count
+
+    def view(self, _running):
+        return SemaphoreView(self.identifier, self.count)
+
+
+class Pool:
+    def __init__(self, identifier, name, buffers):
+        self.identifier, self.name, self.buffers = identifier, name, buffers
+        self.out = 0
+
+    def view(self, _running):
+        return PoolView(self.identifier, self.out, self.buffers)
+
+
+class State:
+    """The live objects as the answers tell of them."""
+
+    def __init__(self, priority):
+        self.objects = {kind: {} for kind in tables.TABLES}
+        self.running = tables.FIRST_TASK
+        self.names = {}
+        first = Task(tables.FIRST_TASK, 0, priority)
+        first.started = True
+        self.add("task", first)
+
+    def find(self, kind, identifier):
+        if kind == "task" and identifier == tables.SELF:
+            identifier = self.running
+        return self.objects[kind].get(identifier)
+
+    def add(self, kind, thing):
+        self.objects[kind][thing.identifier] = thing
+        self.names[kind, thing.identifier] = thing.name
+
+    def end(self, kind, thing):
+        del self.objects[kind][thing.identifier]
+
+    def give_back(self, task):
+        """A waiter that leaves ungranted "gives its one back"."""
+        where = self.find(*task.waits_on) if task.waits_on else None
+        if isinstance(where, Semaphore):
+            where.count += 1
+
+    def wake(self, task, status):
+        if status == tables.TIMED_OUT:
+            self.give_back(task)
+        task.waits_on = None
+
+
+# One function for each call that changes something: the state, the object of
+# the first argument (None for creates and ticks), the record, the answer.
+
+def task_create(state, _thing, record, answer):
+    state.add("task", Task(answer.values[0], *record.arguments[:2]))
+
+
+def task_delete(state, task, _record, _answer):
+    state.give_back(task)
+    state.end("task", task)
+
+
+def task_start(_state, task, _record, _answer):
+    task.started = True
+
+
+def task_suspend(_state, task, _record, _answer):
+    task.suspended = True
+
+
+def task_resume(_state, task, _record, _answer):
+    task.suspended = False
+
+
+def task_set_priority(_state, task, record, _answer):
+    task.priority = record.arguments[1]
+
+
+def sem_create(state, _thing, record, answer):
+    state.add("semaphore", Semaphore(answer.values[0], *record.arguments[:2]))
+
+
+def sem_delete(state, semaphore, _record, _answer):
+    state.end("semaphore", semaphore)
+
+
+def sem_claim(state, semaphore, _record, answer):
+    semaphore.count -= 1
+    caller = state.find("task", tables.SELF)
+    if answer.status == tables.PENDING and caller:
+        caller.waits_on = ("semaphore", semaphore.identifier)
+
+
+def sem_release(_state, semaphore, _record, _answer):
+    semaphore.count += 1
+
+
+def sem_info(_state, semaphore, _record, answer):
+    if answer.values[1] != semaphore.count:
+        return ("sem_info answers count %d where the calls before make %d"
+                % (answer.values[1], semaphore.count))
+
+
+def pool_create(state, _thing, record, answer):
+    _, _, length, size, _ = record.arguments
+    buffers = length // size if size else 0
+    state.add("pool", Pool(answer.values[0], record.arguments[0], buffers))
+
+
+def pool_delete(state, pool, _record, _answer):
+    state.end("pool", pool)
+
+
+def pool_get_buff(_state, pool, _record, _answer):
+    pool.out += 1
+
+
+def pool_ret_buff(_state, pool, _record, _answer):
+    pool.out -= 1
+
+
+def pool_info(_state, pool, _record, answer):
+    if answer.values[1] != pool.buffers - pool.out:
+        return ("pool_info answers %d free where the calls before leave %d"
+                % (answer.values[1], pool.buffers - pool.out))
+
+
+EFFECTS = {effect.__name__: effect for effect in (
+    task_create, task_delete, task_start, task_suspend, task_resume,
+    task_set_priority, sem_create, sem_delete, sem_claim, sem_release,
+    sem_info, pool_create, pool_delete, pool_get_buff, pool_ret_buff,
+    pool_info)}
+
+
+def change(state, record, answer):
+    """Takes one answer in; gives a doubt in words, or None."""
+    call = tables.call_of(record.call)
+    if call is None:
+        return "an unknown call was answered %s" % (
+            tables.STATUSES[answer.status].name)
+    effect = EFFECTS.get(call.name)
+    if effect is None:
+        return None
+    thing = None
+    if not call.makes:
+        kind = call.arguments[0].kind
+        thing = state.find(kind, record.arguments[0])
+        if thing is None:
+            return "%s was answered %s, but no %s %d is known" % (
+                call.name, tables.STATUSES[answer.status].name, kind,
+                record.arguments[0])
+    return effect(state, thing, record, answer)
+
+
+def woken(state, answer):
+    """Takes the wake list in; gives the doubts in words."""
+    for wake in answer.wakes:
+        task = state.find("task", wake.task)
+        if task is None or task.waits_on is None:
+            yield "task %d is woken, but does not wait" % wake.task
+        if task:
+            state.wake(task, wake.status)
+
+
+def run_doubt(state):
+    """Whether the task said to run can, as far as the answers tell."""
+    if state.running == 0:
+        return None
+    task = state.objects["task"].get(state.running)
+    if task is None:
+        return "task %d runs, but no such task is known" % state.running
+    if not task.started or task.suspended or task.waits_on:
+        return "task %d runs, but is %s" % (
+            task.identifier, task.view(None).state)
+    return None
+
+
+class Run:
+    """Spans for each slot of each table, events, and doubts."""
+
+    def __init__(self, records, answers, priority):
+        self.priority, self.last = priority, len(records)
+        self.spans = {kind: {} for kind in tables.TABLES}
+        self.events, self.doubts = [], []
+        self.idle = []               # spans in which nothing runs
+        self.ticks = 0
+        self.open = {}
+        state = State(priority)
+        self.names = state.names     # (kind, identifier) to name
+        self.look(0, state)
+        for number, (record, answer) in enumerate(zip(records, answers), 1):
+            before = state.running
+            self.take(number, state, record, answer)
+            if before != state.running or not tables.is_refusal(answer.status):
+                self.look(number, state)
+        self.close_all()
+
+    def take(self, number, state, record, answer):
+        caller = state.running if record.mark == tables.BY_TASK else None
+        doubts = []
+        if not tables.is_refusal(answer.status):
+            doubts.append(change(state, record, answer))
+            doubts += woken(state, answer)
+        state.running = answer.running
+        doubts.append(run_doubt(state))
+        self.doubts += [Doubt(number, words) for words in doubts if words]
+        tick = None
+        if record.call == tables.NUMBER_OF["tick"] and answer.status == 0:
+            self.ticks += 1
+            tick = self.ticks
+        self.events.append(Event(number, record, answer, caller,
+                                 answer.wakes, tick))
+
+    def look(self, number, state):
+        """Notes what each slot shows after this record."""
+        seen = {("idle", 0): True} if state.running == 0 else {}
+        for kind, objects in state.objects.items():
+            for thing in objects.values():
+                slot = tables.slot_of(thing.identifier)
+                seen[kind, slot] = thing.view(state.running)
+        for place in [place for place, (_, view) in self.open.items()
+                      if seen.get(place) != view]:
+            self.close(place, number)
+        for place, view in seen.items():
+            if place not in self.open:
+                self.open[place] = (number, view)
+
+    def close(self, place, number):
+        if place not in self.open:
+            return
+        first, view = self.open.pop(place)
+        kind, slot = place
+        spans = (self.idle if kind == "idle"
+                 else self.spans[kind].setdefault(slot, []))
+        spans.append(Span(first, number - 1, view))
+
+    def close_all(self):
+        for place in list(self.open):
+            self.close(place, self.last + 1)
+
+    def refusals(self):
+        return [event for event in self.events
+                if tables.is_refusal(event.answer.status)]

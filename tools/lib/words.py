@@ -1,0 +1,99 @@
+"""A script with its listing, told in words: a line a record."""
+
+from collections import namedtuple
+
+from lib import tables
+from lib.text import bare_words
+
+# A piece of a line and how it is to look; plain outputs drop the look.
+Piece = namedtuple("Piece", "text look")
+
+LOOKS = {"plain": "", "dim": "2", "bold": "1", "good": "32", "wait": "33",
+         "bad": "31;1", "call": "36", "now": "1;34"}
+WIDEST_CALL = 64
+
+
+def painted(pieces, colour):
+    if not colour:
+        return "".join(piece.text for piece in pieces)
+    return "".join(
+        "\033[%sm%s\033[0m" % (LOOKS[piece.look], piece.text)
+        if LOOKS[piece.look] else piece.text for piece in pieces)
+
+
+def caller_words(mark, running):
+    """Who makes the call: the mark says, and for mark 0 who ran before."""
+    if mark == tables.BY_INTERRUPT:
+        return "interrupt"
+    if mark != tables.BY_TASK:
+        return "mark %d" % mark
+    return "task %d" % running if running else "nobody"
+
+
+def value_words(call, values):
+    """The values by their meaning; one without meaning is shown as odd."""
+    fields = call.values if call else ()
+    words = []
+    for place, value in enumerate(values):
+        if place < len(fields):
+            words.append(one_value(fields[place], value))
+        elif value != 0:
+            words.append("value %d without a meaning: %d" % (place + 1, value))
+    return ", ".join(words)
+
+
+def one_value(field, value):
+    if field.kind in tables.TABLES:
+        return "%s %d" % (field.kind, value)
+    return "%s %s" % (field.name.replace("_", " "),
+                      tables.word_of(field.kind, value))
+
+
+def status_pieces(record, answer, caller):
+    status = tables.STATUSES[answer.status]
+    if tables.is_refusal(answer.status):
+        return [Piece(status.name, "bad"),
+                Piece(" (%s)" % status.when, "dim")]
+    if answer.status == tables.PENDING:
+        return [Piece(status.name, "wait"), Piece(", %s waits" % caller,
+                                                  "plain")]
+    values = value_words(tables.call_of(record.call), answer.values)
+    return [Piece(status.name, "good"),
+            Piece(", " + values if values else "", "plain")]
+
+
+def wake_pieces(answer):
+    pieces = []
+    for wake in answer.wakes:
+        look = "good" if wake.status == tables.GRANTED else "wait"
+        pieces += [Piece("; wakes task %d with " % wake.task, "plain"),
+                   Piece(tables.STATUSES[wake.status].name, look)]
+    return pieces
+
+
+def running_piece(answer, before):
+    who = "task %d runs" % answer.running if answer.running else "nothing runs"
+    if answer.running == before:
+        return Piece("; %s on" % who if answer.running else "; " + who, "dim")
+    return Piece("; now %s" % who, "now")
+
+
+def story(records, answers):
+    """The pieces of each line, calls set in a column of their own."""
+    calls = [bare_words(record) for record in records]
+    callers, running = [], tables.FIRST_TASK
+    for record, answer in zip(records, answers):
+        callers.append((caller_words(record.mark, running), running))
+        running = answer.running
+    wide = max([10] + [len(who) for who, _ in callers])
+    wider = min(WIDEST_CALL, max([4] + [len(call) for call in calls]))
+    yield [Piece("record  %-*s  %-*s  answer" % (wide, "caller", wider,
+                                                 "call"), "dim")]
+    for number, record in enumerate(records):
+        who, before = callers[number]
+        answer = answers[number]
+        yield [Piece("%6d  " % (number + 1), "dim"),
+               Piece("%-*s  " % (wide, who), "plain"),
+               Piece("%-*s  " % (wider, calls[number]), "call"),
+               *status_pieces(record, answer, who), *wake_pieces(answer),
+               running_piece(answer, before)]
