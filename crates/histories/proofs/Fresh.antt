@@ -1,0 +1,61 @@
+-- A fresh state is sound, whatever priority it is asked with: the test passes for each of 0 to 15, by computing.
+-- Assumes nothing.
+use Prim.Native.Nat.{ℕ, _≤_}
+use native.Mathlib.Omega.{arith}
+use mathlib.Core.Path.{_≡_, refl}
+use mathlib.Core.Bool.{true}
+use lib.Dec.{ltb}
+use borrow.Author.Tests.{ltb-false}
+use Rattle.scope.specs.declared.Fresh.{Fresh}
+use Rattle.scope.specs.Choice.{pick, least, every, number}
+use Rattle.scope.specs.Seats.{waitsOn, onSeat, standsIn, standing, greater, topOf, runnerOf}
+use Rattle.scope.specs.Views.{readyWith}
+use Rattle.scope.specs.Areas.{isArea, isSize, buffersOf, shareByte}
+use Rattle.scope.specs.Semaphores.{isTimeOut}
+use Rattle.scope.specs.Rules.{seatRight, seatsRight, readyRight, readyOrderRight, waitRight, waitsRight, joinedRight, queuesSorted, countRight, countsRight, startRight, startsRight, taskRight, tasksRight, semRight, semsRight, admitted, poolRight, poolsRight, pairShares, poolsApart, runningRight, sound}
+use Rattle.scope.specs.Fresh.{freshState, fresh}
+use Rattle.laws.proofs.Searches.{every-at}
+use Rattle.histories.specs.Sound.{Sized, Sound}
+use Rattle.histories.proofs.Refused.{by-choice}
+use Rattle.histories.proofs.Meaning.{sound-says}
+
+fresh-passes : every (λ p. sound (freshState p)) 16 ≡ true
+unfolding pick least every number waitsOn onSeat standsIn standing greater topOf runnerOf readyWith isArea isSize buffersOf shareByte isTimeOut seatRight seatsRight readyRight readyOrderRight waitRight waitsRight joinedRight queuesSorted countRight countsRight startRight startsRight taskRight tasksRight semRight semsRight admitted poolRight poolsRight pairShares poolsApart runningRight sound freshState
+fresh-passes = refl
+
+fresh-sized : (p : ℕ) → Sized (freshState p)
+unfolding freshState
+fresh-sized p =
+    record {
+      left = refl;
+      seat = refl;
+      joined = refl;
+      tname = refl;
+      tserial = refl;
+      tlive = refl;
+      started = refl;
+      suspended = refl;
+      priority = refl;
+      sname = refl;
+      sserial = refl;
+      units = refl;
+      slive = refl;
+      fifo = refl;
+      out = refl;
+      pname = refl;
+      address = refl;
+      length = refl;
+      size = refl;
+      pserial = refl;
+      plive = refl;
+      forced = refl;
+    }
+
+pub fresh-sound : (p : ℕ) → p ≤ 15 → Sound (freshState p)
+fresh-sound p h = sound-says (freshState p) (fresh-sized p) (every-at (λ k. sound (freshState k)) 16 fresh-passes p (omega arith))
+
+-- "Asked with a priority above 15, the answer is 19 and the fresh state of priority 0."
+pub fresh-always : (p : ℕ) → Sound (fresh p .state)
+unfolding fresh
+fresh-always p =
+    by-choice (λ (f : Fresh). Sound (f .state)) (ltb 15 p) (λ e. fresh-sound 0 (omega arith)) (λ e. fresh-sound p (ltb-false 15 p e))

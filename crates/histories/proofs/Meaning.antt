@@ -1,0 +1,543 @@
+-- A state passes the test `sound` just if it is sound as Sound.antt has it: each rule's test, at each slot, by its choices.
+-- Assumes nothing.
+use Prim.Native.Nat.{ℕ, _+_, _-_, _%_, _≤_, _<_}
+use native.Mathlib.Omega.{arith}
+use mathlib.Core.Path.{_≡_, refl, sym, ap, _∙_}
+use mathlib.Core.Logic.{_⊎_, inl, inr, ⊎-elim}
+use mathlib.Core.Bool.{Bool, true, false, not, _&&_}
+use mathlib.Core.List.{List}
+use lib.ListN.{length, getD}
+use lib.Dec.{ltb, leb, eqb}
+use borrow.Author.Tests.{lt-ltb, le-ltb, le-leb, eq-eqb, ltb-true, leb-true, eqb-true, not-true}
+use Rattle.scope.specs.declared.State.{State}
+use Rattle.scope.specs.declared.Line.{Line}
+use Rattle.scope.specs.declared.Tasks.{Tasks}
+use Rattle.scope.specs.declared.Semaphores.{Semaphores}
+use Rattle.scope.specs.Choice.{pick}
+use Rattle.scope.specs.Seats.{queueSeats, ringSeats, waitsOn, queueOf, onSeat, standing}
+use Rattle.scope.specs.Views.{readyWith}
+use Rattle.scope.specs.Semaphores.{isTimeOut}
+use Rattle.scope.specs.Rules.{seatsRight, readyRight, readyOrderRight, waitRight, waitsRight, joinedRight, queuesSorted, countRight, countsRight, startRight, startsRight, taskRight, tasksRight, semRight, semsRight, poolRight, poolsRight, poolsApart, runningRight, sound}
+use Rattle.laws.proofs.Branches.{picked-yes, picked-no, both, both-true, first-fails, second-fails, not-of-true, not-of-false, true-false, true-or-false, lt-or-le}
+use Rattle.laws.proofs.Searches.{every-yes, every-at}
+use Rattle.laws.proofs.Arrays.{past, inside}
+use Rattle.seats.specs.Rule.{In, Sorted, Queues}
+use Rattle.seats.proofs.Rule.{queues-from-rule, rule-from-queues}
+use Rattle.seats.proofs.Sorting.{steps-from-sorted, sorted-from-steps}
+use Rattle.histories.specs.Sound.{Stands, LineSound, TaskSound, TasksSound, SemSound, SemsSound, PoolsSound, Sound, Sized}
+use Rattle.histories.proofs.Refused.{by-choice}
+
+-- a test that is a choice of tests
+chosen-yes : (b x y : Bool) → pick b x y ≡ true → b ≡ true → x ≡ true
+chosen-yes b x y e h = sym (picked-yes b x y h) ∙ e
+
+chosen-no : (b x y : Bool) → pick b x y ≡ true → b ≡ false → y ≡ true
+chosen-no b x y e h = sym (picked-no b x y h) ∙ e
+
+choose : (b : Bool) {x y : Bool} → (b ≡ true → x ≡ true) → (b ≡ false → y ≡ true) → pick b x y ≡ true
+choose b f g = by-choice (λ (v : Bool). v ≡ true) b f g
+
+-- a seat that one waits on
+waits-is : (x : ℕ) → 0 < x → x < 2048 → waitsOn x ≡ true
+unfolding waitsOn
+waits-is x h l = both _ _ (lt-ltb _ _ h) (lt-ltb _ _ l)
+
+waits-not : (x : ℕ) → (x ≡ 0) ⊎ (2048 ≤ x) → waitsOn x ≡ false
+unfolding waitsOn
+waits-not x h =
+    ⊎-elim (λ e. first-fails _ (ltb x 2048) (le-ltb 0 x (omega arith))) (λ l. second-fails (ltb 0 x) _ (le-ltb x 2048 l)) h
+
+waits-says : (x : ℕ) → waitsOn x ≡ true → (0 < x) × (x < 2048)
+unfolding waitsOn
+waits-says x e = let b = both-true (ltb 0 x) (ltb x 2048) e in (ltb-true _ _ (b .0), ltb-true _ _ (b .1))
+
+idles-says : (x : ℕ) → waitsOn x ≡ false → (x ≡ 0) ⊎ (2048 ≤ x)
+idles-says x e =
+    ⊎-elim
+    (λ h. ⊎-elim (λ l. absurd (true-false (waits-is x h l) e)) inr (lt-or-le x 2048))
+    (λ h. inl (omega arith))
+    (lt-or-le 0 x)
+
+-- what the rules ask of a task on seat x, who waits or does not
+module _ (live : List Bool) (x left joined : ℕ) where
+  wait-says : waitRight live x left joined ≡ true → waitsOn x ≡ true
+      → (64 ≤ x) × (getD live (queueOf x) false ≡ true) × (isTimeOut left ≡ true) × (joined ≤ 15)
+  unfolding waitRight
+  wait-says e w =
+      let a = both-true (leb 64 x) _ (chosen-yes (waitsOn x) _ _ e w) in
+      let b = both-true (getD live (queueOf x) false) _ (a .1) in
+      let c = both-true (isTimeOut left) _ (b .1) in
+      (leb-true _ _ (a .0), b .0, c .0, leb-true _ _ (c .1))
+
+  rest-says : waitRight live x left joined ≡ true → waitsOn x ≡ false → (left ≡ 0) × (joined ≡ 0)
+  unfolding waitRight
+  rest-says e w =
+      let a = both-true (eqb left 0) _ (chosen-no (waitsOn x) _ _ e w) in
+      (eqb-true _ _ (a .0), eqb-true _ _ (a .1))
+
+  wait-right : waitsOn x ≡ true → 64 ≤ x → getD live (queueOf x) false ≡ true → isTimeOut left ≡ true → joined ≤ 15
+      → waitRight live x left joined ≡ true
+  unfolding waitRight
+  wait-right w a b c d = picked-yes (waitsOn x) _ _ w ∙ both _ _ (le-leb _ _ a) (both _ _ b (both _ _ c (le-leb _ _ d)))
+
+  rest-right : waitsOn x ≡ false → left ≡ 0 → joined ≡ 0 → waitRight live x left joined ≡ true
+  unfolding waitRight
+  rest-right w a b = picked-no (waitsOn x) _ _ w ∙ both _ _ (eq-eqb _ _ a) (eq-eqb _ _ b)
+
+-- and of one who is ready or idle
+module _ (started suspended : Bool) (x : ℕ) where
+  -- it is started and not suspended
+  abbrev Runnable : Type 0
+  Runnable = (started ≡ true) × (suspended ≡ false)
+
+  runnable-or-not : Runnable ⊎ ((started ≡ false) ⊎ (suspended ≡ true))
+  runnable-or-not =
+      ⊎-elim (λ a. ⊎-elim (λ b. inr (inr b)) (λ b. inl (a, b)) (true-or-false suspended)) (λ a. inr (inl a)) (true-or-false started)
+
+  ready-with : Runnable → waitsOn x ≡ false → readyWith started suspended x ≡ true
+  unfolding readyWith
+  ready-with r w = both _ _ (r .0) (both _ _ (not-of-false _ (r .1)) (not-of-false _ w))
+
+  idle-with : (started ≡ false) ⊎ (suspended ≡ true) → readyWith started suspended x ≡ false
+  unfolding readyWith
+  idle-with h =
+      ⊎-elim (λ a. first-fails started _ a) (λ b. second-fails started _ (first-fails (not suspended) _ (not-of-true _ b))) h
+
+  waits-with : waitsOn x ≡ true → readyWith started suspended x ≡ false
+  unfolding readyWith
+  waits-with w = second-fails started _ (second-fails (not suspended) _ (not-of-true _ w))
+
+  start-says : startRight started suspended x ≡ true → started ≡ false → (waitsOn x ≡ false) × (suspended ≡ false)
+  unfolding startRight
+  start-says e h =
+      let b = both-true (not (waitsOn x)) _ (chosen-no started _ _ e h) in
+      (not-true _ (b .0), not-true _ (b .1))
+
+  start-right : (started ≡ false → (waitsOn x ≡ false) × (suspended ≡ false)) → startRight started suspended x ≡ true
+  unfolding startRight
+  start-right f = choose started (λ a. refl) (λ a. both _ _ (not-of-false _ (f a .0)) (not-of-false _ (f a .1)))
+
+  waits-started : startRight started suspended x ≡ true → waitsOn x ≡ true → started ≡ true
+  waits-started e w =
+      ⊎-elim (λ a. a) (λ a. absurd (true-false w (start-says e a .0))) (true-or-false started)
+
+  module _ (priority : ℕ) where
+    ready-says : readyRight started suspended priority x ≡ true → readyWith started suspended x ≡ true
+        → (ringSeats priority < x) × (x < ringSeats priority + 63)
+    unfolding readyRight
+    ready-says e r =
+        let b = both-true (ltb (ringSeats priority) x) _ (chosen-yes (readyWith started suspended x) _ _ e r) in
+        (ltb-true _ _ (b .0), ltb-true _ _ (b .1))
+
+    idle-says : readyRight started suspended priority x ≡ true → readyWith started suspended x ≡ false → x < 2048
+    unfolding readyRight
+    idle-says e r = ltb-true _ _ (chosen-no (readyWith started suspended x) _ _ e r)
+
+    ready-right : readyWith started suspended x ≡ true → (ringSeats priority < x) × (x < ringSeats priority + 63)
+        → readyRight started suspended priority x ≡ true
+    unfolding readyRight
+    ready-right r h = picked-yes (readyWith started suspended x) _ _ r ∙ both _ _ (lt-ltb _ _ (h .0)) (lt-ltb _ _ (h .1))
+
+    idle-right : readyWith started suspended x ≡ false → x < 2048 → readyRight started suspended priority x ≡ true
+    unfolding readyRight
+    idle-right r h = picked-no (readyWith started suspended x) _ _ r ∙ lt-ltb _ _ h
+
+-- where a task stands, from the rules at it
+module _ (l : Line) (k : Tasks) (m : Semaphores) (t : ℕ) where
+  abbrev seat : ℕ
+  seat = getD (l .seat) t 0
+
+  abbrev isStarted : Bool
+  isStarted = getD (k .started) t false
+
+  abbrev isSuspended : Bool
+  isSuspended = getD (k .suspended) t false
+
+  abbrev ReadyRight : Type 0
+  ReadyRight = readyRight isStarted isSuspended (getD (k .priority) t 0) seat ≡ true
+
+  abbrev WaitRight : Type 0
+  WaitRight = waitRight (m .live) seat (getD (l .left) t 0) (getD (l .joined) t 0) ≡ true
+
+  abbrev StartRight : Type 0
+  StartRight = startRight isStarted isSuspended seat ≡ true
+
+  stands-says : length (m .live) ≡ 16 → (seat ≡ 0) ⊎ ((0 < seat % 64) × (seat % 64 < 63)) → ReadyRight → WaitRight → StartRight → Stands l k m t
+  stands-says lives places ready wait start = ⊎-elim waiting resting (true-or-false (waitsOn seat))
+    where
+      waiting : waitsOn seat ≡ true → Stands l k m t
+      waiting w =
+          let h : (0 < seat) × (seat < 2048) = waits-says seat w in
+          let r = wait-says (m .live) seat (getD (l .left) t 0) (getD (l .joined) t 0) wait w in
+          let i : ℕ = queueOf seat in
+          let p : (0 < seat % 64) × (seat % 64 < 63) = ⊎-elim (λ z. absurd (omega arith)) (λ z. z) places in
+          inr (inl (record {
+            on = i;
+            within = ⊎-elim (λ b. b) (λ b. absurd (true-false (r .1) (sym (past 16 (m .live) i false lives b)))) (lt-or-le i 16);
+            alive = r .1;
+            stands = (omega (arith, r .0, p), omega (arith, r .0, p));
+            started = waits-started isStarted isSuspended seat start w;
+            time = r .2;
+            joined = r .3;
+          }))
+
+      resting : waitsOn seat ≡ false → Stands l k m t
+      resting w =
+          let r = rest-says (m .live) seat (getD (l .left) t 0) (getD (l .joined) t 0) wait w in
+          ⊎-elim
+          (λ a. inr (inr (record {
+            stands = ready-says isStarted isSuspended seat _ ready (ready-with isStarted isSuspended seat a w);
+            started = a .0;
+            awake = a .1;
+            left = r .0;
+            joined = r .1;
+          })))
+          (λ a. let low : seat < 2048 = idle-says isStarted isSuspended seat _ ready (idle-with isStarted isSuspended seat a) in
+          inl (record {
+            seat = ⊎-elim (λ z. z) (λ z. absurd (omega arith)) (idles-says seat w);
+            left = r .0;
+            joined = r .1;
+            idle = a;
+          }))
+          (runnable-or-not isStarted isSuspended seat)
+
+  -- and back: the rules at it, from where it stands
+  stands-ready : Stands l k m t → ReadyRight
+  stands-ready h =
+      ⊎-elim
+      (λ n. idle-right isStarted isSuspended seat _ (idle-with isStarted isSuspended seat (n .idle)) (omega (arith, n .seat)))
+      (λ h. ⊎-elim
+      (λ w. let s : In (l .seat) (queueSeats (w .on)) t = w .stands in
+      let b : w .on < 16 = w .within in
+      idle-right isStarted isSuspended seat _ (waits-with isStarted isSuspended seat (waits-is seat (omega arith) (omega arith)))
+      (omega arith))
+      (λ r. let s : In (l .seat) (ringSeats (getD (k .priority) t 0)) t = r .stands in
+      ready-right isStarted isSuspended seat _
+      (ready-with isStarted isSuspended seat (r .started, r .awake) (waits-not seat (inr (omega arith))))
+      s)
+      h)
+      h
+
+  stands-wait : Stands l k m t → WaitRight
+  stands-wait h =
+      ⊎-elim
+      (λ n. rest-right (m .live) seat _ _ (waits-not seat (inl (n .seat))) (n .left) (n .joined))
+      (λ h. ⊎-elim
+      (λ w. let s : In (l .seat) (queueSeats (w .on)) t = w .stands in
+      let b : w .on < 16 = w .within in
+      let d : queueOf seat ≡ w .on = omega arith in
+      wait-right (m .live) seat _ _ (waits-is seat (omega arith) (omega arith)) (omega arith)
+      (ap (λ (i : ℕ). getD (m .live) i false) d ∙ w .alive)
+      (w .time)
+      (w .joined))
+      (λ r. let s : In (l .seat) (ringSeats (getD (k .priority) t 0)) t = r .stands in
+      rest-right (m .live) seat _ _ (waits-not seat (inr (omega arith))) (r .left) (r .joined))
+      h)
+      h
+
+  stands-start : (isStarted ≡ false → isSuspended ≡ false) → Stands l k m t → StartRight
+  stands-start f h =
+      start-right isStarted isSuspended seat
+      (λ a. (
+        ⊎-elim (λ n. waits-not seat (inl (n .seat)))
+            (λ h. ⊎-elim (λ w. absurd (true-false (w .started) a)) (λ r. absurd (true-false (r .started) a)) h)
+            h,
+        f a,
+      ))
+
+-- a queue by joining priority: a test of each task says it of each pair
+module _ (l : Line) (k : Tasks) (m : Semaphores) (queues : Queues (l .seat)) where
+  joined-says : (i t : ℕ) → i < 16 → getD (m .fifo) i false ≡ false → In (l .seat) (queueSeats i) t → queueSeats i + 1 < getD (l .seat) t 0
+      → joinedRight (l .seat) (l .joined) (m .fifo) (getD (l .seat) t 0) (getD (l .joined) t 0) ≡ true
+      → getD (l .joined) t 0 ≤ getD (l .joined) (onSeat (l .seat) (getD (l .seat) t 0 - 1)) 0
+  unfolding joinedRight
+  joined-says i t b f at h e =
+      let d : queueOf (getD (l .seat) t 0) ≡ i = omega arith in
+      let w : (waitsOn (getD (l .seat) t 0) && ltb 1 (getD (l .seat) t 0 % 64)) ≡ true =
+      both _ _ (waits-is (getD (l .seat) t 0) (omega arith) (omega arith)) (lt-ltb 1 (getD (l .seat) t 0 % 64) (omega arith)) in
+      leb-true _ _
+      (chosen-no (getD (m .fifo) (queueOf (getD (l .seat) t 0)) false) _ _ (chosen-yes _ _ _ e w)
+      (ap (λ (j : ℕ). getD (m .fifo) j false) d ∙ f))
+
+  sorted-says : queuesSorted l (m .fifo) ≡ true → (i : ℕ) → i < 16 → getD (m .fifo) i false ≡ false → Sorted (l .seat) (l .joined) (queueSeats i)
+  unfolding queuesSorted
+  sorted-says e i b f =
+      sorted-from-steps (l .seat) (l .joined) (queueSeats i) _ (queues .tasks) (queues .seated (queueSeats i) (omega arith))
+      (λ t at h. joined-says i t b f at h
+      (every-at (λ u. joinedRight (l .seat) (l .joined) (m .fifo) (getD (l .seat) u 0) (getD (l .joined) u 0)) 32 e t
+      (inside 32 (l .seat) t (queues .tasks) (λ z. omega arith))))
+
+  joined-right : (t : ℕ) → Stands l k m t
+      → ((i : ℕ) → i < 16 → getD (m .fifo) i false ≡ false → Sorted (l .seat) (l .joined) (queueSeats i))
+      → joinedRight (l .seat) (l .joined) (m .fifo) (getD (l .seat) t 0) (getD (l .joined) t 0) ≡ true
+  unfolding joinedRight
+  joined-right t h order = choose _ waiting (λ no. refl)
+    where
+      waiting : (waitsOn (getD (l .seat) t 0) && ltb 1 (getD (l .seat) t 0 % 64)) ≡ true
+          → pick (getD (m .fifo) (queueOf (getD (l .seat) t 0)) false) true
+          (leb (getD (l .joined) t 0) (getD (l .joined) (onSeat (l .seat) (getD (l .seat) t 0 - 1)) 0))
+          ≡ true
+      waiting e =
+          let b = both-true (waitsOn (getD (l .seat) t 0)) _ e in
+          let u : (0 < getD (l .seat) t 0) × (getD (l .seat) t 0 < 2048) = waits-says _ (b .0) in
+          let v : 1 < getD (l .seat) t 0 % 64 = ltb-true _ _ (b .1) in
+          choose (getD (m .fifo) (queueOf (getD (l .seat) t 0)) false) (λ a. refl)
+          (λ a. le-leb _ _
+          (⊎-elim (λ n. absurd (omega (arith, n .seat)))
+          (λ h. ⊎-elim
+          (λ w. let s : In (l .seat) (queueSeats (w .on)) t = w .stands in
+          let d : queueOf (getD (l .seat) t 0) ≡ w .on = omega arith in
+          steps-from-sorted (l .seat) (l .joined) (queueSeats (w .on)) _ (queues .tasks) (queues .seated (queueSeats (w .on)) (omega arith))
+          (order (w .on) (w .within) (sym (ap (λ (j : ℕ). getD (m .fifo) j false) d) ∙ a))
+          t s (omega arith))
+          (λ r. let s : In (l .seat) (ringSeats (getD (k .priority) t 0)) t = r .stands in absurd (omega arith))
+          h)
+          h))
+
+-- the count of a semaphore
+module _ (q : List ℕ) (i units : ℕ) where
+  count-says : countRight q i units ≡ true → (units ≤ 32767) × (0 < standing q (queueSeats i) → units ≡ 0)
+  unfolding countRight
+  count-says e = (
+    ⊎-elim
+        (λ h. omega (arith, zero-units h))
+        (λ h. leb-true _ _ (chosen-no (ltb 0 (standing q (queueSeats i))) _ _ e (le-ltb _ _ h)))
+        (lt-or-le 0 (standing q (queueSeats i))),
+    zero-units,
+  )
+    where
+      zero-units : 0 < standing q (queueSeats i) → units ≡ 0
+      zero-units h = eqb-true _ _ (chosen-yes (ltb 0 (standing q (queueSeats i))) _ _ e (lt-ltb _ _ h))
+
+  count-right : units ≤ 32767 → (0 < standing q (queueSeats i) → units ≡ 0) → countRight q i units ≡ true
+  unfolding countRight
+  count-right h f = choose (ltb 0 (standing q (queueSeats i))) (λ e. eq-eqb _ _ (f (ltb-true _ _ e))) (λ e. le-leb _ _ h)
+
+-- a slot of the tasks and one of the semaphores
+module _ (k : Tasks) (t : ℕ) where
+  task-says : taskRight k t ≡ true → (getD (k .started) t false ≡ false → getD (k .suspended) t false ≡ false) → TaskSound k t
+  unfolding taskRight
+  task-says e f =
+      record {
+        alive = λ a. let b = both-true (leb 1 (getD (k .serial) t 0)) _ (chosen-yes (getD (k .live) t false) _ _ e a) in
+            (leb-true _ _ (b .0), leb-true _ _ (b .1));
+        name = λ a. eqb-true _ _ (zeros a .0);
+        started = λ a. not-true _ (both-true (not (getD (k .started) t false)) _ (zeros a .1) .0);
+        priority = λ a.
+            eqb-true _ _
+            (both-true (not (getD (k .suspended) t false)) _ (both-true (not (getD (k .started) t false)) _ (zeros a .1) .1) .1);
+        suspended = f;
+      }
+    where
+      zeros : getD (k .live) t false ≡ false
+          → (eqb (getD (k .name) t 0) 0 ≡ true)
+          × ((not (getD (k .started) t false) && (not (getD (k .suspended) t false) && eqb (getD (k .priority) t 0) 0)) ≡ true)
+      zeros a = both-true _ _ (chosen-no (getD (k .live) t false) _ _ e a)
+
+  task-right : TaskSound k t → taskRight k t ≡ true
+  unfolding taskRight
+  task-right h =
+      choose (getD (k .live) t false) (λ a. both _ _ (le-leb _ _ (h .alive a .0)) (le-leb _ _ (h .alive a .1)))
+      (λ a. both _ _ (eq-eqb _ _ (h .name a))
+      (both _ _ (not-of-false _ (h .started a))
+      (both _ _ (not-of-false _ (h .suspended (h .started a))) (eq-eqb _ _ (h .priority a)))))
+
+module _ (m : Semaphores) (i : ℕ) where
+  sem-says : semRight m i ≡ true → getD (m .units) i 0 ≤ 32767 → SemSound m i
+  unfolding semRight
+  sem-says e u =
+      record {
+        alive = λ a. leb-true _ _ (chosen-yes (getD (m .live) i false) _ _ e a);
+        units = u;
+        name = λ a. eqb-true _ _ (zeros a .0);
+        fifo = λ a. not-true _ (both-true _ _ (zeros a .1) .0);
+        none = λ a. eqb-true _ _ (both-true (not (getD (m .fifo) i false)) _ (zeros a .1) .1);
+      }
+    where
+      zeros : getD (m .live) i false ≡ false
+          → (eqb (getD (m .name) i 0) 0 ≡ true) × ((not (getD (m .fifo) i false) && eqb (getD (m .units) i 0) 0) ≡ true)
+      zeros a = both-true _ _ (chosen-no (getD (m .live) i false) _ _ e a)
+
+  sem-right : SemSound m i → semRight m i ≡ true
+  unfolding semRight
+  sem-right h =
+      choose (getD (m .live) i false) (λ a. le-leb _ _ (h .alive a))
+      (λ a. both _ _ (eq-eqb _ _ (h .name a)) (both _ _ (not-of-false _ (h .fifo a)) (eq-eqb _ _ (h .none a))))
+
+-- the parts of the test
+record Held (s : State) : Type 0 where
+  seats : seatsRight (s .line .seat) ≡ true
+  order : readyOrderRight (s .line) (s .tasks) ≡ true
+  waits : waitsRight (s .line) (s .semaphores .live) ≡ true
+  sorted : queuesSorted (s .line) (s .semaphores .fifo) ≡ true
+  counts : countsRight (s .line) (s .semaphores) ≡ true
+  starts : startsRight (s .line) (s .tasks) ≡ true
+  tasks : tasksRight (s .tasks) ≡ true
+  sems : semsRight (s .semaphores) ≡ true
+  pools : poolsRight (s .pools) ≡ true
+  apart : poolsApart (s .pools) ≡ true
+  running : runningRight s ≡ true
+
+sound-held : (s : State) → sound s ≡ true → Held s
+unfolding sound
+sound-held s e =
+    let a = both-true (seatsRight (s .line .seat)) _ e in
+    let b = both-true (readyOrderRight (s .line) (s .tasks)) _ (a .1) in
+    let c = both-true (waitsRight (s .line) (s .semaphores .live)) _ (b .1) in
+    let d = both-true (queuesSorted (s .line) (s .semaphores .fifo)) _ (c .1) in
+    let f = both-true (countsRight (s .line) (s .semaphores)) _ (d .1) in
+    let g = both-true (startsRight (s .line) (s .tasks)) _ (f .1) in
+    let h = both-true (tasksRight (s .tasks)) _ (g .1) in
+    let i = both-true (semsRight (s .semaphores)) _ (h .1) in
+    let j = both-true (poolsRight (s .pools)) _ (i .1) in
+    let k = both-true (poolsApart (s .pools)) _ (j .1) in
+    record {
+      seats = a .0;
+      order = b .0;
+      waits = c .0;
+      sorted = d .0;
+      counts = f .0;
+      starts = g .0;
+      tasks = h .0;
+      sems = i .0;
+      pools = j .0;
+      apart = k .0;
+      running = k .1;
+    }
+
+held-sound : (s : State) → Held s → sound s ≡ true
+unfolding sound
+held-sound s h =
+    both _ _ (h .seats)
+    (both _ _ (h .order)
+    (both _ _ (h .waits)
+    (both _ _ (h .sorted)
+    (both _ _ (h .counts)
+    (both _ _ (h .starts)
+    (both _ _ (h .tasks)
+    (both _ _ (h .sems)
+    (both _ _ (h .pools)
+    (both _ _ (h .apart) (h .running))))))))))
+
+-- what the test says of a state whose arrays have their sizes
+module _ (s : State) (sized : Sized s) (held : Held s) where
+  says-queues : Queues (s .line .seat)
+  says-queues = queues-from-rule (s .line .seat) (sized .seat) (held .seats)
+
+  start-at : (t : ℕ) → t < 32 → StartRight (s .line) (s .tasks) (s .semaphores) t
+  unfolding startsRight
+  start-at t h =
+      every-at
+      (λ u. startRight (getD (s .tasks .started) u false) (getD (s .tasks .suspended) u false) (getD (s .line .seat) u 0))
+      32 (held .starts) t h
+
+  ready-at : (t : ℕ) → t < 32 → ReadyRight (s .line) (s .tasks) (s .semaphores) t
+  unfolding readyOrderRight
+  ready-at t h =
+      every-at
+      (λ u. readyRight (getD (s .tasks .started) u false) (getD (s .tasks .suspended) u false) (getD (s .tasks .priority) u 0) (getD (s .line .seat) u 0))
+      32 (held .order) t h
+
+  wait-at : (t : ℕ) → t < 32 → WaitRight (s .line) (s .tasks) (s .semaphores) t
+  unfolding waitsRight
+  wait-at t h =
+      every-at
+      (λ u. waitRight (s .semaphores .live) (getD (s .line .seat) u 0) (getD (s .line .left) u 0) (getD (s .line .joined) u 0))
+      32 (held .waits) t h
+
+  count-at : (i : ℕ) → i < 16
+      → (getD (s .semaphores .units) i 0 ≤ 32767)
+      × (0 < standing (s .line .seat) (queueSeats i) → getD (s .semaphores .units) i 0 ≡ 0)
+  unfolding countsRight
+  count-at i h =
+      count-says (s .line .seat) i (getD (s .semaphores .units) i 0)
+      (every-at (λ j. countRight (s .line .seat) j (getD (s .semaphores .units) j 0)) 16 (held .counts) i h)
+
+  says-line : LineSound (s .line) (s .tasks) (s .semaphores)
+  says-line =
+      record {
+        lefts = sized .left;
+        joineds = sized .joined;
+        queues = says-queues;
+        stands = λ t h.
+            stands-says (s .line) (s .tasks) (s .semaphores) t (sized .slive) (says-queues .places t) (ready-at t h) (wait-at t h) (start-at t h);
+        sorted = sorted-says (s .line) (s .tasks) (s .semaphores) says-queues (held .sorted);
+        counts = λ i h. count-at i h .1;
+      }
+
+  says-tasks : TasksSound (s .tasks)
+  unfolding tasksRight
+  says-tasks =
+      record {
+        names = sized .tname;
+        serials = sized .tserial;
+        lives = sized .tlive;
+        starteds = sized .started;
+        suspendeds = sized .suspended;
+        priorities = sized .priority;
+        each = λ t h.
+            task-says (s .tasks) t (every-at (taskRight (s .tasks)) 32 (held .tasks) t h)
+            (λ a. start-says _ _ _ (start-at t h) a .1);
+      }
+
+  says-sems : SemsSound (s .semaphores)
+  unfolding semsRight
+  says-sems =
+      record {
+        names = sized .sname;
+        serials = sized .sserial;
+        unitss = sized .units;
+        lives = sized .slive;
+        fifos = sized .fifo;
+        each = λ i h. sem-says (s .semaphores) i (every-at (semRight (s .semaphores)) 16 (held .sems) i h) (count-at i h .0);
+      }
+
+  says-pools : PoolsSound (s .pools)
+  unfolding poolsRight
+  says-pools =
+      record {
+        outs = sized .out;
+        names = sized .pname;
+        addresses = sized .address;
+        lengths = sized .length;
+        sizes = sized .size;
+        serials = sized .pserial;
+        lives = sized .plive;
+        forceds = sized .forced;
+        each = every-at (poolRight (s .pools)) 8 (held .pools);
+        apart = held .apart;
+      }
+
+  held-says : Sound s
+  unfolding runningRight
+  held-says =
+      record {
+        line = says-line;
+        tasks = says-tasks;
+        semaphores = says-sems;
+        pools = says-pools;
+        running = eqb-true _ _ (held .running);
+      }
+
+pub sound-says : (s : State) → Sized s → sound s ≡ true → Sound s
+sound-says s sized e = held-says s sized (sound-held s e)
+
+-- and back
+pub sound-right : (s : State) → Sound s → sound s ≡ true
+unfolding readyOrderRight waitsRight queuesSorted countsRight startsRight tasksRight semsRight poolsRight runningRight
+sound-right s h =
+    held-sound s
+    (record {
+      seats = rule-from-queues (s .line .seat) (h .line .queues);
+      order = every-yes _ 32 (λ t l. stands-ready (s .line) (s .tasks) (s .semaphores) t (h .line .stands t l));
+      waits = every-yes _ 32 (λ t l. stands-wait (s .line) (s .tasks) (s .semaphores) t (h .line .stands t l));
+      sorted = every-yes _ 32 (λ t l. joined-right (s .line) (s .tasks) (s .semaphores) (h .line .queues) t (h .line .stands t l) (h .line .sorted));
+      counts = every-yes _ 16 (λ i l. count-right (s .line .seat) i _ (h .semaphores .each i l .units) (h .line .counts i l));
+      starts = every-yes _ 32
+          (λ t l. stands-start (s .line) (s .tasks) (s .semaphores) t (h .tasks .each t l .suspended) (h .line .stands t l));
+      tasks = every-yes _ 32 (λ t l. task-right (s .tasks) t (h .tasks .each t l));
+      sems = every-yes _ 16 (λ i l. sem-right (s .semaphores) i (h .semaphores .each i l));
+      pools = every-yes _ 8 (h .pools .each);
+      apart = h .pools .apart;
+      running = eq-eqb _ _ (h .running);
+    })

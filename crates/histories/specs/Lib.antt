@@ -1,0 +1,5 @@
+pub mod Sound
+pub mod History
+pub mod Books
+pub mod Refusals
+pub mod Order

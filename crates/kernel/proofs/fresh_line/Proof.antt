@@ -1,0 +1,27 @@
+use borrow.Author.Needs.{needs}
+use Rattle.kernel.proofs.fresh_line.Statement.{statement}
+use Rattle.kernel.proofs.fresh_line.Tie as tie
+use Rattle.kernel.proofs.fresh_line.Reads as reads
+use Rattle.kernel.proofs.fresh_line.Lts as lts
+use Rattle.kernel.proofs.wide.Reads as wide-reads
+
+wide-requires : tie.Need-wide-requires
+wide-requires c κs = search needs
+
+mul-l : tie.Need-mul-l
+mul-l c = search needs
+
+add-l : tie.Need-add-l
+add-l c = search needs
+
+add-l-2 : tie.Need-add-l-2
+add-l-2 c = search needs
+
+element-write-l : tie.Need-element-write-l
+element-write-l c = search needs
+
+returns : tie.Need-returns
+returns c = rw (c .wide .ensures)
+
+pub fresh-line-spec : {M : Type 1} → statement M
+fresh-line-spec = tie.close (tie.spec wide-requires mul-l add-l add-l-2 element-write-l returns)

@@ -1,0 +1,36 @@
+use Rattle.scope.specs.Fresh.{freshState}
+use borrow.Author.Needs.{needs}
+use Rattle.kernel.proofs.fresh_state.Statement.{statement}
+use Rattle.kernel.proofs.fresh_state.Tie as tie
+use Rattle.kernel.proofs.fresh_state.Reads as reads
+use Rattle.kernel.proofs.fresh_state.Lts as lts
+use Rattle.kernel.proofs.fresh_line.Reads as fresh-line-reads
+use Rattle.kernel.proofs.fresh_tasks.Reads as fresh-tasks-reads
+use Rattle.kernel.proofs.no_pools.Reads as no-pools-reads
+use Rattle.kernel.proofs.no_semaphores.Reads as no-semaphores-reads
+
+fresh-line-requires : tie.Need-fresh-line-requires
+fresh-line-requires c κs = search needs
+
+fresh-tasks-requires : tie.Need-fresh-tasks-requires
+fresh-tasks-requires c κs = search needs
+
+no-semaphores-requires : tie.Need-no-semaphores-requires
+no-semaphores-requires c κs = search needs
+
+no-pools-requires : tie.Need-no-pools-requires
+no-pools-requires c κs = search needs
+
+returns : tie.Need-returns
+unfolding freshState
+returns c = rw (c .no-pools .ensures, c .before .no-semaphores .ensures, c .before .before .fresh-tasks .ensures, c .before .before .before .fresh-line .ensures)
+
+pub fresh-state-spec : {M : Type 1} → statement M
+fresh-state-spec =
+    tie.close
+    (tie.spec
+    fresh-line-requires
+    fresh-tasks-requires
+    no-semaphores-requires
+    no-pools-requires
+    returns)

@@ -1,0 +1,76 @@
+-- `pools::get_at`: no buffer is free, or the lowest free one goes out and its address is given.
+-- Assumes nothing.
+use borrow.Author.Needs.{needs}
+use borrow.Author.Tests.{le-leb, lt-leb}
+use Rattle.scope.specs.Pools.{poolGetBuffer, poolGetBuffAt}
+use Rattle.laws.proofs.Branches.{pick-yes, pick-no}
+use Rattle.pools.proofs.Laws.{marked, free-marked}
+use Rattle.pools.proofs.get_at.Statement.{statement}
+use Rattle.pools.proofs.get_at.Tie as tie
+
+buffers-requires : tie.Need-buffers-requires
+buffers-requires c κs = search needs
+
+mul-out : tie.Need-mul-out
+mul-out c = search needs
+
+element-copy-out-out : tie.Need-element-copy-out-out
+element-copy-out-out c = search needs
+
+lowest-free-requires : tie.Need-lowest-free-requires
+lowest-free-requires c κs = marked _ _ (c .before .buffers .ensures)
+
+plain-requires : tie.Need-plain-requires
+plain-requires c κs = search needs
+
+returns : tie.Need-returns
+unfolding poolGetBuffer poolGetBuffAt
+returns c = rw (← c .before .before .before .before .buffers .ensures, ← c .before .before .lowest-free .ensures) (pick-yes _ _ _ (le-leb _ _ (c .before .if1 .taken)) (c .plain .ensures))
+
+mul-buffer-address : tie.Need-mul-buffer-address
+mul-buffer-address c = search needs
+
+element-copy-out-buffer-address : tie.Need-element-copy-out-buffer-address
+element-copy-out-buffer-address c = search needs
+
+mul-buffer-address-2 : tie.Need-mul-buffer-address-2
+mul-buffer-address-2 c = search needs
+
+element-copy-out-buffer-address-2 : tie.Need-element-copy-out-buffer-address-2
+element-copy-out-buffer-address-2 c = search needs
+
+buffer-address-requires : tie.Need-buffer-address-requires
+buffer-address-requires c κs = free-marked _ _ (c .before .before .before .before .before .buffers .ensures) _ (c .before .before .before .lowest-free .ensures) (c .before .before .if1 .left) .0
+
+take-requires : tie.Need-take-requires
+take-requires c κs = free-marked _ _ (c .before .before .before .before .before .before .buffers .ensures) _ (c .before .before .before .before .lowest-free .ensures) (c .before .before .before .if1 .left)
+
+remark-requires : tie.Need-remark-requires
+remark-requires c κs = search needs
+
+gives-requires : tie.Need-gives-requires
+gives-requires c κs = search needs
+
+returns-2 : tie.Need-returns-2
+unfolding poolGetBuffer poolGetBuffAt
+returns-2 c = rw (← c .before .before .before .before .before .before .before .before .before .buffers .ensures, ← c .before .before .before .before .before .before .before .lowest-free .ensures) (pick-no _ _ _ (lt-leb _ _ (c .before .before .before .before .before .before .if1 .left)) (rw (c .gives .ensures, c .before .remark .ensures, c .before .before .take .ensures, c .before .before .before .buffer-address .ensures)))
+
+pub get-at-spec : {M : Type 1} → statement M
+get-at-spec =
+    tie.close
+    (tie.spec
+    buffers-requires
+    mul-out
+    element-copy-out-out
+    lowest-free-requires
+    plain-requires
+    returns
+    mul-buffer-address
+    element-copy-out-buffer-address
+    mul-buffer-address-2
+    element-copy-out-buffer-address-2
+    buffer-address-requires
+    take-requires
+    remark-requires
+    gives-requires
+    returns-2)

@@ -1,0 +1,56 @@
+-- `pools::pool_get_buff`: what the identifier names, or its refusal.
+-- Assumes nothing.
+use mathlib.Core.Path.{_≡_}
+use lib.ListN.{length}
+use borrow.Author.Needs.{needs}
+use Rattle.pools.proofs.Laws.{on-at, on-deleted, on-invalid, named-below}
+use Rattle.pools.proofs.pool_get_buff.Statement.{statement}
+use Rattle.pools.proofs.pool_get_buff.Tie as tie
+
+slots : (c : tie.Start) → length (c .args .s .pools .serial) ≡ 8
+slots c = search (needs, c .good .0 .1 .1 .1 .1 .1 .0)
+
+find-requires : tie.Need-find-requires
+find-requires c κs = search needs
+
+enum-known-i : tie.Need-enum-known-i
+enum-known-i c = search needs
+
+get-at-requires : tie.Need-get-at-requires
+get-at-requires c κs = named-below 8 _ _ (slots (c .before .before .before .before)) (c .before .before .before .before .args .id) (c .before .before .before .find .ensures) (c .before .i .given .1)
+
+enum-told : tie.Need-enum-told
+enum-told c = search needs
+
+plain-requires : tie.Need-plain-requires
+plain-requires c κs = search needs
+
+enum-told-2 : tie.Need-enum-told-2
+enum-told-2 c = search needs
+
+plain-requires-2 : tie.Need-plain-requires-2
+plain-requires-2 c κs = search needs
+
+returns : tie.Need-returns
+returns c = on-at _ _ _ _ (c .before .before .before .before .find .ensures) (c .before .before .i .given .1) (c .get-at .ensures)
+
+returns-2 : tie.Need-returns-2
+returns-2 c = on-deleted _ _ _ _ (c .before .before .before .find .ensures) (c .before .enum-told .given .1) (c .plain .ensures)
+
+returns-3 : tie.Need-returns-3
+returns-3 c = on-invalid _ _ _ _ (c .before .before .before .find .ensures) (c .before .enum-told2 .given .1) (c .plain2 .ensures)
+
+pub pool-get-buff-spec : {M : Type 1} → statement M
+pool-get-buff-spec =
+    tie.close
+    (tie.spec
+    find-requires
+    enum-known-i
+    get-at-requires
+    enum-told
+    plain-requires
+    enum-told-2
+    plain-requires-2
+    returns
+    returns-2
+    returns-3)

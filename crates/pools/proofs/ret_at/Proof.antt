@@ -1,0 +1,78 @@
+-- `pools::ret_at`: the buffer that starts at the address, where it is one and is out, is free again.
+-- Assumes nothing.
+use mathlib.Core.Path.{sym, _∙_}
+use mathlib.Core.Logic.{⊎-elim}
+use lib.Dec.{ltb}
+use borrow.Author.Needs.{needs}
+use borrow.Author.Tests.{lt-ltb, le-ltb}
+use Rattle.scope.specs.Pools.{poolRetBuffer, poolRetBuffAt}
+use Rattle.laws.proofs.Branches.{pick-yes, pick-no, both, first-fails, second-fails}
+use Rattle.pools.proofs.ret_at.Statement.{statement}
+use Rattle.pools.proofs.ret_at.Tie as tie
+
+buffers-requires : tie.Need-buffers-requires
+buffers-requires c κs = search needs
+
+mul-out : tie.Need-mul-out
+mul-out c = search needs
+
+element-copy-out-out : tie.Need-element-copy-out-out
+element-copy-out-out c = search needs
+
+mul-buffer-at : tie.Need-mul-buffer-at
+mul-buffer-at c = search needs
+
+element-copy-out-buffer-at : tie.Need-element-copy-out-buffer-at
+element-copy-out-buffer-at c = search needs
+
+mul-buffer-at-2 : tie.Need-mul-buffer-at-2
+mul-buffer-at-2 c = search needs
+
+element-copy-out-buffer-at-2 : tie.Need-element-copy-out-buffer-at-2
+element-copy-out-buffer-at-2 c = search needs
+
+buffer-at-requires : tie.Need-buffer-at-requires
+buffer-at-requires c κs = search needs
+
+is-out-requires : tie.Need-is-out-requires
+is-out-requires c κs = search needs
+
+give-back-requires : tie.Need-give-back-requires
+give-back-requires c κs = (c .before .before .if1 .taken, sym (c .before .is-out .ensures) ∙ c .if2 .taken)
+
+remark-requires : tie.Need-remark-requires
+remark-requires c κs = search needs
+
+plain-requires : tie.Need-plain-requires
+plain-requires c κs = search needs
+
+returns : tie.Need-returns
+unfolding poolRetBuffer poolRetBuffAt
+returns c = rw (← c .before .before .before .before .before .before .before .before .before .before .buffers .ensures, ← c .before .before .before .before .before .before .buffer-at .ensures) (pick-yes _ _ _ (both _ _ (lt-ltb _ _ (c .before .before .before .before .before .if1 .taken)) (sym (c .before .before .before .before .is-out .ensures) ∙ c .before .before .before .if2 .taken)) (rw (c .plain .ensures, c .before .remark .ensures, c .before .before .give-back .ensures)))
+
+plain-requires-2 : tie.Need-plain-requires-2
+plain-requires-2 c κs = search needs
+
+returns-2 : tie.Need-returns-2
+unfolding poolRetBuffer poolRetBuffAt
+returns-2 c = rw (← c .before .before .before .before .before .before .buffers .ensures, ← c .before .before .buffer-at .ensures) (pick-no _ _ _ (⊎-elim (λ j. second-fails (ltb (c .before .before .buffer-at .result) 64) _ (sym (j .1 .ensures) ∙ j .2 .left)) (λ e. first-fails _ _ (le-ltb _ _ (e .left))) (c .before .if1 .came)) (c .plain2 .ensures))
+
+pub ret-at-spec : {M : Type 1} → statement M
+ret-at-spec =
+    tie.close
+    (tie.spec
+    buffers-requires
+    mul-out
+    element-copy-out-out
+    mul-buffer-at
+    element-copy-out-buffer-at
+    mul-buffer-at-2
+    element-copy-out-buffer-at-2
+    buffer-at-requires
+    is-out-requires
+    give-back-requires
+    remark-requires
+    plain-requires
+    returns
+    plain-requires-2
+    returns-2)

@@ -1,0 +1,55 @@
+-- `rules::counts_right`: before each turn the loop holds the test of all slots passed.
+-- Assumes nothing.
+use Prim.Native.Nat.{_-_}
+use borrow.Author.Needs.{needs}
+use lib.ListN.{getD}
+use Rattle.scope.specs.Rules.{countsRight, countRight}
+use Rattle.rules.proofs.Laws.{Testing, testing-start, testing-more, testing-done}
+use Rattle.rules.proofs.counts_right.Statement.{statement}
+use Rattle.rules.proofs.counts_right.Tie as tie
+
+abbrev Inv-loop : tie.InvT-loop
+Inv-loop seat units ok₀ i₀ ok i = Testing 16 (λ j. countRight seat j (getD units j 0)) ok i
+
+abbrev μ-loop : tie.MeasureT-loop
+μ-loop seat units ok₀ i₀ ok i = 16 - i
+
+loop-holds : tie.Need-loop-holds Inv-loop μ-loop
+loop-holds c = testing-start _ _
+
+mul-count-right : tie.Need-mul-count-right Inv-loop μ-loop
+mul-count-right c = search needs
+
+array-read-count-right : tie.Need-array-read-count-right Inv-loop μ-loop
+array-read-count-right c = search needs
+
+count-right-requires : tie.Need-count-right-requires Inv-loop μ-loop
+count-right-requires c κs = search needs
+
+add-i : tie.Need-add-i Inv-loop μ-loop
+add-i c = search needs
+
+loop-less : tie.Need-loop-less Inv-loop μ-loop
+loop-less c = search needs
+
+loop-again : tie.Need-loop-again Inv-loop μ-loop
+loop-again c = testing-more (c .before .before .loop .inv) (search needs) (c .count-right .ensures)
+
+returns : tie.Need-returns Inv-loop μ-loop
+unfolding countsRight
+returns c = testing-done (c .before .loop .inv) (search needs)
+
+pub counts-right-spec : {M : Type 1} → statement M
+counts-right-spec =
+    tie.close
+    (tie.spec
+    Inv-loop
+    μ-loop
+    loop-holds
+    mul-count-right
+    array-read-count-right
+    count-right-requires
+    add-i
+    loop-less
+    loop-again
+    returns)

@@ -1,0 +1,106 @@
+-- `rules::pools_right`: before each turn the loop holds the test of all slots passed.
+-- Assumes nothing.
+use Prim.Native.Nat.{_-_}
+use borrow.Author.Needs.{needs}
+use Rattle.scope.specs.Rules.{poolsRight, poolRight}
+use Rattle.rules.proofs.Laws.{Testing, testing-start, testing-more, testing-done}
+use Rattle.rules.proofs.pools_right.Statement.{statement}
+use Rattle.rules.proofs.pools_right.Tie as tie
+
+abbrev Inv-loop : tie.InvT-loop
+Inv-loop live serial out name at long size forced ok₀ i₀ ok i =
+    Testing 8
+    (poolRight (record { out = out; name = name; address = at; length = long; size = size; serial = serial; live = live; forced = forced }))
+    ok i
+
+abbrev μ-loop : tie.MeasureT-loop
+μ-loop live serial out name at long size forced ok₀ i₀ ok i = 8 - i
+
+loop-holds : tie.Need-loop-holds Inv-loop μ-loop
+loop-holds c = testing-start _ _
+
+array-read-pool-right : tie.Need-array-read-pool-right Inv-loop μ-loop
+array-read-pool-right c = search needs
+
+mul-pool-right : tie.Need-mul-pool-right Inv-loop μ-loop
+mul-pool-right c = search needs
+
+array-read-pool-right-2 : tie.Need-array-read-pool-right-2 Inv-loop μ-loop
+array-read-pool-right-2 c = search needs
+
+mul-pool-right-2 : tie.Need-mul-pool-right-2 Inv-loop μ-loop
+mul-pool-right-2 c = search needs
+
+array-read-pool-right-3 : tie.Need-array-read-pool-right-3 Inv-loop μ-loop
+array-read-pool-right-3 c = search needs
+
+mul-pool-right-3 : tie.Need-mul-pool-right-3 Inv-loop μ-loop
+mul-pool-right-3 c = search needs
+
+array-read-pool-right-4 : tie.Need-array-read-pool-right-4 Inv-loop μ-loop
+array-read-pool-right-4 c = search needs
+
+mul-pool-right-4 : tie.Need-mul-pool-right-4 Inv-loop μ-loop
+mul-pool-right-4 c = search needs
+
+array-read-pool-right-5 : tie.Need-array-read-pool-right-5 Inv-loop μ-loop
+array-read-pool-right-5 c = search needs
+
+mul-pool-right-5 : tie.Need-mul-pool-right-5 Inv-loop μ-loop
+mul-pool-right-5 c = search needs
+
+array-read-pool-right-6 : tie.Need-array-read-pool-right-6 Inv-loop μ-loop
+array-read-pool-right-6 c = search needs
+
+mul-pool-right-6 : tie.Need-mul-pool-right-6 Inv-loop μ-loop
+mul-pool-right-6 c = search needs
+
+array-read-pool-right-7 : tie.Need-array-read-pool-right-7 Inv-loop μ-loop
+array-read-pool-right-7 c = search needs
+
+array-read-pool-right-8 : tie.Need-array-read-pool-right-8 Inv-loop μ-loop
+array-read-pool-right-8 c = search needs
+
+pool-right-requires : tie.Need-pool-right-requires Inv-loop μ-loop
+pool-right-requires c κs = search needs
+
+add-i : tie.Need-add-i Inv-loop μ-loop
+add-i c = search needs
+
+loop-less : tie.Need-loop-less Inv-loop μ-loop
+loop-less c = search needs
+
+loop-again : tie.Need-loop-again Inv-loop μ-loop
+unfolding poolRight
+loop-again c = testing-more (c .before .before .loop .inv) (search needs) (c .pool-right .ensures)
+
+returns : tie.Need-returns Inv-loop μ-loop
+unfolding poolsRight
+returns c = testing-done (c .before .loop .inv) (search needs)
+
+pub pools-right-spec : {M : Type 1} → statement M
+pools-right-spec =
+    tie.close
+    (tie.spec
+    Inv-loop
+    μ-loop
+    loop-holds
+    array-read-pool-right
+    mul-pool-right
+    array-read-pool-right-2
+    mul-pool-right-2
+    array-read-pool-right-3
+    mul-pool-right-3
+    array-read-pool-right-4
+    mul-pool-right-4
+    array-read-pool-right-5
+    mul-pool-right-5
+    array-read-pool-right-6
+    mul-pool-right-6
+    array-read-pool-right-7
+    array-read-pool-right-8
+    pool-right-requires
+    add-i
+    loop-less
+    loop-again
+    returns)

@@ -1,0 +1,53 @@
+-- `semaphores::sem_claim`: what the identifier names, or its refusal.
+-- Assumes nothing.
+use mathlib.Core.Path.{_≡_}
+use lib.ListN.{length}
+use borrow.Author.Needs.{needs}
+use Rattle.semaphores.proofs.Laws.{on-at, on-deleted, on-invalid, named-below}
+use Rattle.semaphores.proofs.sem_claim.Statement.{statement}
+use Rattle.semaphores.proofs.sem_claim.Tie as tie
+
+find-requires : tie.Need-find-requires
+find-requires c κs = search needs
+
+enum-known-i : tie.Need-enum-known-i
+enum-known-i c = search needs
+
+claim-at-requires : tie.Need-claim-at-requires
+claim-at-requires c κs = let n : length (c .before .before .before .before .args .s .semaphores .serial) ≡ 16 = search needs in named-below 16 _ _ n (c .before .before .before .before .args .id) (c .before .before .before .find .ensures) (c .before .i .given .1)
+
+enum-told : tie.Need-enum-told
+enum-told c = search needs
+
+plain-requires : tie.Need-plain-requires
+plain-requires c κs = search needs
+
+enum-told-2 : tie.Need-enum-told-2
+enum-told-2 c = search needs
+
+plain-requires-2 : tie.Need-plain-requires-2
+plain-requires-2 c κs = search needs
+
+returns : tie.Need-returns
+returns c = on-at _ _ _ _ (c .before .before .before .before .find .ensures) (c .before .before .i .given .1) (c .claim-at .ensures)
+
+returns-2 : tie.Need-returns-2
+returns-2 c = on-deleted _ _ _ _ (c .before .before .before .find .ensures) (c .before .enum-told .given .1) (c .plain .ensures)
+
+returns-3 : tie.Need-returns-3
+returns-3 c = on-invalid _ _ _ _ (c .before .before .before .find .ensures) (c .before .enum-told2 .given .1) (c .plain2 .ensures)
+
+pub sem-claim-spec : {M : Type 1} → statement M
+sem-claim-spec =
+    tie.close
+    (tie.spec
+    find-requires
+    enum-known-i
+    claim-at-requires
+    enum-told
+    plain-requires
+    enum-told-2
+    plain-requires-2
+    returns
+    returns-2
+    returns-3)

@@ -1,0 +1,47 @@
+-- `semaphores::wait_at`: the running task waits, and the next one runs.
+-- Assumes nothing.
+use borrow.Author.Needs.{needs}
+use borrow.Author.Tests.{lt-ltb, le-ltb}
+use Rattle.scope.specs.Semaphores.{semWaitAt}
+use Rattle.laws.proofs.Branches.{pick-yes, pick-no}
+use Rattle.semaphores.proofs.wait_at.Statement.{statement}
+use Rattle.semaphores.proofs.wait_at.Tie as tie
+
+plain-requires : tie.Need-plain-requires
+plain-requires c κs = search needs
+
+returns : tie.Need-returns
+unfolding semWaitAt
+returns c = pick-no _ _ _ (le-ltb _ _ (c .before .if1 .taken)) (c .plain .ensures)
+
+element-copy-out-wait : tie.Need-element-copy-out-wait
+element-copy-out-wait c = search needs
+
+element-copy-out-wait-2 : tie.Need-element-copy-out-wait-2
+element-copy-out-wait-2 c = search needs
+
+wait-requires : tie.Need-wait-requires
+wait-requires c κs = search needs
+
+runner-requires : tie.Need-runner-requires
+runner-requires c κs = search needs
+
+plain-requires-2 : tie.Need-plain-requires-2
+plain-requires-2 c κs = search needs
+
+returns-2 : tie.Need-returns-2
+unfolding semWaitAt
+returns-2 c = pick-yes _ _ _ (lt-ltb _ _ (c .before .before .before .before .before .before .before .before .if1 .left)) (rw (c .plain2 .ensures, c .before .runner .ensures, c .before .before .before .wait .ensures))
+
+pub wait-at-spec : {M : Type 1} → statement M
+wait-at-spec =
+    tie.close
+    (tie.spec
+    plain-requires
+    returns
+    element-copy-out-wait
+    element-copy-out-wait-2
+    wait-requires
+    runner-requires
+    plain-requires-2
+    returns-2)

@@ -1,0 +1,27 @@
+-- What an identifier names: 0 is SELF, if anything runs; any other is looked up in the table. By the tests in order.
+-- Assumes nothing.
+use mathlib.Core.Path.{refl}
+use borrow.Author.Tests.{lt-ltb, le-ltb, eq-eqb, ne-eqb}
+use Rattle.laws.proofs.Branches.{pick-yes, pick-no}
+use Rattle.scope.specs.Tasks.{taskFound}
+use borrow.Author.Needs.{needs}
+use Rattle.tasks.proofs.find.Statement.{statement}
+use Rattle.tasks.proofs.find.Tie as tie
+
+returns : tie.Need-returns
+unfolding taskFound
+returns c = pick-yes _ _ _ (eq-eqb _ _ (c .before .before .if1 .taken)) (pick-yes _ _ _ (lt-ltb _ _ (c .if2 .taken)) refl)
+
+returns-2 : tie.Need-returns-2
+unfolding taskFound
+returns-2 c = pick-yes _ _ _ (eq-eqb _ _ (c .before .before .if1 .taken)) (pick-no _ _ _ (le-ltb _ _ (c .if2 .left)) refl)
+
+find-requires : tie.Need-find-requires
+find-requires c κs = search needs
+
+returns-3 : tie.Need-returns-3
+unfolding taskFound
+returns-3 c = pick-no _ _ _ (ne-eqb _ _ (c .before .before .before .before .before .before .before .if1 .left)) (c .find .ensures)
+
+pub find-spec : {M : Type 1} → statement M
+find-spec = tie.close (tie.spec returns returns-2 find-requires returns-3)

@@ -1,0 +1,53 @@
+-- task_resume, by what its identifier names.
+-- Assumes nothing.
+use mathlib.Core.Path.{_≡_}
+use lib.ListN.{length}
+use Rattle.tasks.proofs.Laws.{on-at, on-deleted, on-invalid, task-inside}
+use borrow.Author.Needs.{needs}
+use Rattle.tasks.proofs.task_resume.Statement.{statement}
+use Rattle.tasks.proofs.task_resume.Tie as tie
+
+find-requires : tie.Need-find-requires
+find-requires c κs = search needs
+
+enum-known-t : tie.Need-enum-known-t
+enum-known-t c = search needs
+
+resume-at-requires : tie.Need-resume-at-requires
+resume-at-requires c κs = let n : length (c .before .before .before .before .args .s .tasks .serial) ≡ 32 = search needs in task-inside _ _ n (c .before .before .before .find .ensures) (c .before .t .given .1)
+
+enum-told : tie.Need-enum-told
+enum-told c = search needs
+
+plain-requires : tie.Need-plain-requires
+plain-requires c κs = search needs
+
+enum-told-2 : tie.Need-enum-told-2
+enum-told-2 c = search needs
+
+plain-requires-2 : tie.Need-plain-requires-2
+plain-requires-2 c κs = search needs
+
+returns : tie.Need-returns
+returns c = on-at _ _ (c .before .before .before .before .find .ensures) (c .before .before .t .given .1) (c .resume-at .ensures)
+
+returns-2 : tie.Need-returns-2
+returns-2 c = on-deleted _ _ (c .before .before .before .find .ensures) (c .before .enum-told .given .1) (c .plain .ensures)
+
+returns-3 : tie.Need-returns-3
+returns-3 c = on-invalid _ _ (c .before .before .before .find .ensures) (c .before .enum-told2 .given .1) (c .plain2 .ensures)
+
+pub task-resume-spec : {M : Type 1} → statement M
+task-resume-spec =
+    tie.close
+    (tie.spec
+    find-requires
+    enum-known-t
+    resume-at-requires
+    enum-told
+    plain-requires
+    enum-told-2
+    plain-requires-2
+    returns
+    returns-2
+    returns-3)
