@@ -1,0 +1,167 @@
+-- Decimal digits, what stands in a list after bytes are put one behind the other, and the length of a line.
+-- Idea: a put from `at` to `r` says only what `take r` is, so two puts in a row are one put of both texts.
+-- Assumes nothing.
+use mathlib.Core.Path.{_≡_, refl, sym, ap, _∙_}
+use mathlib.Core.Bool.{Bool, true, false}
+use mathlib.Core.Logic.{⊎-elim}
+use mathlib.Core.List.{List, [], _∷_, _++_, append-nil, append-assoc}
+use Prim.Native.Nat.{ℕ, zero, suc, _+_, _*_, _/_, _%_, _^_, _≤_, _<_}
+use native.Mathlib.Nat.{pow-suc}
+use native.Mathlib.Omega.{arith}
+use native.Mathlib.Numerals.{add-one}
+use lib.ListN.{length, take, set, getD, length-append}
+use lib.Seq.{take-suc-set, take-length, paste, paste-suc, take-paste}
+use borrow.Author.Tests.{lt-ltb, le-ltb}
+use Rattle.scope.specs.declared.Answer.{Answer}
+use Rattle.scope.specs.Choice.{pick}
+use Rattle.scope.specs.Listing.{digits, decimal, signed, field, wakeFields, lineOf}
+use Rattle.laws.proofs.Branches.{lt-or-le}
+
+-- the first digit decides
+module _ (k n : ℕ) where
+  abbrev choose : Bool → List ℕ
+  choose b = elim b as (λ x. List ℕ) [ true ↦ (48 + n) ∷ [] | false ↦ digits k (n / 10) ++ ((48 + n % 10) ∷ []) ]
+
+  one-digit : n < 10 → digits (suc k) n ≡ (48 + n) ∷ []
+  one-digit h = ap choose (lt-ltb n 10 h)
+
+  more-digits : 10 ≤ n → digits (suc k) n ≡ digits k (n / 10) ++ ((48 + n % 10) ∷ [])
+  more-digits h = ap choose (le-ltb n 10 h)
+
+-- one digit more to look at changes nothing where the number has no more
+fuel : (k n : ℕ) → n < 10 ^ suc k → digits (suc k) n ≡ digits (suc (suc k)) n
+fuel zero n h =
+    let l : n < 10 = omega (arith, h) in
+    one-digit 0 n l ∙ sym (one-digit 1 n l)
+fuel (suc k) n h =
+    ⊎-elim
+    (λ l. one-digit (suc k) n l ∙ sym (one-digit (suc (suc k)) n l))
+    (λ l. more-digits (suc k) n l ∙ ap (λ (ds : List ℕ). ds ++ ((48 + n % 10) ∷ [])) (fuel k (n / 10) (omega (arith, h, pow-suc 10 (suc k)))) ∙ sym (more-digits (suc (suc k)) n l))
+    (lt-or-le n 10)
+
+pub decimal-small : (n : ℕ) → n < 10 → decimal n ≡ (48 + n) ∷ []
+unfolding decimal
+decimal-small n h = one-digit 9 n h
+
+pub decimal-more : (n : ℕ) → n < 2 ^ 32 → 10 ≤ n → decimal n ≡ decimal (n / 10) ++ ((48 + n % 10) ∷ [])
+unfolding decimal
+decimal-more n h l =
+    more-digits 9 n l ∙ ap (λ (ds : List ℕ). ds ++ ((48 + n % 10) ∷ [])) (fuel 8 (n / 10) (omega arith))
+
+digits-length : (k n : ℕ) → length (digits k n) ≤ k
+digits-length zero n = omega arith
+digits-length (suc k) n =
+    ⊎-elim
+    (λ l. omega (arith, ap length (one-digit k n l)))
+    (λ l. omega (arith, simp length-append at (ap length (more-digits k n l)), digits-length k (n / 10)))
+    (lt-or-le n 10)
+
+pub decimal-length : (n : ℕ) → length (decimal n) ≤ 10
+unfolding decimal
+decimal-length n = digits-length 10 n
+
+pub signed-length : (negative : Bool) (n : ℕ) → length (signed negative n) ≤ 11
+unfolding signed pick
+signed-length true n = omega (arith, decimal-length n)
+signed-length false n = omega (arith, decimal-length n)
+
+pub field-length : (n : ℕ) → length (field (decimal n)) ≤ 11
+field-length n = omega (arith, decimal-length n)
+
+pub signed-field-length : (negative : Bool) (n : ℕ) → length (field (signed negative n)) ≤ 12
+signed-field-length negative n = omega (arith, signed-length negative n)
+
+-- the digits and one more
+pub more-length : (n : ℕ) → n < 2 ^ 32 → 10 ≤ n → length (decimal n) ≡ length (decimal (n / 10)) + 1
+more-length n h l = ap length (decimal-more n h l) ∙ length-append (decimal (n / 10)) ((48 + n % 10) ∷ [])
+
+-- the text ds stands in `out` from `at` to `r`, behind what `before` had there
+abbrev pub Put : List ℕ → List ℕ → ℕ → ℕ → List ℕ → Type 0
+Put before out at r ds = (r ≡ at + length ds) × (take r out ≡ take at before ++ ds)
+
+-- nothing
+pub put-none : (out : List ℕ) (at : ℕ) → Put out out at at []
+put-none out at = (omega arith, sym (append-nil (take at out)))
+
+-- one byte
+pub put-one : (out : List ℕ) (at b : ℕ) → at + 1 ≤ length out → Put out (set out at b) at (at + 1) (b ∷ [])
+put-one out at b h = (refl, rw add-one (take-suc-set out at b (omega arith)))
+
+-- two texts, one behind the other
+pub put-then : (x y z : List ℕ) (at k r : ℕ) (c d : List ℕ) → Put x y at k c → Put y z k r d → Put x z at r (c ++ d)
+put-then x y z at k r c d p q = (
+  rw length-append (omega (arith, p .0, q .0)),
+  q .1 ∙ ap (λ (l : List ℕ). l ++ d) (p .1) ∙ append-assoc (take at x) c d,
+)
+
+-- what room a put of at most m bytes leaves
+pub room-after : (m rest at k n o d : ℕ) → k ≡ at + d → d ≤ m → o ≡ n → at + (m + rest) ≤ n → k + rest ≤ o
+room-after m rest at k n o d e l q h = omega arith
+
+-- the digits before the last, and the last
+pub put-last : (x y : List ℕ) (at k n : ℕ) → n < 2 ^ 32 → 10 ≤ n → k + 1 ≤ length y → Put x y at k (decimal (n / 10))
+    → Put x (set y k (48 + n % 10)) at (k + 1) (decimal n)
+put-last x y at k n h l b p =
+    rw (decimal-more n h l) (put-then x y (set y k (48 + n % 10)) at k (k + 1) (decimal (n / 10)) ((48 + n % 10) ∷ []) p (put-one y k (48 + n % 10) b))
+
+-- a text copied byte by byte: one byte more, and the whole
+pub paste-more : (x y t : List ℕ) (at k : ℕ) → at + length t ≤ length x → k < length t → y ≡ paste x at t k
+    → set y (at + k) (getD t k 0) ≡ paste x at t (k + 1)
+paste-more x y t at k h l e =
+    ap (λ (o : List ℕ). set o (at + k) (getD t k 0)) e ∙ rw add-one (paste-suc x at t k 0 (omega arith) l)
+
+pub put-text : (x y t : List ℕ) (at k : ℕ) → at + length t ≤ length x → k ≤ length t → length t ≤ k → y ≡ paste x at t k
+    → Put x y at (at + k) t
+put-text x y t at k h l m e =
+    let q : k ≡ length t = omega arith in
+    (ap (λ (n : ℕ). at + n) q, ap (take (at + k)) e ∙ take-paste x at t k (omega arith) l ∙ ap (λ (n : ℕ). take at x ++ take n t) q ∙ ap (λ (l : List ℕ). take at x ++ l) (take-length t))
+
+-- one wake's field
+abbrev pub wake : ℕ → ℕ → List ℕ
+wake task why = field (decimal task ++ (58 ∷ decimal why))
+
+-- a wake more stands behind those before it
+wakes-more : (n k j : ℕ) (wakes : List ℕ) (why : ℕ) → j ≡ k + n
+    → wakeFields (suc n) k wakes why ≡ wakeFields n k wakes why ++ wake (getD wakes j 0) why
+unfolding wakeFields
+wakes-more zero k j wakes why e =
+    let q : k ≡ j = omega (arith, e) in
+    append-nil (wake (getD wakes k 0) why) ∙ ap (λ (i : ℕ). wake (getD wakes i 0) why) q
+wakes-more (suc n) k j wakes why e =
+    let f : List ℕ = wake (getD wakes k 0) why in
+    ap (λ (l : List ℕ). f ++ l) (wakes-more n (suc k) j wakes why (omega (arith, e)))
+    ∙ sym (append-assoc f (wakeFields n (suc k) wakes why) (wake (getD wakes j 0) why))
+
+pub put-wake-more : (x y z : List ℕ) (at k r n : ℕ) (wakes : List ℕ) (why : ℕ) → Put x y at k (wakeFields n 0 wakes why)
+    → Put y z k r (wake (getD wakes n 0) why) → Put x z at r (wakeFields (n + 1) 0 wakes why)
+put-wake-more x y z at k r n wakes why p q =
+    rw (add-one n, wakes-more n 0 n wakes why (omega arith))
+    (put-then x y z at k r (wakeFields n 0 wakes why) (wake (getD wakes n 0) why) p q)
+
+wake-length : (task why : ℕ) → length (wake task why) ≤ 22
+wake-length task why =
+    omega (arith, length-append (decimal task) (58 ∷ decimal why), decimal-length task, decimal-length why)
+
+pub wakes-length : (n k : ℕ) (wakes : List ℕ) (why : ℕ) → length (wakeFields n k wakes why) ≤ 22 * n
+unfolding wakeFields
+wakes-length zero k wakes why = omega arith
+wakes-length (suc n) k wakes why =
+    let f : List ℕ = wake (getD wakes k 0) why in
+    omega (arith, length-append f (wakeFields n (suc k) wakes why), wake-length (getD wakes k 0) why, wakes-length n (suc k) wakes why)
+
+-- no line is longer than 782 bytes
+pub line-length : (number : ℕ) (a : Answer) → a .woken ≤ 32 → length (lineOf number a) ≤ 782
+unfolding lineOf
+line-length number a h =
+    simp length-append
+    (omega (
+      arith,
+      decimal-length number,
+      decimal-length (a .status),
+      decimal-length (getD (a .values) 0 0),
+      signed-length (a .negative) (getD (a .values) 1 0),
+      decimal-length (getD (a .values) 2 0),
+      decimal-length (getD (a .values) 3 0),
+      decimal-length (a .running),
+      wakes-length (a .woken) 0 (a .wakes) (a .why),
+    ))

@@ -1,0 +1,160 @@
+// Numbers out of a script's bytes, and an answer's line into a listing's. (scope's specs/Script.antt and Listing.antt.)
+use scope::Answer;
+ghost use mathlib.Core.Path.{_≡_};
+ghost use mathlib.Core.Bool.{Bool, true, false};
+ghost use mathlib.Core.List.{[], _∷_, _++_};
+ghost use Prim.Native.Nat.{ℕ, _+_, _*_, _≤_, _<_};
+ghost use lib.ListN.{length, take};
+ghost use Rattle.scope.specs.Script.{number32, isScript};
+ghost use Rattle.scope.specs.Listing.{decimal, signed, field, wakeFields, lineOf, refusedLine};
+
+fn wide(b: u8) -> u32
+    ensures { λ r. ⌜ (r ≡ b) × (r < 256) ⌝ }
+{
+    b as u32
+}
+
+// The little-endian number in the four bytes at a place.
+pub fn read_number(s: &[u8], at: usize) -> u32
+    requires { ⌜ at + 4 ≤ length (now s) ⌝ }
+    ensures { λ r. ⌜ r ≡ number32 (now (s .entry)) at ⌝ }
+{
+    wide(s[at]) + wide(s[at + 1]) * 256 + wide(s[at + 2]) * 65536 + wide(s[at + 3]) * 16777216
+}
+
+// Whether the bytes are a script, and no refusal of it applies.
+pub fn is_script(s: &[u8]) -> bool
+    ensures { λ r. ⌜ r ≡ isScript (now (s .entry)) ⌝ }
+{
+    if 65536 < s.len() {
+        return false;
+    }
+    if s.len() < 16 {
+        return false;
+    }
+    let count = read_number(s, 0) as u64;
+    let offset = read_number(s, 4) as u64;
+    if offset < 16 {
+        return false;
+    }
+    if (s.len() as u64) < offset + 28 * count {
+        return false;
+    }
+    if 15 < read_number(s, 8) {
+        return false;
+    }
+    read_number(s, 12) == 0
+}
+
+// Puts the number's decimal digits at a place, and answers the place after them.
+pub fn put_decimal(out: &mut [u8], at: usize, n: u32) -> usize
+    requires { ⌜ at + length (decimal n) ≤ length (now out) ⌝ }
+    ensures { λ r. ⌜ (r ≡ at + length (decimal n)) × (take r (now (out .exit)) ≡ take at (now (out .entry)) ++ decimal n) ⌝ }
+{
+    if n < 10 {
+        out[at] = (48 + n) as u8;
+        at + 1
+    } else {
+        let k = put_decimal(out, at, n / 10);
+        out[k] = (48 + n % 10) as u8;
+        k + 1
+    }
+}
+
+// Puts one byte at a place, and answers the place after it.
+fn put_byte(out: &mut [u8], at: usize, b: u8) -> usize
+    requires { ⌜ at + 1 ≤ length (now out) ⌝ }
+    ensures { λ r. ⌜ (r ≡ at + length (b ∷ [])) × (take r (now (out .exit)) ≡ take at (now (out .entry)) ++ (b ∷ [])) ⌝ }
+{
+    out[at] = b;
+    at + 1
+}
+
+// The same for a space and a number.
+fn put_field(out: &mut [u8], at: usize, n: u32) -> usize
+    requires { ⌜ at + 11 ≤ length (now out) ⌝ }
+    ensures { λ r. ⌜ (r ≡ at + length (field (decimal n))) × (take r (now (out .exit)) ≡ take at (now (out .entry)) ++ field (decimal n)) ⌝ }
+{
+    let k = put_byte(out, at, b' ');
+    put_decimal(out, k, n)
+}
+
+// The same with a minus sign where the number is negative.
+fn put_signed_field(out: &mut [u8], at: usize, negative: bool, n: u32) -> usize
+    requires { ⌜ at + 12 ≤ length (now out) ⌝ }
+    ensures { λ r. ⌜ (r ≡ at + length (field (signed negative n))) × (take r (now (out .exit)) ≡ take at (now (out .entry)) ++ field (signed negative n)) ⌝ }
+{
+    if negative {
+        let k = put_byte(out, at, b' ');
+        let m = put_byte(out, k, b'-');
+        put_decimal(out, m, n)
+    } else {
+        put_field(out, at, n)
+    }
+}
+
+// The same for a wake: a space, the task, a colon and its status.
+fn put_wake(out: &mut [u8], at: usize, task: u32, why: u32) -> usize
+    requires { ⌜ at + 22 ≤ length (now out) ⌝ }
+    ensures { λ r. ⌜ (r ≡ at + length (field (decimal task ++ (58 ∷ decimal why)))) × (take r (now (out .exit)) ≡ take at (now (out .entry)) ++ field (decimal task ++ (58 ∷ decimal why))) ⌝ }
+{
+    let k = put_field(out, at, task);
+    let m = put_byte(out, k, b':');
+    put_decimal(out, m, why)
+}
+
+// The same for the first `woken` of a wake list, in order.
+fn put_wakes(out: &mut [u8], at: usize, wakes: &[u32], woken: usize, why: u32) -> usize
+    requires { ⌜ (at + 22 * woken ≤ length (now out)) × (woken ≤ length (now wakes)) ⌝ }
+    ensures { λ r. ⌜ (r ≡ at + length (wakeFields woken 0 (now (wakes .entry)) why)) × (take r (now (out .exit)) ≡ take at (now (out .entry)) ++ wakeFields woken 0 (now (wakes .entry)) why) ⌝ }
+{
+    let mut r = at;
+    let mut k = 0;
+    while k < woken {
+        r = put_wake(out, r, wakes[k], why);
+        k += 1;
+    }
+    r
+}
+
+// The longest line: a record number of 10 digits, six fields of 11 bytes, a minus sign, 32 wakes of 22, a newline.
+pub const LONGEST_LINE: usize = 782;
+
+// Puts an answer's line at a place, and answers the place after it.
+pub fn put_line(out: &mut [u8], at: usize, number: u32, a: Answer) -> usize
+    requires { ⌜ (at + 782 ≤ length (now out)) × (a .woken ≤ 32) ⌝ }
+    ensures { λ r. ⌜ (r ≡ at + length (lineOf number a)) × (take r (now (out .exit)) ≡ take at (now (out .entry)) ++ lineOf number a) ⌝ }
+{
+    let values = a.values;
+    let wakes = a.wakes;
+    let p0 = put_decimal(out, at, number);
+    let p1 = put_field(out, p0, a.status);
+    let p2 = put_field(out, p1, values[0]);
+    let p3 = put_signed_field(out, p2, a.negative, values[1]);
+    let p4 = put_field(out, p3, values[2]);
+    let p5 = put_field(out, p4, values[3]);
+    let p6 = put_field(out, p5, a.running);
+    let p7 = put_wakes(out, p6, &wakes, a.woken, a.why);
+    put_byte(out, p7, b'\n')
+}
+
+// Puts the bytes of a text at a place, and answers the place after them.
+fn put_text(out: &mut [u8], at: usize, text: &[u8]) -> usize
+    requires { ⌜ at + length (now text) ≤ length (now out) ⌝ }
+    ensures { λ r. ⌜ (r ≡ at + length (now (text .entry))) × (take r (now (out .exit)) ≡ take at (now (out .entry)) ++ now (text .entry)) ⌝ }
+{
+    let mut k = 0;
+    while k < text.len() {
+        out[at + k] = text[k];
+        k += 1;
+    }
+    at + k
+}
+
+// Puts the one line of a script that is refused, and answers the place after it.
+pub fn put_refused(out: &mut [u8], at: usize) -> usize
+    requires { ⌜ at + 15 ≤ length (now out) ⌝ }
+    ensures { λ r. ⌜ (r ≡ at + length refusedLine) × (take r (now (out .exit)) ≡ take at (now (out .entry)) ++ refusedLine) ⌝ }
+{
+    put_text(out, at, b"script refused\n")
+}
