@@ -57,7 +57,17 @@ fn records(file: &[u8]) -> [u32; 3584] {
 }
 
 // One step, with the state checked or not.
-fn one(s: State, checked: bool, call: u32, mark: u32, a: u32, b: u32, c: u32, d: u32, e: u32) -> Answer {
+fn one(
+    s: State,
+    checked: bool,
+    call: u32,
+    mark: u32,
+    a: u32,
+    b: u32,
+    c: u32,
+    d: u32,
+    e: u32,
+) -> Answer {
     if checked {
         return kernel::step(s, call, mark, a, b, c, d, e);
     }
@@ -73,7 +83,17 @@ fn play(r: &[u32], from: usize, to: usize, checked: bool, p: Played) -> Played
     let mut i = from;
     while i < to {
         let at = i * 7;
-        let a = one(s, checked, r[at], r[at + 1], r[at + 2], r[at + 3], r[at + 4], r[at + 5], r[at + 6]);
+        let a = one(
+            s,
+            checked,
+            r[at],
+            r[at + 1],
+            r[at + 2],
+            r[at + 3],
+            r[at + 4],
+            r[at + 5],
+            r[at + 6],
+        );
         sum = summed(sum, a);
         s = a.state;
         i += 1;
@@ -99,7 +119,16 @@ fn rounds(file: &[u8]) -> u32 {
     let again = p.state;
     let mut left = number(file, 2);
     while 0 < left {
-        p = play(&r, first, n, checked, Played { state: again, sum: p.sum });
+        p = play(
+            &r,
+            first,
+            n,
+            checked,
+            Played {
+                state: again,
+                sum: p.sum,
+            },
+        );
         left -= 1;
     }
     p.sum

@@ -22,37 +22,6 @@ use Rattle.laws.proofs.Branches.{pick-yes, pick-no, picked-yes, picked-no}
 use Rattle.laws.proofs.Searches.{least-true}
 use Rattle.tables.proofs.Laws.{found-below, usable-at, usable-serial}
 
--- what was found, and the answer in each case
-module _ (o r : Found) (s : State) (f : ℕ → Answer) (finds : r ≡ o) where
-  pub on-at : {a : Answer} {i : ℕ} → r ≡ At i → a ≡ f i → a ≡ onFound o s f
-  unfolding onFound
-  on-at e p = rw (← finds, e) p
-
-  pub on-deleted : {a : Answer} → r ≡ Deleted → a ≡ plain s OBJECT-DELETED → a ≡ onFound o s f
-  unfolding onFound
-  on-deleted e p = rw (← finds, e) p
-
-  pub on-invalid : {a : Answer} → r ≡ Invalid → a ≡ plain s INVALID-ID → a ≡ onFound o s f
-  unfolding onFound
-  on-invalid e p = rw (← finds, e) p
-
-module _ (n : ℕ) (serial : List ℕ) (live : List Bool) (size : length serial ≡ n) where
-  -- the slot that an identifier names lies in the table
-  pub named-below : (id : ℕ) {r : Found} {i : ℕ} → r ≡ found serial live id → r ≡ At i → i < n
-  named-below id p q = omega (arith, found-below serial live id (sym p ∙ q))
-
-  -- the slot that creation takes has a serial left
-  pub serial-left : {i : ℕ} → i ≡ lowestUsable serial live → i < n → getD serial i 0 < 65535
-  serial-left e h = rw e (usable-serial serial live _ (usable-at serial live (omega arith)))
-
--- a choice by whether slot i lies past the end of a column of n slots
-module _ {A B : Type 0} (n i : ℕ) (l : List B) (x y : A) {r : A} (size : length l ≡ n) where
-  pub pick-outside : n ≤ i → r ≡ x → r ≡ pick (leb (length l) i) x y
-  pick-outside h e = pick-yes _ x y (le-leb (length l) i (omega arith)) e
-
-  pub pick-inside : i < n → r ≡ y → r ≡ pick (leb (length l) i) x y
-  pick-inside h e = pick-no _ x y (lt-leb (length l) i (omega arith)) e
-
 -- the marks of a pool have a place for each of its buffers
 few : (long size : ℕ) → buffersOf long size ≤ 64
 unfolding buffersOf

@@ -171,19 +171,6 @@ pub fn sem_ident(s: State, name: u32) -> Answer
     ident_at(s, i)
 }
 
-// "time_out is 1 to 65,535 ticks, or 4,294,967,295 for FOREVER"
-pub fn is_time_out(ticks: u32) -> bool
-    ensures { λ r. ⌜ r ≡ isTimeOut ticks ⌝ }
-{
-    if ticks == 4294967295 {
-        return true;
-    }
-    if 1 <= ticks {
-        return ticks <= 65535;
-    }
-    false
-}
-
 // Whom a task stands behind: "FIFO queues grow at the end. Others are by priority at the moment of joining".
 fn queue_key(fifo: bool, priority: u8) -> u8
     ensures { λ r. ⌜ r ≡ queueKey fifo priority ⌝ }
@@ -235,7 +222,7 @@ fn lacks_time_out(options: u32, ticks: u32) -> bool
     ensures { λ r. ⌜ r ≡ (eqb options 0 && not (isTimeOut ticks)) ⌝ }
 {
     if options == 0 {
-        return !is_time_out(ticks);
+        return !times::is_time_out(ticks);
     }
     false
 }

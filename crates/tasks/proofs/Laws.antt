@@ -21,25 +21,7 @@ use Rattle.scope.specs.Views.{readyWith}
 use Rattle.scope.specs.Answers.{plain, onFound}
 use Rattle.scope.specs.Tasks.{taskFound}
 use Rattle.laws.proofs.Branches.{first-fails, second-fails}
-use Rattle.tables.proofs.Laws.{found-below, usable-at, usable-serial}
-
--- a call that names an object: `r` is what the code found, `w` what its identifier names
-module _ (s : State) (f : ℕ → Answer) where
-  pub on-at : {r w : Found} {t : ℕ} {a : Answer} → r ≡ w → r ≡ At t → a ≡ f t → a ≡ onFound w s f
-  unfolding onFound
-  on-at p q e = rw (← p, q) e
-
-  pub on-deleted : {r w : Found} {a : Answer} → r ≡ w → r ≡ Deleted → a ≡ plain s OBJECT-DELETED → a ≡ onFound w s f
-  unfolding onFound
-  on-deleted p q e = rw (← p, q) e
-
-  pub on-invalid : {r w : Found} {a : Answer} → r ≡ w → r ≡ Invalid → a ≡ plain s INVALID-ID → a ≡ onFound w s f
-  unfolding onFound
-  on-invalid p q e = rw (← p, q) e
-
--- what an identifier names has a place in its table, of any size
-pub found-inside : (serial : List ℕ) (live : List Bool) (id : ℕ) {size t : ℕ} {r : Found} → length serial ≡ size → r ≡ found serial live id → r ≡ At t → t < size
-found-inside serial live id n p q = omega (arith, found-below serial live id (sym p ∙ q))
+use Rattle.tables.proofs.Laws.{named-below}
 
 -- a task that an identifier names, SELF among them, has a place in the table
 pub task-inside : (s : State) (id : ℕ) {r : Found} {t : ℕ} → length (s .tasks .serial) ≡ 32 → r ≡ taskFound s id → r ≡ At t → t < 32
@@ -50,7 +32,7 @@ task-inside s id {r} {t} n p q = go (eqb id 0) (ltb (s .running) 32) refl (sym p
         → pick a (pick b (At (s .running)) Invalid) (found (s .tasks .serial) (s .tasks .live) id) ≡ At t → t < 32
     go true true l e = let h : t ≡ s .running = cc in omega (arith, ltb-true (s .running) 32 l)
     go true false l e = let z : _≡_ {A = ℕ} 0 1 = cc in absurd (omega arith)
-    go false b l e = found-inside (s .tasks .serial) (s .tasks .live) id n refl e
+    go false b l e = named-below 32 (s .tasks .serial) (s .tasks .live) n id refl e
 
 -- whether a slot lies past a table's end: m is the table's length, n its size
 pub past-end : {m n t : ℕ} → m ≡ n → n ≤ t → leb m t ≡ true
@@ -58,12 +40,6 @@ past-end {m} {n} {t} e h = le-leb m t (omega arith)
 
 pub before-end : {m n t : ℕ} → m ≡ n → t < n → leb m t ≡ false
 before-end {m} {n} {t} e h = lt-leb m t (omega arith)
-
--- a slot that creation takes has a serial left, in a table of any size
-pub serial-left : (size : ℕ) (serial : List ℕ) (live : List Bool) {t : ℕ} → length serial ≡ size → t ≡ lowestUsable serial live
-    → t < size → getD serial t 0 < lastSerial
-serial-left size serial live {t} n e h =
-    rw e (usable-serial serial live _ (usable-at serial live (omega arith)))
 
 -- whether a task on seat x is ready, by three tests in order
 module _ (started suspended : Bool) (x : ℕ) where

@@ -11,23 +11,7 @@ ghost use Prim.Native.Nat.{ℕ, _+_, _<_, _≤_};
 ghost use lib.Dec.{eqb};
 ghost use Rattle.scope.specs.Seats.{waitsOn};
 ghost use Rattle.scope.specs.Semaphores.{noneWoken};
-ghost use Rattle.scope.specs.Ticks.{timeLeft, timesLeft, wakeDue, tick};
-
-// What a tick leaves of a time_out. "Its time_out stands still while it is suspended."
-fn time_left(suspended: bool, left: u32) -> u32
-    ensures { λ r. ⌜ r ≡ timeLeft suspended left ⌝ }
-{
-    if suspended {
-        return left;
-    }
-    if left == 4294967295 {
-        return left;
-    }
-    if left == 0 {
-        return 0;
-    }
-    left - 1
-}
+ghost use Rattle.scope.specs.Ticks.{timesLeft, wakeDue, tick};
 
 // One is taken from each running time_out.
 fn times_left(suspended: [bool; 32], left: [u32; 32]) -> [u32; 32]
@@ -36,7 +20,7 @@ fn times_left(suspended: [bool; 32], left: [u32; 32]) -> [u32; 32]
     let mut r = left;
     let mut k: usize = 0;
     while k < 32 {
-        let x = time_left(suspended[k], r[k]);
+        let x = times::time_left(suspended[k], r[k]);
         r[k] = x;
         k += 1;
     }

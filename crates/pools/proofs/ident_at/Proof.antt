@@ -4,7 +4,7 @@ use mathlib.Core.Path.{_≡_}
 use lib.ListN.{length}
 use borrow.Author.Needs.{needs}
 use Rattle.scope.specs.Pools.{poolIdentAt}
-use Rattle.pools.proofs.Laws.{pick-outside, pick-inside}
+use Rattle.laws.proofs.Arrays.{pick-outside, pick-inside}
 use Rattle.pools.proofs.ident_at.Statement.{statement}
 use Rattle.pools.proofs.ident_at.Tie as tie
 

@@ -6,7 +6,7 @@ use borrow.Author.Needs.{needs}
 use borrow.Author.Tests.{lt-ltb, le-ltb, not-true, not-false}
 use Rattle.scope.specs.Pools.{poolCreate}
 use Rattle.laws.proofs.Branches.{pick-yes, pick-no}
-use Rattle.pools.proofs.Laws.{serial-left}
+use Rattle.tables.proofs.Laws.{serial-left}
 use Rattle.pools.proofs.pool_create.Statement.{statement}
 use Rattle.pools.proofs.pool_create.Tie as tie
 

@@ -3,7 +3,8 @@
 use mathlib.Core.Path.{_≡_}
 use lib.ListN.{length}
 use borrow.Author.Needs.{needs}
-use Rattle.pools.proofs.Laws.{on-at, on-deleted, on-invalid, named-below}
+use Rattle.answers.proofs.Named.{on-at, on-deleted, on-invalid}
+use Rattle.tables.proofs.Laws.{named-below}
 use Rattle.pools.proofs.pool_delete.Statement.{statement}
 use Rattle.pools.proofs.pool_delete.Tie as tie
 

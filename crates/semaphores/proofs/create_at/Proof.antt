@@ -5,7 +5,7 @@ use mathlib.Core.Path.{_≡_}
 use lib.ListN.{length}
 use borrow.Author.Needs.{needs}
 use Rattle.scope.specs.Semaphores.{semCreateAt}
-use Rattle.semaphores.proofs.Laws.{pick-outside, pick-inside}
+use Rattle.laws.proofs.Arrays.{pick-outside, pick-inside}
 use Rattle.semaphores.proofs.create_at.Statement.{statement}
 use Rattle.semaphores.proofs.create_at.Tie as tie
 

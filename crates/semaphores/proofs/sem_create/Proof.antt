@@ -6,7 +6,7 @@ use borrow.Author.Needs.{needs}
 use borrow.Author.Tests.{lt-ltb, le-ltb}
 use Rattle.scope.specs.Semaphores.{semCreate}
 use Rattle.laws.proofs.Branches.{pick-yes, pick-no}
-use Rattle.semaphores.proofs.Laws.{serial-left}
+use Rattle.tables.proofs.Laws.{serial-left}
 use Rattle.semaphores.proofs.sem_create.Statement.{statement}
 use Rattle.semaphores.proofs.sem_create.Tie as tie
 

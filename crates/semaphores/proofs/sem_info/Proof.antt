@@ -3,7 +3,8 @@
 use mathlib.Core.Path.{_≡_}
 use lib.ListN.{length}
 use borrow.Author.Needs.{needs}
-use Rattle.semaphores.proofs.Laws.{on-at, on-deleted, on-invalid, named-below}
+use Rattle.answers.proofs.Named.{on-at, on-deleted, on-invalid}
+use Rattle.tables.proofs.Laws.{named-below}
 use Rattle.semaphores.proofs.sem_info.Statement.{statement}
 use Rattle.semaphores.proofs.sem_info.Tie as tie
 

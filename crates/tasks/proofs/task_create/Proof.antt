@@ -4,7 +4,7 @@ use mathlib.Core.Path.{_≡_}
 use lib.ListN.{length}
 use borrow.Author.Tests.{lt-ltb, le-ltb}
 use Rattle.laws.proofs.Branches.{pick-yes, pick-no}
-use Rattle.tasks.proofs.Laws.{serial-left}
+use Rattle.tables.proofs.Laws.{serial-left}
 use Rattle.scope.specs.Tasks.{taskCreate}
 use borrow.Author.Needs.{needs}
 use Rattle.tasks.proofs.task_create.Statement.{statement}

@@ -2,7 +2,8 @@
 -- Assumes nothing.
 use mathlib.Core.Path.{_≡_}
 use lib.ListN.{length}
-use Rattle.tasks.proofs.Laws.{on-at, on-deleted, on-invalid, task-inside}
+use Rattle.answers.proofs.Named.{on-at, on-deleted, on-invalid}
+use Rattle.tasks.proofs.Laws.{task-inside}
 use borrow.Author.Needs.{needs}
 use Rattle.tasks.proofs.task_set_priority.Statement.{statement}
 use Rattle.tasks.proofs.task_set_priority.Tie as tie
@@ -29,13 +30,13 @@ plain-requires-2 : tie.Need-plain-requires-2
 plain-requires-2 c κs = search needs
 
 returns : tie.Need-returns
-returns c = on-at _ _ (c .before .before .before .before .find .ensures) (c .before .before .t .given .1) (c .set-priority-at .ensures)
+returns c = on-at _ _ _ _ (c .before .before .before .before .find .ensures) (c .before .before .t .given .1) (c .set-priority-at .ensures)
 
 returns-2 : tie.Need-returns-2
-returns-2 c = on-deleted _ _ (c .before .before .before .find .ensures) (c .before .enum-told .given .1) (c .plain .ensures)
+returns-2 c = on-deleted _ _ _ _ (c .before .before .before .find .ensures) (c .before .enum-told .given .1) (c .plain .ensures)
 
 returns-3 : tie.Need-returns-3
-returns-3 c = on-invalid _ _ (c .before .before .before .find .ensures) (c .before .enum-told2 .given .1) (c .plain2 .ensures)
+returns-3 c = on-invalid _ _ _ _ (c .before .before .before .find .ensures) (c .before .enum-told2 .given .1) (c .plain2 .ensures)
 
 pub task-set-priority-spec : {M : Type 1} → statement M
 task-set-priority-spec =
