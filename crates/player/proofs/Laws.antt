@@ -1,0 +1,192 @@
+-- Playing a script record by record gives its listing: a sound state's step is its answer, which leaves a sound state, and a line
+-- put behind others takes one from those to come.
+-- Assumes nothing.
+use Prim.Native.Nat.{ℕ, _+_, _*_, _-_, _≤_, _<_}
+use native.Mathlib.Omega.{arith}
+use native.Mathlib.Numerals.{add-one}
+use mathlib.Core.Path.{_≡_, refl, sym, ap, subst, _∙_}
+use mathlib.Core.Logic.{⊎-elim}
+use mathlib.Core.Bool.{true}
+use mathlib.Core.List.{List, _++_, append-assoc}
+use lib.ListN.{length, take, length-append}
+use lib.Dec.{ltb, leb}
+use borrow.Author.Tests.{leb-true, le-ltb}
+use Rattle.scope.specs.declared.State.{State}
+use Rattle.scope.specs.declared.Answer.{Answer}
+use Rattle.scope.specs.declared.Fresh.{Fresh}
+use Rattle.scope.specs.Fresh.{freshState, fresh}
+use Rattle.scope.specs.Step.{answered}
+use Rattle.scope.specs.Script.{number32, recordCount, firstOffset, firstPriority, isScript, stepAt}
+use Rattle.scope.specs.Listing.{lineOf, linesFrom, listing}
+use Rattle.laws.proofs.Branches.{both-true, picked-no, lt-or-le}
+use Rattle.kernel.proofs.Laws.{checked-sound}
+use Rattle.histories.specs.Sound.{Sound}
+use Rattle.histories.proofs.Meaning.{sound-right}
+use Rattle.histories.proofs.Stays.{step-keeps}
+use Rattle.histories.proofs.Fresh.{fresh-sound}
+use Rattle.text.proofs.Laws.{line-length}
+use Rattle.player.specs.declared.Place.{Place}
+use Rattle.player.specs.declared.Part.{Part}
+use Rattle.player.specs.Place.{toCome, Playing, Begun, Played, PlayedPart}
+use Rattle.player.proofs.Wakes.{woken-few}
+
+-- what the test of a script says
+pub record Header (script : List ℕ) : Type 0 where
+  pub small : length script ≤ 65536
+  pub long : 16 ≤ length script
+  pub start : 16 ≤ firstOffset script
+  pub within : firstOffset script + 28 * recordCount script ≤ length script
+  pub urgent : firstPriority script ≤ 15
+
+pub header : (script : List ℕ) → isScript script ≡ true → Header script
+unfolding isScript
+header script e =
+    let a = both-true (leb (length script) 65536) _ e in
+    let b = both-true (leb 16 (length script)) _ (a .1) in
+    let c = both-true (leb 16 (firstOffset script)) _ (b .1) in
+    let d = both-true (leb (firstOffset script + 28 * recordCount script) (length script)) _ (c .1) in
+    let f = both-true (leb (firstPriority script) 15) _ (d .1) in
+    record {
+      small = leb-true _ _ (a .0);
+      long = leb-true _ _ (b .0);
+      start = leb-true _ _ (c .0);
+      within = leb-true _ _ (d .0);
+      urgent = leb-true _ _ (f .0);
+    }
+
+fresh-is : (p : ℕ) → p ≤ 15 → fresh p .state ≡ freshState p
+unfolding fresh
+fresh-is p h = ap (λ (f : Fresh). f .state) (picked-no (ltb 15 p) _ _ (le-ltb _ _ h))
+
+listing-is : (script : List ℕ) → isScript script ≡ true
+    → listing script ≡ linesFrom script (recordCount script) 1 (firstOffset script) (freshState (firstPriority script))
+unfolding listing
+listing-is script e = rw (listing, e)
+
+-- the place before the first record
+pub begun : (script : List ℕ) (p : Place) → isScript script ≡ true → p .left ≡ recordCount script → p .number ≡ 1 → p .at ≡ firstOffset script
+    → p .state ≡ fresh (firstPriority script) .state → Begun script p
+unfolding toCome
+begun script p e left number at state =
+    let h = header script e in
+    let s : p .state ≡ freshState (firstPriority script) = state ∙ fresh-is _ (h .urgent) in
+    record {
+      whole = rw (left, number, at, s) (sym (listing-is script e));
+      playing =
+          record {
+            small = h .small;
+            start = omega (arith, at, h .start);
+            within = omega (arith, left, at, h .within);
+            numbered = omega (arith, left, number, h .within, h .small, h .start);
+            state = subst Sound (sym s) (fresh-sound _ (h .urgent));
+          };
+    }
+
+-- the step of a record on a sound state
+module _ (script : List ℕ) (at : ℕ) (s : State) (ok : Sound s) where
+  abbrev answerAt : Answer
+  answerAt =
+      answered s (number32 script at) (number32 script (at + 4)) (number32 script (at + 8)) (number32 script (at + 12))
+      (number32 script (at + 16)) (number32 script (at + 20)) (number32 script (at + 24))
+
+  pub step-is : {r : Answer} → r ≡ answerAt → r ≡ stepAt script at s
+  unfolding stepAt
+  step-is e = checked-sound s _ _ _ _ _ _ _ (sound-right s ok) e
+
+  pub step-sound : Sound (stepAt script at s .state)
+  unfolding stepAt
+  step-sound = step-keeps s ok _ _ _ _ _ _ _
+
+  pub step-few : stepAt script at s .woken ≤ 32
+  step-few = subst (λ (r : Answer). r .woken ≤ 32) (step-is refl) (woken-few s _ _ _ _ _ _ _)
+
+line-some : (n : ℕ) (a : Answer) → 0 < length (lineOf n a)
+unfolding lineOf
+line-some n a = simp length-append (omega arith)
+
+-- one record: its line first, then those after it
+lines-are : (script : List ℕ) (n m k at : ℕ) (s : State) → m + 1 ≡ n
+    → linesFrom script n k at s ≡ lineOf k (stepAt script at s) ++ linesFrom script m (k + 1) (at + 28) (stepAt script at s .state)
+unfolding linesFrom
+lines-are script n m k at s e = rw (← e, add-one m, add-one k)
+
+pub played : (script : List ℕ) (p : Place) (before out : List ℕ) (k : ℕ) (r : Part) (a : Answer) → Playing script p → 1 ≤ p .left
+    → a ≡ stepAt script (p .at) (p .state) → k + 782 ≤ length before → length out ≡ length before
+    → r .written ≡ k + length (lineOf (p .number) a)
+    → take (r .written) out ≡ take k before ++ lineOf (p .number) a
+    → r .place .left + 1 ≡ p .left → r .place .number ≡ p .number + 1 → r .place .at ≡ p .at + 28 → r .place .state ≡ a .state
+    → Played script p before k out r
+unfolding toCome
+played script p before out k r a h some is room same written put left number at state =
+    let few : a .woken ≤ 32 = subst (λ (x : Answer). x .woken ≤ 32) (sym is) (step-few script (p .at) (p .state) (h .state)) in
+    let s : r .place .state ≡ stepAt script (p .at) (p .state) .state = state ∙ ap (λ (x : Answer). x .state) is in
+    record {
+      put =
+          rw (put, lines-are script (p .left) (r .place .left) (p .number) (p .at) (p .state) left, number, at, s, ← is)
+          (append-assoc (take k before) (lineOf (p .number) a) _);
+      grows = omega (arith, written, line-some (p .number) a);
+      room = omega (arith, written, line-length (p .number) a few);
+      fewer = left;
+      playing =
+          record {
+            small = h .small;
+            start = omega (arith, at, h .start);
+            within = omega (arith, left, at, h .within);
+            numbered = omega (arith, left, number, h .numbered);
+            state = subst Sound (sym s) (step-sound script (p .at) (p .state) (h .state));
+          };
+    }
+
+-- while records are played: k bytes were written since place p, and none only if no record was played
+pub record Going (script : List ℕ) (p : Place) (out₀ out : List ℕ) (q : Place) (k : ℕ) : Type 0 where
+  pub put : take k out ++ toCome script q ≡ toCome script p
+  pub room : k ≤ length out
+  pub same : length out ≡ length out₀
+  pub fewer : q .left ≤ p .left
+  pub still : q .left ≡ p .left → k ≡ 0
+  pub onward : q .left < p .left → 0 < k
+  pub playing : Playing script q
+
+module _ (script : List ℕ) (p : Place) (out₀ : List ℕ) where
+  pub going-first : Playing script p → Going script p out₀ out₀ p 0
+  going-first h =
+      record {
+        put = refl;
+        room = omega arith;
+        same = refl;
+        fewer = omega arith;
+        still = λ e. refl;
+        onward = λ l. omega arith;
+        playing = h;
+      }
+
+  pub going-more : (out next : List ℕ) (q : Place) (k : ℕ) (r : Part) → Going script p out₀ out q k → Played script q out k next r
+      → length next ≡ length out → Going script p out₀ next (r .place) (r .written)
+  going-more out next q k r g d e =
+      record {
+        put = d .put ∙ g .put;
+        room = d .room;
+        same = e ∙ g .same;
+        fewer = omega (arith, d .fewer, g .fewer);
+        still = λ i. absurd (omega (arith, d .fewer, g .fewer));
+        onward = λ l. omega (arith, d .grows);
+        playing = d .playing;
+      }
+
+  pub going-done : (out : List ℕ) (q : Place) (k : ℕ) (r : Part) → Going script p out₀ out q k → (1 ≤ q .left → length out < k + 782)
+      → r .place ≡ q → r .written ≡ k → PlayedPart script p out r
+  going-done out q k r g stop place written =
+      record {
+        put = rw (place, written) (g .put);
+        room = omega (arith, written, g .room);
+        onward = λ some wide. rw (place, written) (moved some wide, g .onward (moved some wide));
+        playing = rw place (g .playing);
+      }
+    where
+      moved : 1 ≤ p .left → 782 ≤ length out → q .left < p .left
+      moved some wide =
+          ⊎-elim (λ l. l)
+          (λ l.
+          let e : q .left ≡ p .left = omega (arith, g .fewer) in
+          absurd (omega (arith, g .still e, stop (omega arith))))
+          (lt-or-le (q .left) (p .left))
