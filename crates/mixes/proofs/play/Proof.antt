@@ -1,3 +1,4 @@
+use native.Mathlib.Omega.{arith}
 use Prim.Native.Nat.{ℕ, _≤_, _-_}
 use mathlib.Core.Path.{_≡_}
 use lib.ListN.{length}
@@ -84,17 +85,29 @@ shared-slice-read-one-7 c = search needs
 one-requires : tie.Need-one-requires Inv-loop μ-loop
 one-requires c κs = search needs
 
+array-read-summed : tie.Need-array-read-summed Inv-loop μ-loop
+array-read-summed c = search needs
+
+array-read-summed-2 : tie.Need-array-read-summed-2 Inv-loop μ-loop
+array-read-summed-2 c = search needs
+
+cast-summed : tie.Need-cast-summed Inv-loop μ-loop
+cast-summed c = search needs
+
+array-read-summed-3 : tie.Need-array-read-summed-3 Inv-loop μ-loop
+array-read-summed-3 c = search needs
+
 summed-requires : tie.Need-summed-requires Inv-loop μ-loop
 summed-requires c κs = search needs
 
 add-i : tie.Need-add-i Inv-loop μ-loop
-add-i c = search needs
+add-i c = omega (arith, c .before .before .before .before .before .before .before .before .before .before .before .before .before .loop-test .taken, c .before .before .before .before .before .before .before .before .before .before .before .before .before .before .loop .inv .0)
 
 loop-less : tie.Need-loop-less Inv-loop μ-loop
 loop-less c = search needs
 
 loop-again : tie.Need-loop-again Inv-loop μ-loop
-loop-again c = search needs
+loop-again c = c .before .before .before .before .before .before .before .before .before .before .before .before .before .before .loop .inv
 
 returns : tie.Need-returns Inv-loop μ-loop
 returns c = search needs
@@ -128,6 +141,10 @@ play-spec =
     mul-one-7
     shared-slice-read-one-7
     one-requires
+    array-read-summed
+    array-read-summed-2
+    cast-summed
+    array-read-summed-3
     summed-requires
     add-i
     loop-less
