@@ -24,3 +24,4 @@ pub mod Staying
 pub mod Arriving
 pub mod Turns
 pub mod Order
+pub mod Never

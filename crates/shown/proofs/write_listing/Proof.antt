@@ -6,8 +6,8 @@ use lib.ListN.{length}
 use borrow.Author.Needs.{needs}
 use Rattle.io.proofs.Counting.{counts}
 use Rattle.player.specs.Place.{Playing}
-use Rattle.play.proofs.write_listing.Statement.{statement}
-use Rattle.play.proofs.write_listing.Tie as tie
+use Rattle.shown.proofs.write_listing.Statement.{statement}
+use Rattle.shown.proofs.write_listing.Tie as tie
 
 abbrev Inv-loop : tie.InvT-loop
 Inv-loop script out₀ p₀ out p = Playing script p × (782 ≤ length out) × (length out ≡ length out₀)

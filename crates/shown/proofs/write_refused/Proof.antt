@@ -6,8 +6,8 @@ use lib.ListN.{length}
 use Rattle.io.proofs.Counting.{counts}
 use Rattle.scope.specs.Listing.{refusedLine}
 use borrow.Author.Needs.{needs}
-use Rattle.play.proofs.write_refused.Statement.{statement}
-use Rattle.play.proofs.write_refused.Tie as tie
+use Rattle.shown.proofs.write_refused.Statement.{statement}
+use Rattle.shown.proofs.write_refused.Tie as tie
 
 refused-within : (n o r : ℕ) → r ≡ 0 + length refusedLine → o ≡ n → 782 ≤ n → r ≤ o
 unfolding refusedLine
