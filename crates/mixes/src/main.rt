@@ -27,7 +27,13 @@ fn wide(x: u32) -> u64
 
 // The checksum with an answer's status, running task, first two values, number of wakes and first wake.
 fn summed(sum: u32, status: u32, running: u32, v0: u32, v1: u32, woken: u32, first: u32) -> u32 {
-    mixed(mixed(mixed(mixed(mixed(mixed(sum, status), running), v0), v1), woken), first)
+    mixed(
+        mixed(
+            mixed(mixed(mixed(mixed(sum, status), running), v0), v1),
+            woken,
+        ),
+        first,
+    )
 }
 
 // The k-th number of the file; 0 past its end.
@@ -93,7 +99,15 @@ fn play(r: &[u32], from: usize, to: usize, checked: bool, p: Played) -> Played
         );
         let v = a.values;
         let w = a.wakes;
-        sum = summed(sum, a.status, a.running, v[0], v[1], (a.woken % 64) as u32, w[0]);
+        sum = summed(
+            sum,
+            a.status,
+            a.running,
+            v[0],
+            v[1],
+            (a.woken % 64) as u32,
+            w[0],
+        );
         s = a.state;
         i += 1;
     }
