@@ -1,24 +1,24 @@
 -- Playing a script record by record gives its listing: a sound state's step is its answer, which leaves a sound state, and a line
 -- put behind others takes one from those to come.
 -- Assumes nothing.
-use Prim.Native.Nat.{ℕ, _+_, _*_, _-_, _≤_, _<_}
+use Prim.Native.Nat.{ℕ, suc, _+_, _*_, _-_, _≤_, _<_}
 use native.Mathlib.Omega.{arith}
 use native.Mathlib.Numerals.{add-one}
 use mathlib.Core.Path.{_≡_, refl, sym, ap, subst, _∙_}
 use mathlib.Core.Logic.{⊎-elim}
-use mathlib.Core.Bool.{true}
-use mathlib.Core.List.{List, _++_, append-assoc}
+use mathlib.Core.Bool.{true, false}
+use mathlib.Core.List.{List, [], _++_, append-nil, append-assoc}
 use lib.ListN.{length, take, length-append}
 use lib.Dec.{ltb, leb}
-use borrow.Author.Tests.{leb-true, le-ltb}
+use borrow.Author.Tests.{leb-true, le-ltb, le-leb, lt-leb}
 use Rattle.scope.specs.declared.State.{State}
 use Rattle.scope.specs.declared.Answer.{Answer}
 use Rattle.scope.specs.declared.Fresh.{Fresh}
 use Rattle.scope.specs.Fresh.{freshState, fresh}
 use Rattle.scope.specs.Step.{answered}
 use Rattle.scope.specs.Script.{number32, recordCount, firstOffset, firstPriority, isScript, stepAt}
-use Rattle.scope.specs.Listing.{lineOf, linesFrom, listing}
-use Rattle.laws.proofs.Branches.{both-true, picked-no, lt-or-le}
+use Rattle.scope.specs.Listing.{lineOf, linesFrom, refusedLine, listing}
+use Rattle.laws.proofs.Branches.{both-true, picked-yes, picked-no, true-false, lt-or-le}
 use Rattle.kernel.proofs.Laws.{checked-sound}
 use Rattle.histories.specs.Sound.{Sound}
 use Rattle.histories.proofs.Meaning.{sound-right}
@@ -27,7 +27,7 @@ use Rattle.histories.proofs.Fresh.{fresh-sound}
 use Rattle.text.proofs.Laws.{line-length}
 use Rattle.player.specs.declared.Place.{Place}
 use Rattle.player.specs.declared.Part.{Part}
-use Rattle.player.specs.Place.{toCome, Playing, Begun, Played, PlayedPart}
+use Rattle.player.specs.Place.{toCome, next, after, Playing, Begun, Played, PlayedPart, roomFor, Whole}
 use Rattle.player.proofs.Wakes.{woken-few}
 
 -- what the test of a script says
@@ -72,6 +72,10 @@ begun script p e left number at state =
     let s : p .state ≡ freshState (firstPriority script) = state ∙ fresh-is _ (h .urgent) in
     record {
       whole = rw (left, number, at, s) (sym (listing-is script e));
+      state = s;
+      left = left;
+      number = number;
+      at = at;
       playing =
           record {
             small = h .small;
@@ -115,9 +119,10 @@ pub played : (script : List ℕ) (p : Place) (before out : List ℕ) (k : ℕ) (
     → r .written ≡ k + length (lineOf (p .number) a)
     → take (r .written) out ≡ take k before ++ lineOf (p .number) a
     → r .place .left + 1 ≡ p .left → r .place .number ≡ p .number + 1 → r .place .at ≡ p .at + 28 → r .place .state ≡ a .state
+    → r .place ≡ record { state = a .state; left = p .left - 1; number = p .number + 1; at = p .at + 28 }
     → Played script p before k out r
-unfolding toCome
-played script p before out k r a h some is room same written put left number at state =
+unfolding toCome next
+played script p before out k r a h some is room same written put left number at state place =
     let few : a .woken ≤ 32 = subst (λ (x : Answer). x .woken ≤ 32) (sym is) (step-few script (p .at) (p .state) (h .state)) in
     let s : r .place .state ≡ stepAt script (p .at) (p .state) .state = state ∙ ap (λ (x : Answer). x .state) is in
     record {
@@ -126,7 +131,10 @@ played script p before out k r a h some is room same written put left number at 
           (append-assoc (take k before) (lineOf (p .number) a) _);
       grows = omega (arith, written, line-some (p .number) a);
       room = omega (arith, written, line-length (p .number) a few);
+      short = omega (arith, written, line-length (p .number) a few);
       fewer = left;
+      place =
+          place ∙ ap (λ (x : Answer). record { state = x .state; left = p .left - 1; number = p .number + 1; at = p .at + 28 }) is;
       playing =
           record {
             small = h .small;
@@ -143,31 +151,41 @@ pub record Going (script : List ℕ) (p : Place) (out₀ out : List ℕ) (q : Pl
   pub room : k ≤ length out
   pub same : length out ≡ length out₀
   pub fewer : q .left ≤ p .left
+  pub place : q ≡ after script (p .left - q .left) p
+  pub short : k + 782 * q .left ≤ 782 * p .left
   pub still : q .left ≡ p .left → k ≡ 0
   pub onward : q .left < p .left → 0 < k
   pub playing : Playing script q
 
 module _ (script : List ℕ) (p : Place) (out₀ : List ℕ) where
   pub going-first : Playing script p → Going script p out₀ out₀ p 0
+  unfolding after
   going-first h =
+      let e : 0 ≡ p .left - p .left = omega arith in
       record {
         put = refl;
         room = omega arith;
         same = refl;
         fewer = omega arith;
+        place = ap (λ (n : ℕ). after script n p) e;
+        short = omega arith;
         still = λ e. refl;
         onward = λ l. omega arith;
         playing = h;
       }
 
-  pub going-more : (out next : List ℕ) (q : Place) (k : ℕ) (r : Part) → Going script p out₀ out q k → Played script q out k next r
-      → length next ≡ length out → Going script p out₀ next (r .place) (r .written)
-  going-more out next q k r g d e =
+  pub going-more : (out last : List ℕ) (q : Place) (k : ℕ) (r : Part) → Going script p out₀ out q k → Played script q out k last r
+      → length last ≡ length out → Going script p out₀ last (r .place) (r .written)
+  unfolding after
+  going-more out last q k r g d e =
+      let m : suc (p .left - q .left) ≡ p .left - r .place .left = omega (arith, d .fewer, g .fewer) in
       record {
         put = d .put ∙ g .put;
         room = d .room;
         same = e ∙ g .same;
         fewer = omega (arith, d .fewer, g .fewer);
+        place = d .place ∙ ap (next script) (g .place) ∙ ap (λ (n : ℕ). after script n p) m;
+        short = omega (arith, d .fewer, d .short, g .short);
         still = λ i. absurd (omega (arith, d .fewer, g .fewer));
         onward = λ l. omega (arith, d .grows);
         playing = d .playing;
@@ -179,10 +197,17 @@ module _ (script : List ℕ) (p : Place) (out₀ : List ℕ) where
       record {
         put = rw (place, written) (g .put);
         room = omega (arith, written, g .room);
+        place = place ∙ g .place ∙ ap (λ (x : Place). after script (p .left - x .left) p) (sym place);
+        stop = rw (place, written) stop;
+        whole = λ wide. rw place (ended wide);
         onward = λ some wide. rw (place, written) (moved some wide, g .onward (moved some wide));
         playing = rw place (g .playing);
       }
     where
+      ended : 782 * p .left ≤ length out → q .left ≡ 0
+      ended wide =
+          ⊎-elim (λ l. omega arith) (λ l. absurd (omega (arith, stop l, g .short))) (lt-or-le (q .left) 1)
+
       moved : 1 ≤ p .left → 782 ≤ length out → q .left < p .left
       moved some wide =
           ⊎-elim (λ l. l)
@@ -190,3 +215,62 @@ module _ (script : List ℕ) (p : Place) (out₀ : List ℕ) where
           let e : q .left ≡ p .left = omega (arith, g .fewer) in
           absurd (omega (arith, g .still e, stop (omega arith))))
           (lt-or-le (q .left) (p .left))
+
+refused-length : length refusedLine ≡ 15
+unfolding refusedLine
+refused-length = refl
+
+-- a whole listing
+pub room-script : (script : List ℕ) (n : ℕ) → isScript script ≡ true → n ≡ recordCount script → roomFor script ≡ 782 * n
+unfolding roomFor
+room-script script n e is = picked-yes (isScript script) _ _ e ∙ ap (λ (k : ℕ). 782 * k) (sym is)
+
+pub room-refused : (script : List ℕ) → isScript script ≡ false → roomFor script ≡ 15
+unfolding roomFor
+room-refused script e = picked-no (isScript script) _ _ e
+
+refused-is : (script : List ℕ) → isScript script ≡ false → listing script ≡ refusedLine
+unfolding listing
+refused-is script e = rw (listing, e)
+
+nothing-left : (script : List ℕ) (p : Place) → p .left ≡ 0 → toCome script p ≡ []
+unfolding toCome linesFrom
+nothing-left script p e = rw e
+
+module _ (script before : List ℕ) where
+  -- the room is too little
+  pub whole-none : (n : ℕ) → roomFor script ≡ n → length before < n → Whole script before before (record { fits = false; written = 0 })
+  whole-none n e l =
+      record {
+        fits = sym (lt-leb (roomFor script) (length before) (omega (arith, e)));
+        listed = λ z. absurd (true-false z refl);
+        room = omega arith;
+        refused = λ z. (refl, refl);
+      }
+
+  whole-put : (out : List ℕ) (n r : ℕ) → roomFor script ≡ n → n ≤ length before → r ≤ length out → take r out ≡ listing script
+      → Whole script before out (record { fits = true; written = r })
+  whole-put out n r e h room put =
+      record {
+        fits = sym (le-leb (roomFor script) (length before) (omega (arith, e)));
+        listed = λ z. put;
+        room = room;
+        refused = λ z. absurd (true-false refl z);
+      }
+
+  -- a script is refused
+  pub whole-refused : (out : List ℕ) (r : ℕ) → isScript script ≡ false → 15 ≤ length before → length out ≡ length before
+      → r ≡ 0 + length refusedLine → take r out ≡ take 0 before ++ refusedLine → Whole script before out (record { fits = true; written = r })
+  whole-refused out r e h same n put =
+      whole-put out 15 r (room-refused script e) h (refused-within n) (put ∙ sym (refused-is script e))
+    where
+      refused-within : r ≡ 0 + length refusedLine → r ≤ length out
+      refused-within q = omega (arith, q, refused-length)
+
+  -- or all its records are played
+  pub whole-played : (out : List ℕ) (p : Place) (r : Part) → Begun script p → PlayedPart script p out r → roomFor script ≡ 782 * p .left
+      → 782 * p .left ≤ length before → length out ≡ length before → Whole script before out (record { fits = true; written = r .written })
+  whole-played out p r b d e h same =
+      whole-put out _ (r .written) e h (d .room)
+      (sym (append-nil (take (r .written) out)) ∙ ap (λ (l : List ℕ). take (r .written) out ++ l) (sym (nothing-left script (r .place) (d .whole (omega arith))))
+      ∙ d .put ∙ b .whole)

@@ -1,20 +1,36 @@
 -- What playing a script in parts keeps and gives: what was written and what is still to come is what was to come.
 -- Assumes nothing.
-use Prim.Native.Nat.{ℕ, _+_, _*_, _≤_, _<_}
+use Prim.Native.Nat.{ℕ, zero, suc, _+_, _*_, _-_, _≤_, _<_}
 use mathlib.Core.Path.{_≡_}
 use mathlib.Core.List.{List, _++_}
+use mathlib.Core.Bool.{true, false}
 use lib.ListN.{length, take}
-use Rattle.scope.specs.declared.State.{State}
+use lib.Dec.{leb}
+use Rattle.scope.specs.Choice.{pick}
+use Rattle.scope.specs.Script.{recordCount, firstOffset, firstPriority, isScript, stepAt}
+use Rattle.scope.specs.Fresh.{freshState}
 use Rattle.scope.specs.Listing.{linesFrom, listing}
 use Rattle.histories.specs.Sound.{Sound}
 use Rattle.player.specs.declared.Place.{Place}
 use Rattle.player.specs.declared.Part.{Part}
+use Rattle.player.specs.declared.Listed.{Listed}
 
 -- the lines still to come
 unfoldable pub toCome : List ℕ → Place → List ℕ
 toCome script p = linesFrom script (p .left) (p .number) (p .at) (p .state)
 
--- the records left lie within the script, behind its first four numbers, and the state is sound; a script of 65,536 bytes has room for 2,340 records
+-- the place after the next record
+unfoldable pub next : List ℕ → Place → Place
+next script p =
+    record { state = stepAt script (p .at) (p .state) .state; left = p .left - 1; number = p .number + 1; at = p .at + 28 }
+
+-- and after n records
+unfoldable pub after : List ℕ → ℕ → Place → Place
+after script zero p = p
+after script (suc n) p = next script (after script n p)
+
+-- the records left lie within the script, behind its first four numbers, and the state is sound; a script of 65,536 bytes has
+-- room for 2,340 records
 pub record Playing (script : List ℕ) (p : Place) : Type 0 where
   pub small : length script ≤ 65536
   pub start : 16 ≤ p .at
@@ -25,6 +41,10 @@ pub record Playing (script : List ℕ) (p : Place) : Type 0 where
 -- the place before the first record: the whole listing is still to come
 pub record Begun (script : List ℕ) (p : Place) : Type 0 where
   pub whole : toCome script p ≡ listing script
+  pub state : p .state ≡ freshState (firstPriority script)
+  pub left : p .left ≡ recordCount script
+  pub number : p .number ≡ 1
+  pub at : p .at ≡ firstOffset script
   pub playing : Playing script p
 
 -- one record was played from place p, and its line put behind the first k bytes
@@ -32,12 +52,29 @@ pub record Played (script : List ℕ) (p : Place) (before : List ℕ) (k : ℕ) 
   pub put : take (r .written) out ++ toCome script (r .place) ≡ take k before ++ toCome script p
   pub grows : k < r .written
   pub room : r .written ≤ length out
+  pub short : r .written ≤ k + 782
   pub fewer : r .place .left + 1 ≡ p .left
+  pub place : r .place ≡ next script p
   pub playing : Playing script (r .place)
 
--- records were played from place p: at least one, where any was left and there was room for its line
+-- Records were played from place p, until none was left or there was no room for the longest line: so all that were left, where
+-- there was room for as many of the longest lines, and at least one, where any was left and there was room for its line.
 pub record PlayedPart (script : List ℕ) (p : Place) (out : List ℕ) (r : Part) : Type 0 where
   pub put : take (r .written) out ++ toCome script (r .place) ≡ toCome script p
   pub room : r .written ≤ length out
+  pub place : r .place ≡ after script (p .left - r .place .left) p
+  pub stop : 1 ≤ r .place .left → length out < r .written + 782
+  pub whole : 782 * p .left ≤ length out → r .place .left ≡ 0
   pub onward : 1 ≤ p .left → 782 ≤ length out → (r .place .left < p .left) × (0 < r .written)
   pub playing : Playing script (r .place)
+
+-- the room that a listing is asked for with: the longest lines that the script's records could have, or the refusal
+unfoldable pub roomFor : List ℕ → ℕ
+roomFor script = pick (isScript script) (782 * recordCount script) 15
+
+-- a whole listing, or, where the room was too little for it, nothing
+pub record Whole (script before out : List ℕ) (r : Listed) : Type 0 where
+  pub fits : r .fits ≡ leb (roomFor script) (length before)
+  pub listed : r .fits ≡ true → take (r .written) out ≡ listing script
+  pub room : r .written ≤ length out
+  pub refused : r .fits ≡ false → (r .written ≡ 0) × (out ≡ before)

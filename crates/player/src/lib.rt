@@ -2,13 +2,14 @@
 // is known to be sound all along, so no step checks it. (scope's specs/Listing.antt.)
 use scope::Answer;
 use scope::State;
+use text::LONGEST_LINE;
 ghost use mathlib.Core.Path.{_≡_};
 ghost use mathlib.Core.Bool.{Bool, true, false};
 ghost use Prim.Native.Nat.{ℕ, _+_, _≤_, _<_};
 ghost use lib.ListN.{length};
 ghost use Rattle.scope.specs.Script.{isScript, stepAt};
 ghost use Rattle.histories.specs.Sound.{Sound};
-ghost use Rattle.player.specs.Place.{Begun, Playing, Played, PlayedPart};
+ghost use Rattle.player.specs.Place.{Begun, Playing, Played, PlayedPart, Whole};
 
 // Where a script has got to: the state, how many records are left, the number of the next and where it starts.
 pub struct Place {
@@ -21,6 +22,12 @@ pub struct Place {
 // The place after a part of the listing, and how many bytes of it were written.
 pub struct Part {
     pub place: Place,
+    pub written: usize,
+}
+
+// Whether there was room for a listing, and how many bytes of it were written.
+pub struct Listed {
+    pub fits: bool,
     pub written: usize,
 }
 
@@ -82,10 +89,10 @@ fn goes_on(left: u32, k: usize, room: usize) -> bool
     if left == 0 {
         return false;
     }
-    if room < 782 {
+    if room < LONGEST_LINE {
         return false;
     }
-    k <= room - 782
+    k <= room - LONGEST_LINE
 }
 
 // Plays records while any is left and there is room for the longest line.
@@ -104,5 +111,50 @@ pub fn play_part(script: &[u8], p: Place, out: &mut [u8]) -> Part
     Part {
         place: q,
         written: k,
+    }
+}
+
+fn wide(n: u32) -> usize
+    ensures { λ r. ⌜ r ≡ n ⌝ }
+{
+    n as usize
+}
+
+// The one line of a script that is refused, or nothing where there is no room for it.
+fn list_refused(script: &[u8], out: &mut [u8]) -> Listed
+    requires { ⌜ isScript (now script) ≡ false ⌝ }
+    ensures { λ r. ⌜ Whole (now (script .entry)) (now (out .entry)) (now (out .exit)) r ⌝ }
+{
+    if out.len() < 15 {
+        return Listed {
+            fits: false,
+            written: 0,
+        };
+    }
+    let n = text::put_refused(out, 0);
+    Listed {
+        fits: true,
+        written: n,
+    }
+}
+
+// A whole listing at once, or nothing where there is no room for the longest lines that its records could have.
+pub fn listing(script: &[u8], out: &mut [u8]) -> Listed
+    ensures { λ r. ⌜ Whole (now (script .entry)) (now (out .entry)) (now (out .exit)) r ⌝ }
+{
+    if !text::is_script(script) {
+        return list_refused(script, out);
+    }
+    let p = begin(script);
+    if out.len() < LONGEST_LINE * wide(p.left) {
+        return Listed {
+            fits: false,
+            written: 0,
+        };
+    }
+    let r = play_part(script, p, out);
+    Listed {
+        fits: true,
+        written: r.written,
     }
 }

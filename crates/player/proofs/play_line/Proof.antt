@@ -35,7 +35,7 @@ returns c =
     let p = s .args .p in
     played (s .args .script .now) p (s .args .out .now) (c .before .before .before .before .before .before .put-line .last .0) (s .args .k) _ (c .before .before .before .before .before .before .before .before .play-record .result) (s .pre .0) (s .pre .1)
     (c .before .before .before .before .before .before .before .before .play-record .ensures) (s .pre .2) (c .before .before .before .before .before .before .put-line .kept .0) (c .before .before .before .before .before .before .put-line .ensures .0) (c .before .before .before .before .before .before .put-line .ensures .1)
-    (omega (arith, s .pre .1)) refl refl refl
+    (omega (arith, s .pre .1)) refl refl refl refl
 
 pub play-line-spec : {M : Type 1} → statement M
 play-line-spec =
