@@ -1,0 +1,4 @@
+pub mod Seats
+pub mod Waiters
+pub mod Slots
+pub mod Buffers
