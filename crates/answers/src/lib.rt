@@ -1,18 +1,32 @@
-// The shapes of an answer: refused or plainly done, one value, several values, tasks woken. (scope's specs/Answers.antt.)
+// The shapes of an answer. A call changes the state's columns where they lie; what it answers beside them and the wake list is
+// its outcome: refused or plainly done, one value, several values, tasks woken. (specs/Outcomes.antt, and scope's specs/Answers.antt.)
 use scope::Answer;
 use scope::State;
-use scope::Waking;
 ghost use mathlib.Core.Path.{_≡_};
 ghost use mathlib.Core.Bool.{Bool, true, false};
 ghost use Prim.Native.Nat.{ℕ, _+_, _*_};
 ghost use lib.ListN.{getD};
 ghost use lib.Dec.{ltb};
 ghost use Rattle.scope.specs.Choice.{pick};
-ghost use Rattle.scope.specs.Answers.{bitOf, answer, plain, gives, badState, wakesWith};
+ghost use Rattle.scope.specs.Answers.{bitOf, badState};
+ghost use Rattle.answers.specs.Outcomes.{answerOf, outcome, woke};
 
-// A task's identifier; 0 for nobody.
-fn task_id(serial: [u16; 32], t: usize) -> u32
-    ensures { λ r. ⌜ r ≡ pick (ltb t 32) (getD serial t 0 * 64 + t) 0 ⌝ }
+// What a call answers beside the state and the wake list.
+pub struct Outcome {
+    pub status: u32,
+    pub values: [u32; 4],
+    // Whether the second value stands for minus that number: sem_info's count.
+    pub negative: bool,
+    // How many of the wake list's places are used, all woken with the status `why`.
+    pub woken: usize,
+    pub why: u32,
+    // The slot of who runs after the call, 32 if nobody.
+    pub runs: usize,
+}
+
+// The identifier of the task that runs; 0 for nobody.
+pub fn running_task(serial: &[u16; 32], t: usize) -> u32
+    ensures { λ r. ⌜ r ≡ pick (ltb t 32) (getD (now (serial .entry)) t 0 * 64 + t) 0 ⌝ }
 {
     if t < 32 {
         return tables::identifier(serial[t], t);
@@ -30,37 +44,82 @@ pub fn bit(b: bool) -> u32
     0
 }
 
-// A status, four values, nobody woken.
-pub fn answer(s: State, status: u32, v0: u32, v1: u32, v2: u32, v3: u32, negative: bool) -> Answer
-    ensures { λ r. ⌜ r ≡ answer s status v0 v1 v2 v3 negative ⌝ }
+// Done, with four values.
+pub fn tells(v0: u32, v1: u32, v2: u32, v3: u32, negative: bool, runs: usize) -> Outcome
+    ensures { λ r. ⌜ r ≡ outcome 0 v0 v1 v2 v3 negative runs ⌝ }
 {
-    let k = s.tasks;
-    let serial = k.serial;
-    let id = task_id(serial, s.running);
-    Answer {
-        state: s,
-        wakes: [0; 32],
-        woken: 0,
-        why: 0,
-        status: status,
+    Outcome {
+        status: 0,
         values: [v0, v1, v2, v3],
         negative: negative,
-        running: id,
+        woken: 0,
+        why: 0,
+        runs: runs,
     }
 }
 
-// A status and nothing more: a refusal hands back the state it was given.
-pub fn plain(s: State, status: u32) -> Answer
-    ensures { λ r. ⌜ r ≡ plain s status ⌝ }
+// A status and nothing more.
+pub fn plain(status: u32, runs: usize) -> Outcome
+    ensures { λ r. ⌜ r ≡ outcome status 0 0 0 0 false runs ⌝ }
 {
-    answer(s, status, 0, 0, 0, 0, false)
+    Outcome {
+        status: status,
+        values: [0; 4],
+        negative: false,
+        woken: 0,
+        why: 0,
+        runs: runs,
+    }
 }
 
 // Done, with one value.
-pub fn gives(s: State, v: u32) -> Answer
-    ensures { λ r. ⌜ r ≡ gives s v ⌝ }
+pub fn gives(v: u32, runs: usize) -> Outcome
+    ensures { λ r. ⌜ r ≡ outcome 0 v 0 0 0 false runs ⌝ }
 {
-    answer(s, 0, v, 0, 0, 0, false)
+    Outcome {
+        status: 0,
+        values: [v, 0, 0, 0],
+        negative: false,
+        woken: 0,
+        why: 0,
+        runs: runs,
+    }
+}
+
+// Done, with so many tasks woken, all with the status `why`.
+pub fn woke(woken: usize, why: u32, runs: usize) -> Outcome
+    ensures { λ r. ⌜ r ≡ woke woken why runs ⌝ }
+{
+    Outcome {
+        status: 0,
+        values: [0; 4],
+        negative: false,
+        woken: woken,
+        why: why,
+        runs: runs,
+    }
+}
+
+// The whole answer, the state with it.
+pub fn whole(s: State, wakes: [u32; 32], o: Outcome) -> Answer
+    ensures { λ r. ⌜ r ≡ answerOf s wakes o ⌝ }
+{
+    let k = s.tasks;
+    let serial = k.serial;
+    let id = running_task(&serial, o.runs);
+    let values = o.values;
+    let mut n = s;
+    n.running = o.runs;
+    Answer {
+        state: n,
+        wakes: wakes,
+        woken: o.woken,
+        why: o.why,
+        status: o.status,
+        values: values,
+        negative: o.negative,
+        running: id,
+    }
 }
 
 // "its running task is the present one, or 0 with BAD_STATE"
@@ -76,31 +135,5 @@ pub fn bad_state(s: State) -> Answer
         values: [0; 4],
         negative: false,
         running: 0,
-    }
-}
-
-// Done, with these tasks woken, all with the status `why`.
-pub fn wakes_with(s: State, w: Waking, why: u32) -> Answer
-    ensures { λ r. ⌜ r ≡ wakesWith s w why ⌝ }
-{
-    let l = w.line;
-    let q = l.seat;
-    let running = seats::runner(q);
-    let k = s.tasks;
-    let serial = k.serial;
-    let id = task_id(serial, running);
-    let wakes = w.wakes;
-    let mut n = s;
-    n.line = l;
-    n.running = running;
-    Answer {
-        state: n,
-        wakes: wakes,
-        woken: w.woken,
-        why: why,
-        status: 0,
-        values: [0; 4],
-        negative: false,
-        running: id,
     }
 }

@@ -10,13 +10,26 @@ use lib.ListN.{getD}
 use borrow.Author.Count.{below-more}
 use borrow.Author.Tests.{lt-ltb, le-ltb}
 use Rattle.scope.specs.Choice.{pick, every}
+use Rattle.scope.specs.declared.Pools.{Pools}
 use Rattle.scope.specs.Areas.{shareByte}
+use Rattle.scope.specs.Pools.{overlaps, overlapped}
 use Rattle.laws.proofs.Branches.{picked-yes, picked-no, not-of-true, not-of-false}
-use Rattle.laws.proofs.Searches.{every-yes, every-no}
+use Rattle.laws.proofs.Searches.{least-hit, least-none, every-yes, every-no}
 
 -- slot k's pool is live and shares a byte with the area
 abbrev pub hit : List Bool → List ℕ → List ℕ → ℕ → ℕ → ℕ → Bool
 hit live at long address n k = getD live k false && shareByte address n (getD at k 0) (getD long k 0)
+
+-- the two ends of the search over the slots of any pools with these columns: at a pool that does, and past the last
+module _ (live : List Bool) (at long : List ℕ) (address n : ℕ) {k : ℕ} (none : (j : ℕ) → j < k → hit live at long address n j ≡ false) where
+  pub search-hit : k < 8 → hit live at long address n k ≡ true
+      → (p : Pools) → p .address ≡ at → p .length ≡ long → p .live ≡ live → k ≡ overlapped p address n
+  unfolding overlapped overlaps
+  search-hit h ok p e f g = least-hit (overlaps p address n) h (λ j l. rw (e, f, g) (none j l)) (rw (e, f, g) ok)
+
+  pub search-none : k ≤ 8 → 8 ≤ k → (p : Pools) → p .address ≡ at → p .length ≡ long → p .live ≡ live → k ≡ overlapped p address n
+  unfolding overlapped overlaps
+  search-none h l p e f g = least-none (overlaps p address n) h l (λ j b. rw (e, f, g) (none j b))
 
 -- slots i and j do so with each other
 abbrev pub pair : List Bool → List ℕ → List ℕ → ℕ → ℕ → Bool

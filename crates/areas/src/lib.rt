@@ -3,6 +3,7 @@
 ghost use mathlib.Core.Path.{_≡_};
 ghost use mathlib.Core.Bool.{true, _&&_};
 ghost use Prim.Native.Nat.{_+_, _-_, _^_, _<_, _≤_};
+ghost use Rattle.scope.specs.declared.Pools.{Pools};
 ghost use Rattle.scope.specs.Areas.{isArea, isSize, buffersOf, shareByte, isOut, isFree, lowestFree, freeOf, bufferAddress, bufferAt};
 ghost use Rattle.scope.specs.Pools.{overlapped};
 ghost use Rattle.scope.specs.Rules.{poolsApart};
@@ -172,13 +173,17 @@ fn pair_shares(live1: bool, live2: bool, a1: u32, n1: u32, a2: u32, n2: u32) -> 
     false
 }
 
-// The lowest slot of a live pool whose area shares a byte with this one, 8 where there is none.
-pub fn overlapped(p: scope::Pools, address: u32, length: u32) -> usize
-    ensures { λ r. ⌜ r ≡ overlapped p address length ⌝ }
+// The lowest slot of a live pool whose area shares a byte with this one, 8 where there is none. The pools are lent by the
+// columns that it reads.
+pub fn overlapped(
+    at: &[u32; 8],
+    long: &[u32; 8],
+    live: &[bool; 8],
+    address: u32,
+    length: u32,
+) -> usize
+    ensures { λ r. ⌜ ((p : Pools) → p .address ≡ now (at .entry) → p .length ≡ now (long .entry) → p .live ≡ now (live .entry) → r ≡ overlapped p address length) ⌝ }
 {
-    let live = p.live;
-    let at = p.address;
-    let long = p.length;
     let mut k: usize = 0;
     while k < 8 {
         if live_shares(live[k], address, length, at[k], long[k]) {

@@ -6,28 +6,33 @@ use native.Mathlib.Omega.{arith}
 use native.Mathlib.Numerals.{add-one}
 use mathlib.Core.Path.{_≡_, refl, sym, ap, subst, _∙_}
 use mathlib.Core.Logic.{⊎-elim}
-use mathlib.Core.Bool.{true, false}
-use mathlib.Core.List.{List, [], _++_, append-nil, append-assoc}
+use mathlib.Core.Bool.{true}
+use mathlib.Core.List.{List, _++_, append-assoc}
 use lib.ListN.{length, take, length-append}
 use lib.Dec.{ltb, leb}
-use borrow.Author.Tests.{leb-true, le-ltb, le-leb, lt-leb}
+use borrow.Author.Tests.{leb-true, le-ltb}
 use Rattle.scope.specs.declared.State.{State}
 use Rattle.scope.specs.declared.Answer.{Answer}
 use Rattle.scope.specs.declared.Fresh.{Fresh}
 use Rattle.scope.specs.Fresh.{freshState, fresh}
+use Rattle.scope.specs.Views.{runningTask}
 use Rattle.scope.specs.Step.{answered}
 use Rattle.scope.specs.Script.{number32, recordCount, firstOffset, firstPriority, isScript, stepAt}
-use Rattle.scope.specs.Listing.{lineOf, linesFrom, refusedLine, listing}
-use Rattle.laws.proofs.Branches.{both-true, picked-yes, picked-no, true-false, lt-or-le}
+use Rattle.scope.specs.Listing.{lineOf, linesFrom, listing}
+use Rattle.laws.proofs.Branches.{both-true, picked-no, lt-or-le}
+use Rattle.answers.specs.declared.Outcome.{Outcome}
+use Rattle.answers.specs.Outcomes.{nowRuns, told, answerOf}
 use Rattle.kernel.proofs.Laws.{checked-sound}
 use Rattle.histories.specs.Sound.{Sound}
 use Rattle.histories.proofs.Meaning.{sound-right}
 use Rattle.histories.proofs.Stays.{step-keeps}
 use Rattle.histories.proofs.Fresh.{fresh-sound}
+use Rattle.text.specs.declared.Record.{Record}
+use Rattle.text.specs.Records.{recordAt}
 use Rattle.text.proofs.Laws.{line-length}
 use Rattle.player.specs.declared.Place.{Place}
 use Rattle.player.specs.declared.Part.{Part}
-use Rattle.player.specs.Place.{toCome, next, after, Playing, Begun, Played, PlayedPart, roomFor, Whole}
+use Rattle.player.specs.Place.{toCome, next, after, Playing, Begun, LinePut, Played, PlayedPart}
 use Rattle.player.proofs.Wakes.{woken-few}
 
 -- what the test of a script says
@@ -93,9 +98,15 @@ module _ (script : List ℕ) (at : ℕ) (s : State) (ok : Sound s) where
       answered s (number32 script at) (number32 script (at + 4)) (number32 script (at + 8)) (number32 script (at + 12))
       (number32 script (at + 16)) (number32 script (at + 20)) (number32 script (at + 24))
 
-  pub step-is : {r : Answer} → r ≡ answerAt → r ≡ stepAt script at s
+  step-is : {r : Answer} → r ≡ answerAt → r ≡ stepAt script at s
   unfolding stepAt
   step-is e = checked-sound s _ _ _ _ _ _ _ (sound-right s ok) e
+
+  -- of the numbers as they were read
+  pub record-step : (q : Record) {r : Answer} → q ≡ recordAt script at
+      → r ≡ answered s (q .call) (q .mark) (q .a) (q .b) (q .c) (q .d) (q .e) → r ≡ stepAt script at s
+  record-step q {r} e p =
+      step-is (subst (λ (x : Record). r ≡ answered s (x .call) (x .mark) (x .a) (x .b) (x .c) (x .d) (x .e)) e p)
 
   pub step-sound : Sound (stepAt script at s .state)
   unfolding stepAt
@@ -144,6 +155,29 @@ played script p before out k r a h some is room same written put left number at 
             state = subst Sound (sym s) (step-sound script (p .at) (p .state) (h .state));
           };
     }
+
+-- what a line was put for is the record's answer
+pub line-told : (script : List ℕ) (at number k id : ℕ) (s n : State) (wakes : List ℕ) (o : Outcome) (before lines : List ℕ) (written : ℕ)
+    → answerOf n wakes o ≡ stepAt script at s → id ≡ runningTask (nowRuns n (o .runs))
+    → (written ≡ k + length (lineOf number (told (nowRuns n (o .runs)) wakes o id)))
+    × (take written lines ≡ take k before ++ lineOf number (told (nowRuns n (o .runs)) wakes o id))
+    → LinePut script at number s before k (nowRuns n (o .runs)) lines written
+unfolding answerOf
+line-told script at number k id s n wakes o before lines written e f p =
+    let t : told (nowRuns n (o .runs)) wakes o id ≡ stepAt script at s = rw f e in
+    record { state = ap (λ (a : Answer). a .state) e; grown = rw (← t) (p .0); put = rw (← t) (p .1) }
+
+-- and the place after it
+pub line-played : (script : List ℕ) (p : Place) (n : State) (before lines : List ℕ) (k written : ℕ) → Playing script p → 1 ≤ p .left
+    → k + 782 ≤ length before → length lines ≡ length before
+    → LinePut script (p .at) (p .number) (p .state) before k n lines written
+    → Played script p before k lines
+    (record { place = record { state = n; left = p .left - 1; number = p .number + 1; at = p .at + 28 }; written = written })
+line-played script p n before lines k written h some room same d =
+    played script p before lines k
+    (record { place = record { state = n; left = p .left - 1; number = p .number + 1; at = p .at + 28 }; written = written })
+    (stepAt script (p .at) (p .state)) h some refl room same (d .grown) (d .put) (omega arith) refl refl (d .state)
+    (ap (λ (s : State). record { state = s; left = p .left - 1; number = p .number + 1; at = p .at + 28 }) (d .state))
 
 -- while records are played: k bytes were written since place p, and none only if no record was played
 pub record Going (script : List ℕ) (p : Place) (out₀ out : List ℕ) (q : Place) (k : ℕ) : Type 0 where
@@ -215,62 +249,3 @@ module _ (script : List ℕ) (p : Place) (out₀ : List ℕ) where
           let e : q .left ≡ p .left = omega (arith, g .fewer) in
           absurd (omega (arith, g .still e, stop (omega arith))))
           (lt-or-le (q .left) (p .left))
-
-refused-length : length refusedLine ≡ 15
-unfolding refusedLine
-refused-length = refl
-
--- a whole listing
-pub room-script : (script : List ℕ) (n : ℕ) → isScript script ≡ true → n ≡ recordCount script → roomFor script ≡ 782 * n
-unfolding roomFor
-room-script script n e is = picked-yes (isScript script) _ _ e ∙ ap (λ (k : ℕ). 782 * k) (sym is)
-
-pub room-refused : (script : List ℕ) → isScript script ≡ false → roomFor script ≡ 15
-unfolding roomFor
-room-refused script e = picked-no (isScript script) _ _ e
-
-refused-is : (script : List ℕ) → isScript script ≡ false → listing script ≡ refusedLine
-unfolding listing
-refused-is script e = rw (listing, e)
-
-nothing-left : (script : List ℕ) (p : Place) → p .left ≡ 0 → toCome script p ≡ []
-unfolding toCome linesFrom
-nothing-left script p e = rw e
-
-module _ (script before : List ℕ) where
-  -- the room is too little
-  pub whole-none : (n : ℕ) → roomFor script ≡ n → length before < n → Whole script before before (record { fits = false; written = 0 })
-  whole-none n e l =
-      record {
-        fits = sym (lt-leb (roomFor script) (length before) (omega (arith, e)));
-        listed = λ z. absurd (true-false z refl);
-        room = omega arith;
-        refused = λ z. (refl, refl);
-      }
-
-  whole-put : (out : List ℕ) (n r : ℕ) → roomFor script ≡ n → n ≤ length before → r ≤ length out → take r out ≡ listing script
-      → Whole script before out (record { fits = true; written = r })
-  whole-put out n r e h room put =
-      record {
-        fits = sym (le-leb (roomFor script) (length before) (omega (arith, e)));
-        listed = λ z. put;
-        room = room;
-        refused = λ z. absurd (true-false refl z);
-      }
-
-  -- a script is refused
-  pub whole-refused : (out : List ℕ) (r : ℕ) → isScript script ≡ false → 15 ≤ length before → length out ≡ length before
-      → r ≡ 0 + length refusedLine → take r out ≡ take 0 before ++ refusedLine → Whole script before out (record { fits = true; written = r })
-  whole-refused out r e h same n put =
-      whole-put out 15 r (room-refused script e) h (refused-within n) (put ∙ sym (refused-is script e))
-    where
-      refused-within : r ≡ 0 + length refusedLine → r ≤ length out
-      refused-within q = omega (arith, q, refused-length)
-
-  -- or all its records are played
-  pub whole-played : (out : List ℕ) (p : Place) (r : Part) → Begun script p → PlayedPart script p out r → roomFor script ≡ 782 * p .left
-      → 782 * p .left ≤ length before → length out ≡ length before → Whole script before out (record { fits = true; written = r .written })
-  whole-played out p r b d e h same =
-      whole-put out _ (r .written) e h (d .room)
-      (sym (append-nil (take (r .written) out)) ∙ ap (λ (l : List ℕ). take (r .written) out ++ l) (sym (nothing-left script (r .place) (d .whole (omega arith))))
-      ∙ d .put ∙ b .whole)

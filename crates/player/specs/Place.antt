@@ -3,17 +3,14 @@
 use Prim.Native.Nat.{ℕ, zero, suc, _+_, _*_, _-_, _≤_, _<_}
 use mathlib.Core.Path.{_≡_}
 use mathlib.Core.List.{List, _++_}
-use mathlib.Core.Bool.{true, false}
 use lib.ListN.{length, take}
-use lib.Dec.{leb}
-use Rattle.scope.specs.Choice.{pick}
-use Rattle.scope.specs.Script.{recordCount, firstOffset, firstPriority, isScript, stepAt}
+use Rattle.scope.specs.Script.{recordCount, firstOffset, firstPriority, stepAt}
 use Rattle.scope.specs.Fresh.{freshState}
-use Rattle.scope.specs.Listing.{linesFrom, listing}
+use Rattle.scope.specs.declared.State.{State}
+use Rattle.scope.specs.Listing.{lineOf, linesFrom, listing}
 use Rattle.histories.specs.Sound.{Sound}
 use Rattle.player.specs.declared.Place.{Place}
 use Rattle.player.specs.declared.Part.{Part}
-use Rattle.player.specs.declared.Listed.{Listed}
 
 -- the lines still to come
 unfoldable pub toCome : List ℕ → Place → List ℕ
@@ -47,6 +44,12 @@ pub record Begun (script : List ℕ) (p : Place) : Type 0 where
   pub at : p .at ≡ firstOffset script
   pub playing : Playing script p
 
+-- the record at a place was played from state s, and its line put behind the first k bytes
+pub record LinePut (script : List ℕ) (at number : ℕ) (s : State) (before : List ℕ) (k : ℕ) (n : State) (lines : List ℕ) (written : ℕ) : Type 0 where
+  pub state : n ≡ stepAt script at s .state
+  pub grown : written ≡ k + length (lineOf number (stepAt script at s))
+  pub put : take written lines ≡ take k before ++ lineOf number (stepAt script at s)
+
 -- one record was played from place p, and its line put behind the first k bytes
 pub record Played (script : List ℕ) (p : Place) (before : List ℕ) (k : ℕ) (out : List ℕ) (r : Part) : Type 0 where
   pub put : take (r .written) out ++ toCome script (r .place) ≡ take k before ++ toCome script p
@@ -67,14 +70,3 @@ pub record PlayedPart (script : List ℕ) (p : Place) (out : List ℕ) (r : Part
   pub whole : 782 * p .left ≤ length out → r .place .left ≡ 0
   pub onward : 1 ≤ p .left → 782 ≤ length out → (r .place .left < p .left) × (0 < r .written)
   pub playing : Playing script (r .place)
-
--- the room that a listing is asked for with: the longest lines that the script's records could have, or the refusal
-unfoldable pub roomFor : List ℕ → ℕ
-roomFor script = pick (isScript script) (782 * recordCount script) 15
-
--- a whole listing, or, where the room was too little for it, nothing
-pub record Whole (script before out : List ℕ) (r : Listed) : Type 0 where
-  pub fits : r .fits ≡ leb (roomFor script) (length before)
-  pub listed : r .fits ≡ true → take (r .written) out ≡ listing script
-  pub room : r .written ≤ length out
-  pub refused : r .fits ≡ false → (r .written ≡ 0) × (out ≡ before)

@@ -1,6 +1,5 @@
 // Plays a script record by record: the listing comes in parts, each as long as the room that the caller lends for it. The state
 // is known to be sound all along, so no step checks it. (scope's specs/Listing.antt.)
-use scope::Answer;
 use scope::State;
 use text::LONGEST_LINE;
 ghost use mathlib.Core.Path.{_≡_};
@@ -9,7 +8,8 @@ ghost use Prim.Native.Nat.{ℕ, _+_, _≤_, _<_};
 ghost use lib.ListN.{length};
 ghost use Rattle.scope.specs.Script.{isScript, stepAt};
 ghost use Rattle.histories.specs.Sound.{Sound};
-ghost use Rattle.player.specs.Place.{Begun, Playing, Played, PlayedPart, Whole};
+ghost use Rattle.answers.specs.Columns.{lineOf, tasksOf, semaphoresOf, poolsOf, stateOf};
+ghost use Rattle.player.specs.Place.{Begun, Playing, LinePut, PlayedPart};
 
 // Where a script has got to: the state, how many records are left, the number of the next and where it starts.
 pub struct Place {
@@ -22,12 +22,6 @@ pub struct Place {
 // The place after a part of the listing, and how many bytes of it were written.
 pub struct Part {
     pub place: Place,
-    pub written: usize,
-}
-
-// Whether there was room for a listing, and how many bytes of it were written.
-pub struct Listed {
-    pub fits: bool,
     pub written: usize,
 }
 
@@ -46,38 +40,86 @@ pub fn begin(script: &[u8]) -> Place
     }
 }
 
-// The answer of the record at a place.
-fn play_record(script: &[u8], at: usize, s: State) -> Answer
-    requires { ⌜ (at + 28 ≤ length (now script)) × Sound s ⌝ }
-    ensures { λ r. ⌜ r ≡ stepAt (now (script .entry)) at s ⌝ }
-{
-    let call = text::read_number(script, at);
-    let mark = text::read_number(script, at + 4);
-    let a = text::read_number(script, at + 8);
-    let b = text::read_number(script, at + 12);
-    let c = text::read_number(script, at + 16);
-    let d = text::read_number(script, at + 20);
-    let e = text::read_number(script, at + 24);
-    kernel::perform(s, call, mark, a, b, c, d, e)
+// Who runs after a record, and how many bytes are written by then.
+struct Lined {
+    runs: usize,
+    written: usize,
 }
 
-// Plays one record, and puts its line from a place of `out` on.
-fn play_line(script: &[u8], p: Place, out: &mut [u8], k: usize) -> Part
-    requires { ⌜ Playing (now script) p × (1 ≤ p .left) × (k + 782 ≤ length (now out)) ⌝ }
-    ensures { λ r. ⌜ Played (now (script .entry)) p (now (out .entry)) k (now (out .exit)) r ⌝ }
+// Plays one record, and puts its line from a place of `lines` on.
+fn play_line(
+    script: &[u8],
+    at: usize,
+    number: u32,
+    lines: &mut [u8],
+    k: usize,
+    left: &mut [u32; 32],
+    seat: &mut [u16; 32],
+    joined: &mut [u8; 32],
+    task_name: &mut [u32; 32],
+    task_serial: &mut [u16; 32],
+    task_live: &mut [bool; 32],
+    started: &mut [bool; 32],
+    suspended: &mut [bool; 32],
+    priority: &mut [u8; 32],
+    sem_name: &mut [u32; 16],
+    sem_serial: &mut [u16; 16],
+    units: &mut [u16; 16],
+    sem_live: &mut [bool; 16],
+    fifo: &mut [bool; 16],
+    taken: &mut [u64; 8],
+    pool_name: &mut [u32; 8],
+    address: &mut [u32; 8],
+    long: &mut [u32; 8],
+    size: &mut [u32; 8],
+    pool_serial: &mut [u16; 8],
+    pool_live: &mut [bool; 8],
+    forced: &mut [bool; 8],
+    wakes: &mut [u32; 32],
+    running: usize,
+) -> Lined
+    requires { ⌜ (at + 28 ≤ length (now script)) × (k + 782 ≤ length (now lines)) × Sound (stateOf (lineOf (now left) (now seat) (now joined)) (tasksOf (now «task_name») (now «task_serial») (now «task_live») (now started) (now suspended) (now priority)) (semaphoresOf (now «sem_name») (now «sem_serial») (now units) (now «sem_live») (now fifo)) (poolsOf (now taken) (now «pool_name») (now address) (now long) (now size) (now «pool_serial») (now «pool_live») (now forced)) running) ⌝ }
+    ensures { λ r. ⌜ LinePut (now (script .entry)) at number (stateOf (lineOf (now (left .entry)) (now (seat .entry)) (now (joined .entry))) (tasksOf (now («task_name» .entry)) (now («task_serial» .entry)) (now («task_live» .entry)) (now (started .entry)) (now (suspended .entry)) (now (priority .entry))) (semaphoresOf (now («sem_name» .entry)) (now («sem_serial» .entry)) (now (units .entry)) (now («sem_live» .entry)) (now (fifo .entry))) (poolsOf (now (taken .entry)) (now («pool_name» .entry)) (now (address .entry)) (now (long .entry)) (now (size .entry)) (now («pool_serial» .entry)) (now («pool_live» .entry)) (now (forced .entry))) running) (now (lines .entry)) k (stateOf (lineOf (now (left .exit)) (now (seat .exit)) (now (joined .exit))) (tasksOf (now («task_name» .exit)) (now («task_serial» .exit)) (now («task_live» .exit)) (now (started .exit)) (now (suspended .exit)) (now (priority .exit))) (semaphoresOf (now («sem_name» .exit)) (now («sem_serial» .exit)) (now (units .exit)) (now («sem_live» .exit)) (now (fifo .exit))) (poolsOf (now (taken .exit)) (now («pool_name» .exit)) (now (address .exit)) (now (long .exit)) (now (size .exit)) (now («pool_serial» .exit)) (now («pool_live» .exit)) (now (forced .exit))) (r .runs)) (now (lines .exit)) (r .written) ⌝ }
 {
-    let a = play_record(script, p.at, p.state);
-    let r = text::put_line(out, k, p.number, a);
-    let s = a.state;
-    let q = Place {
-        state: s,
-        left: p.left - 1,
-        number: p.number + 1,
-        at: p.at + 28,
-    };
-    Part {
-        place: q,
-        written: r,
+    let r = text::read_record(script, at);
+    let o = kernel::perform(
+        left,
+        seat,
+        joined,
+        task_name,
+        task_serial,
+        task_live,
+        started,
+        suspended,
+        priority,
+        sem_name,
+        sem_serial,
+        units,
+        sem_live,
+        fifo,
+        taken,
+        pool_name,
+        address,
+        long,
+        size,
+        pool_serial,
+        pool_live,
+        forced,
+        wakes,
+        running,
+        r.call,
+        r.mark,
+        r.a,
+        r.b,
+        r.c,
+        r.d,
+        r.e,
+    );
+    let id = answers::running_task(task_serial, o.runs);
+    let written = text::put_line(lines, k, number, o, wakes, id);
+    Lined {
+        runs: o.runs,
+        written: written,
     }
 }
 
@@ -95,66 +137,115 @@ fn goes_on(left: u32, k: usize, room: usize) -> bool
     k <= room - LONGEST_LINE
 }
 
-// Plays records while any is left and there is room for the longest line.
-pub fn play_part(script: &[u8], p: Place, out: &mut [u8]) -> Part
+// Plays records while any is left and there is room for the longest line. The state lies in its columns meanwhile.
+pub fn play_part(script: &[u8], p: Place, lines: &mut [u8]) -> Part
     requires { ⌜ Playing (now script) p ⌝ }
-    ensures { λ r. ⌜ PlayedPart (now (script .entry)) p (now (out .exit)) r ⌝ }
+    ensures { λ r. ⌜ PlayedPart (now (script .entry)) p (now (lines .exit)) r ⌝ }
 {
-    let mut q = p;
+    let s = p.state;
+    let l = s.line;
+    let t = s.tasks;
+    let m = s.semaphores;
+    let b = s.pools;
+    let mut left = l.left;
+    let mut seat = l.seat;
+    let mut joined = l.joined;
+    let mut task_name = t.name;
+    let mut task_serial = t.serial;
+    let mut task_live = t.live;
+    let mut started = t.started;
+    let mut suspended = t.suspended;
+    let mut priority = t.priority;
+    let mut sem_name = m.name;
+    let mut sem_serial = m.serial;
+    let mut units = m.units;
+    let mut sem_live = m.live;
+    let mut fifo = m.fifo;
+    let mut taken = b.out;
+    let mut pool_name = b.name;
+    let mut address = b.address;
+    let mut long = b.length;
+    let mut size = b.size;
+    let mut pool_serial = b.serial;
+    let mut pool_live = b.live;
+    let mut forced = b.forced;
+    let mut wakes = [0u32; 32];
+    let mut running = s.running;
+    let mut more = p.left;
+    let mut number = p.number;
+    let mut at = p.at;
     let mut k = 0;
-    while goes_on(q.left, k, out.len()) {
-        let r = play_line(script, q, out, k);
-        let n = r.place;
-        q = n;
+    while goes_on(more, k, lines.len()) {
+        let r = play_line(
+            script,
+            at,
+            number,
+            lines,
+            k,
+            &mut left,
+            &mut seat,
+            &mut joined,
+            &mut task_name,
+            &mut task_serial,
+            &mut task_live,
+            &mut started,
+            &mut suspended,
+            &mut priority,
+            &mut sem_name,
+            &mut sem_serial,
+            &mut units,
+            &mut sem_live,
+            &mut fifo,
+            &mut taken,
+            &mut pool_name,
+            &mut address,
+            &mut long,
+            &mut size,
+            &mut pool_serial,
+            &mut pool_live,
+            &mut forced,
+            &mut wakes,
+            running,
+        );
+        running = r.runs;
         k = r.written;
+        more -= 1;
+        number += 1;
+        at += 28;
     }
+    let n = kernel::gathered(
+        left,
+        seat,
+        joined,
+        task_name,
+        task_serial,
+        task_live,
+        started,
+        suspended,
+        priority,
+        sem_name,
+        sem_serial,
+        units,
+        sem_live,
+        fifo,
+        taken,
+        pool_name,
+        address,
+        long,
+        size,
+        pool_serial,
+        pool_live,
+        forced,
+        running,
+    );
+    let q = Place {
+        state: n,
+        left: more,
+        number: number,
+        at: at,
+    };
     Part {
         place: q,
         written: k,
-    }
-}
-
-fn wide(n: u32) -> usize
-    ensures { λ r. ⌜ r ≡ n ⌝ }
-{
-    n as usize
-}
-
-// The one line of a script that is refused, or nothing where there is no room for it.
-fn list_refused(script: &[u8], out: &mut [u8]) -> Listed
-    requires { ⌜ isScript (now script) ≡ false ⌝ }
-    ensures { λ r. ⌜ Whole (now (script .entry)) (now (out .entry)) (now (out .exit)) r ⌝ }
-{
-    if out.len() < 15 {
-        return Listed {
-            fits: false,
-            written: 0,
-        };
-    }
-    let n = text::put_refused(out, 0);
-    Listed {
-        fits: true,
-        written: n,
-    }
-}
-
-// A whole listing at once, or nothing where there is no room for the longest lines that its records could have.
-pub fn listing(script: &[u8], out: &mut [u8]) -> Listed
-    ensures { λ r. ⌜ Whole (now (script .entry)) (now (out .entry)) (now (out .exit)) r ⌝ }
-{
-    if !text::is_script(script) {
-        return list_refused(script, out);
-    }
-    let p = begin(script);
-    if out.len() < LONGEST_LINE * wide(p.left) {
-        return Listed {
-            fits: false,
-            written: 0,
-        };
-    }
-    let r = play_part(script, p, out);
-    Listed {
-        fits: true,
-        written: r.written,
     }
 }

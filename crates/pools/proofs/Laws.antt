@@ -1,26 +1,16 @@
--- What the pool calls lean on. A call with an identifier answers by what the identifier names; a creation's slot has a serial
--- left; a pool has at most 64 buffers, and the lowest free one, where there is one, is free.
+-- What the pool calls lean on: a pool has at most 64 buffers, and the lowest free one, where there is one, is free; a test of
+-- what was found tells of what is to be found; and creation goes by what its first tests give.
 -- Assumes nothing.
 use Prim.Native.Nat.{ℕ, _≤_, _<_, min, _/_}
 use native.Mathlib.Omega.{arith}
-use mathlib.Core.Path.{_≡_, refl, sym, _∙_}
+use mathlib.Core.Path.{_≡_, refl, ap, _∙_}
 use mathlib.Core.Bool.{Bool, true, false}
-use mathlib.Core.List.{List}
-use lib.ListN.{length, getD}
-use lib.Dec.{leb}
-use borrow.Author.Tests.{le-leb, lt-leb}
-use Rattle.scope.specs.declared.State.{State}
-use Rattle.scope.specs.declared.Answer.{Answer}
-use Rattle.scope.specs.declared.Found.{Found}
-use Rattle.scope.specs.declared.Found.the-variants.{At, Deleted, Invalid}
+use lib.Dec.{ltb, leb}
+use borrow.Author.Tests.{lt-ltb, le-ltb}
 use Rattle.scope.specs.Choice.{pick}
-use Rattle.scope.specs.Identifiers.{found, lowestUsable}
-use Rattle.scope.specs.Statuses.{INVALID-ID, OBJECT-DELETED}
 use Rattle.scope.specs.Areas.{buffersOf, isFree, lowestFree}
-use Rattle.scope.specs.Answers.{plain, onFound}
-use Rattle.laws.proofs.Branches.{pick-yes, pick-no, picked-yes, picked-no}
+use Rattle.laws.proofs.Branches.{picked-yes, picked-no}
 use Rattle.laws.proofs.Searches.{least-true}
-use Rattle.tables.proofs.Laws.{found-below, usable-at, usable-serial}
 
 -- the marks of a pool have a place for each of its buffers
 few : (long size : ℕ) → buffersOf long size ≤ 64
@@ -39,3 +29,28 @@ module _ (long size : ℕ) {n : ℕ} (counted : n ≡ buffersOf long size) where
   pub free-marked : (out : ℕ) {k : ℕ} → k ≡ lowestFree out n → k < n → (k < 64) × (isFree out k ≡ true)
   unfolding lowestFree
   free-marked out e h = (omega (arith, marked), rw e (least-true (isFree out) n (omega arith)))
+
+-- k was found and o is to be found
+module _ {k o : ℕ} (n : ℕ) (finds : k ≡ o) where
+  pub found-below : k < n → ltb o n ≡ true
+  found-below h = rw (← finds) (lt-ltb k n h)
+
+  pub found-past : n ≤ k → ltb o n ≡ false
+  found-past h = rw (← finds) (le-ltb k n h)
+
+-- creation by its first three tests: r is the status that they give, f the answer with a status, x what there is past them
+pub refused : (a b c : Bool) {r : ℕ} → r ≡ pick a (pick b (pick c 6 0) 14) 3 → {A : Type 0} (f : ℕ → A) (x : A) {y : A} → (r ≡ 0 → ⊥) → y ≡ f r
+    → y ≡ pick a (pick b (pick c (f 6) x) (f 14)) (f 3)
+unfolding pick
+refused true true true t f x n e = e ∙ ap f t
+refused true true false t f x n e = absurd (n t)
+refused true false c t f x n e = e ∙ ap f t
+refused false b c t f x n e = e ∙ ap f t
+
+pub admitted : (a b c : Bool) {r : ℕ} → r ≡ pick a (pick b (pick c 6 0) 14) 3 → {A : Type 0} (f : ℕ → A) (x : A) {y : A} → r ≡ 0 → y ≡ x
+    → y ≡ pick a (pick b (pick c (f 6) x) (f 14)) (f 3)
+unfolding pick
+admitted true true true t f x z e = absurd (omega arith)
+admitted true true false t f x z e = e
+admitted true false c t f x z e = absurd (omega arith)
+admitted false b c t f x z e = absurd (omega arith)

@@ -1,221 +1,301 @@
-// The pool calls: chapter 6, as document 01 fixes it. (scope's specs/Pools.antt.)
-use scope::Answer;
+// The pool calls: chapter 6, as document 01 fixes it. Each is lent the pools' columns that it reads or changes, and changes them
+// where they lie. (scope's specs/Pools.antt.) Where an argument has a column's name, the column's is in the plural.
+use answers::Outcome;
 use scope::Found;
-use scope::Pools;
-use scope::State;
 ghost use mathlib.Core.Path.{_≡_};
-ghost use mathlib.Core.Bool.{Bool, true, false};
-ghost use Prim.Native.Nat.{ℕ, _+_, _<_, _≤_};
-ghost use lib.ListN.{getD};
-ghost use Rattle.scope.specs.Views.{withPools};
-ghost use Rattle.scope.specs.Pools.{withOut, poolFound, poolBuffers, poolCreateAt, poolCreate, poolDeleteAt, poolDelete, poolIdentAt, poolIdent, poolGetBuffer, poolGetBuffAt, poolGetBuff, poolRetBuffer, poolRetBuffAt, poolRetBuff, poolInfoAt, poolInfo};
+ghost use mathlib.Core.Bool.{Bool};
+ghost use Prim.Native.Nat.{ℕ, _<_};
+ghost use mathlib.Core.List.{List};
+ghost use lib.Dec.{ltb};
+ghost use Rattle.scope.specs.declared.State.{State};
+ghost use Rattle.scope.specs.Choice.{pick};
+ghost use Rattle.scope.specs.Statuses.{OK, INVALID-PARAMETER, INVALID-OPTIONS, INVALID-BUFF-SIZE};
+ghost use Rattle.scope.specs.Identifiers.{lowestUsable};
+ghost use Rattle.scope.specs.Areas.{isArea, isSize};
+ghost use Rattle.scope.specs.Semaphores.{lastOption};
+ghost use Rattle.scope.specs.Answers.{noWakes};
+ghost use Rattle.scope.specs.Pools.{poolCreateAt, poolCreate, poolDeleteAt, poolDelete, poolIdent, poolGetBuffAt, poolGetBuff, poolRetBuffAt, poolRetBuff, poolInfoAt, poolInfo};
+ghost use Rattle.answers.specs.Outcomes.{answerOf};
+ghost use Rattle.answers.specs.Columns.{lentPools};
 
-fn find(s: State, id: u32) -> Found
-    ensures { λ r. ⌜ r ≡ poolFound s id ⌝ }
+// "pool_create: 3, 14, 6, 7, 15": the first three, which look at the arguments alone; 0 where they are admitted.
+fn refusal(address: u32, length: u32, size: u32, options: u32) -> u32
+    ensures { λ r. ⌜ r ≡ pick (isArea address length) (pick (isSize length size) (pick (ltb lastOption options) INVALID-OPTIONS OK) INVALID-BUFF-SIZE) INVALID-PARAMETER ⌝ }
 {
-    let p = s.pools;
-    tables::find(&p.serial, &p.live, id)
+    if !areas::is_area(address, length) {
+        return 3;
+    }
+    if !areas::is_size(length, size) {
+        return 14;
+    }
+    if 1 < options {
+        return 6;
+    }
+    0
 }
 
-// The number of pool `i`'s buffers.
-fn buffers(p: Pools, i: usize) -> u32
-    requires { ⌜ i < 8 ⌝ }
-    ensures { λ r. ⌜ r ≡ poolBuffers p i ⌝ }
-{
-    areas::buffers_of(p.length[i], p.size[i])
-}
-
+// The other two, and the new pool in the lowest slot that it can have. A full table is told before an overlap is looked for.
 fn create_at(
-    s: State,
+    out: &mut [u64; 8],
+    names: &mut [u32; 8],
+    addresses: &mut [u32; 8],
+    lengths: &mut [u32; 8],
+    sizes: &mut [u32; 8],
+    serial: &mut [u16; 8],
+    live: &mut [bool; 8],
+    forced: &mut [bool; 8],
+    running: usize,
     name: u32,
     address: u32,
     length: u32,
     size: u32,
     options: u32,
-    i: usize,
-) -> Answer
-    requires { ⌜ (i < 8 → getD (s .pools .serial) i 0 < 65535) ⌝ }
-    ensures { λ r. ⌜ r ≡ poolCreateAt s name address length size options i ⌝ }
+) -> Outcome
+    ensures { λ r. ⌜ ((s : State) → answerOf (lentPools s (now (out .exit)) (now (names .exit)) (now (addresses .exit)) (now (lengths .exit)) (now (sizes .exit)) (now (serial .exit)) (now (live .exit)) (now (forced .exit)) running) noWakes r ≡ poolCreateAt (lentPools s (now (out .entry)) (now (names .entry)) (now (addresses .entry)) (now (lengths .entry)) (now (sizes .entry)) (now (serial .entry)) (now (live .entry)) (now (forced .entry)) running) name address length size options (lowestUsable (now (serial .entry)) (now (live .entry)))) ⌝ }
 {
-    let mut p = s.pools;
-    let sharing = areas::overlapped(p, address, length);
+    let i = tables::lowest_usable(&*serial, &*live);
     if 8 <= i {
-        return answers::plain(s, 7);
+        return answers::plain(7, running);
     }
-    if sharing < 8 {
-        return answers::plain(s, 15);
+    if areas::overlapped(addresses, lengths, live, address, length) < 8 {
+        return answers::plain(15, running);
     }
-    let serial = p.serial[i] + 1;
-    p.out[i] = 0;
-    p.name[i] = name;
-    p.address[i] = address;
-    p.length[i] = length;
-    p.size[i] = size;
-    p.serial[i] = serial;
-    p.live[i] = true;
-    p.forced[i] = options == 1;
-    let mut n = s;
-    n.pools = p;
-    answers::gives(n, tables::identifier(serial, i))
+    let next = serial[i] + 1;
+    out[i] = 0;
+    names[i] = name;
+    addresses[i] = address;
+    lengths[i] = length;
+    sizes[i] = size;
+    serial[i] = next;
+    live[i] = true;
+    forced[i] = options == 1;
+    answers::gives(tables::identifier(next, i), running)
 }
 
 pub fn pool_create(
-    s: State,
+    out: &mut [u64; 8],
+    names: &mut [u32; 8],
+    addresses: &mut [u32; 8],
+    lengths: &mut [u32; 8],
+    sizes: &mut [u32; 8],
+    serial: &mut [u16; 8],
+    live: &mut [bool; 8],
+    forced: &mut [bool; 8],
+    running: usize,
     name: u32,
     address: u32,
     length: u32,
     size: u32,
     options: u32,
-) -> Answer
-    ensures { λ r. ⌜ r ≡ poolCreate s name address length size options ⌝ }
+) -> Outcome
+    ensures { λ r. ⌜ ((s : State) → answerOf (lentPools s (now (out .exit)) (now (names .exit)) (now (addresses .exit)) (now (lengths .exit)) (now (sizes .exit)) (now (serial .exit)) (now (live .exit)) (now (forced .exit)) running) noWakes r ≡ poolCreate (lentPools s (now (out .entry)) (now (names .entry)) (now (addresses .entry)) (now (lengths .entry)) (now (sizes .entry)) (now (serial .entry)) (now (live .entry)) (now (forced .entry)) running) name address length size options) ⌝ }
 {
-    if !areas::is_area(address, length) {
-        return answers::plain(s, 3);
+    let status = refusal(address, length, size, options);
+    if status != 0 {
+        return answers::plain(status, running);
     }
-    if !areas::is_size(length, size) {
-        return answers::plain(s, 14);
-    }
-    if 1 < options {
-        return answers::plain(s, 6);
-    }
-    let p = s.pools;
-    let i = tables::lowest_usable(&p.serial, &p.live);
-    create_at(s, name, address, length, size, options, i)
+    create_at(
+        out,
+        names,
+        addresses,
+        lengths,
+        sizes,
+        serial,
+        live,
+        forced,
+        running,
+        name,
+        address,
+        length,
+        size,
+        options,
+    )
 }
 
-fn delete_at(s: State, i: usize) -> Answer
+fn delete_at(
+    out: &mut [u64; 8],
+    name: &mut [u32; 8],
+    address: &mut [u32; 8],
+    length: &mut [u32; 8],
+    size: &mut [u32; 8],
+    live: &mut [bool; 8],
+    forced: &mut [bool; 8],
+    running: usize,
+    i: usize,
+) -> Outcome
     requires { ⌜ i < 8 ⌝ }
-    ensures { λ r. ⌜ r ≡ poolDeleteAt s i ⌝ }
+    ensures { λ r. ⌜ ((s : State) (serial : List ℕ) → answerOf (lentPools s (now (out .exit)) (now (name .exit)) (now (address .exit)) (now (length .exit)) (now (size .exit)) serial (now (live .exit)) (now (forced .exit)) running) noWakes r ≡ poolDeleteAt (lentPools s (now (out .entry)) (now (name .entry)) (now (address .entry)) (now (length .entry)) (now (size .entry)) serial (now (live .entry)) (now (forced .entry)) running) i) ⌝ }
 {
-    let mut p = s.pools;
-    if !p.forced[i] {
-        if 0 < p.out[i] {
-            return answers::plain(s, 16);
+    if !forced[i] {
+        if 0 < out[i] {
+            return answers::plain(16, running);
         }
     }
-    p.out[i] = 0;
-    p.name[i] = 0;
-    p.address[i] = 0;
-    p.length[i] = 0;
-    p.size[i] = 0;
-    p.live[i] = false;
-    p.forced[i] = false;
-    let mut n = s;
-    n.pools = p;
-    answers::plain(n, 0)
+    out[i] = 0;
+    name[i] = 0;
+    address[i] = 0;
+    length[i] = 0;
+    size[i] = 0;
+    live[i] = false;
+    forced[i] = false;
+    answers::plain(0, running)
 }
 
-pub fn pool_delete(s: State, id: u32) -> Answer
-    ensures { λ r. ⌜ r ≡ poolDelete s id ⌝ }
+pub fn pool_delete(
+    out: &mut [u64; 8],
+    name: &mut [u32; 8],
+    address: &mut [u32; 8],
+    length: &mut [u32; 8],
+    size: &mut [u32; 8],
+    serial: &[u16; 8],
+    live: &mut [bool; 8],
+    forced: &mut [bool; 8],
+    running: usize,
+    id: u32,
+) -> Outcome
+    ensures { λ r. ⌜ ((s : State) → answerOf (lentPools s (now (out .exit)) (now (name .exit)) (now (address .exit)) (now (length .exit)) (now (size .exit)) (now (serial .entry)) (now (live .exit)) (now (forced .exit)) running) noWakes r ≡ poolDelete (lentPools s (now (out .entry)) (now (name .entry)) (now (address .entry)) (now (length .entry)) (now (size .entry)) (now (serial .entry)) (now (live .entry)) (now (forced .entry)) running) id) ⌝ }
 {
-    match find(s, id) {
-        Found::At(i) => delete_at(s, i),
-        Found::Deleted => answers::plain(s, 5),
-        Found::Invalid => answers::plain(s, 4),
+    match tables::find(serial, &*live, id) {
+        Found::At(i) => delete_at(out, name, address, length, size, live, forced, running, i),
+        Found::Deleted => answers::plain(5, running),
+        Found::Invalid => answers::plain(4, running),
     }
 }
 
-fn ident_at(s: State, i: usize) -> Answer
-    ensures { λ r. ⌜ r ≡ poolIdentAt s i ⌝ }
+pub fn pool_ident<'a>(
+    names: &'a [u32; 8],
+    serial: &[u16; 8],
+    live: &'a [bool; 8],
+    running: usize,
+    name: u32,
+) -> Outcome
+    ensures { λ r. ⌜ ((s : State) → answerOf (lentPools s (s .pools .out) (now (names .entry)) (s .pools .address) (s .pools .length) (s .pools .size) (now (serial .entry)) (now (live .entry)) (s .pools .forced) running) noWakes r ≡ poolIdent (lentPools s (s .pools .out) (now (names .entry)) (s .pools .address) (s .pools .length) (s .pools .size) (now (serial .entry)) (now (live .entry)) (s .pools .forced) running) name) ⌝ }
 {
+    let i = tables::by_name(live, names, name);
     if 8 <= i {
-        return answers::plain(s, 8);
+        return answers::plain(8, running);
     }
-    let p = s.pools;
-    answers::gives(s, tables::identifier(p.serial[i], i))
+    answers::gives(tables::identifier(serial[i], i), running)
 }
 
-pub fn pool_ident(s: State, name: u32) -> Answer
-    ensures { λ r. ⌜ r ≡ poolIdent s name ⌝ }
-{
-    let p = s.pools;
-    let i = tables::by_name(&p.live, &p.name, name);
-    ident_at(s, i)
-}
-
-// The state with other marks of pool `i`.
-fn remark(s: State, i: usize, out: u64) -> State
+fn get_at(
+    out: &mut [u64; 8],
+    address: &[u32; 8],
+    length: &[u32; 8],
+    size: &[u32; 8],
+    running: usize,
+    i: usize,
+) -> Outcome
     requires { ⌜ i < 8 ⌝ }
-    ensures { λ r. ⌜ r ≡ withPools s (withOut (s .pools) i out) ⌝ }
+    ensures { λ r. ⌜ ((s : State) (serial : List ℕ) (live : List Bool) → answerOf (lentPools s (now (out .exit)) (s .pools .name) (now (address .entry)) (now (length .entry)) (now (size .entry)) serial live (s .pools .forced) running) noWakes r ≡ poolGetBuffAt (lentPools s (now (out .entry)) (s .pools .name) (now (address .entry)) (now (length .entry)) (now (size .entry)) serial live (s .pools .forced) running) i) ⌝ }
 {
-    let mut p = s.pools;
-    p.out[i] = out;
-    let mut n = s;
-    n.pools = p;
-    n
-}
-
-fn get_at(s: State, i: usize) -> Answer
-    requires { ⌜ i < 8 ⌝ }
-    ensures { λ r. ⌜ r ≡ poolGetBuffAt s i ⌝ }
-{
-    let p = s.pools;
-    let n = buffers(p, i);
-    let out = p.out[i];
-    let k = areas::lowest_free(out, n);
+    let n = areas::buffers_of(length[i], size[i]);
+    let marks = out[i];
+    let k = areas::lowest_free(marks, n);
     if n <= k {
-        return answers::plain(s, 17);
+        return answers::plain(17, running);
     }
-    let at = areas::buffer_address(p.address[i], p.size[i], k);
-    let taken = areas::take(out, k);
-    answers::gives(remark(s, i, taken), at)
+    let at = areas::buffer_address(address[i], size[i], k);
+    out[i] = areas::take(marks, k);
+    answers::gives(at, running)
 }
 
-pub fn pool_get_buff(s: State, id: u32) -> Answer
-    ensures { λ r. ⌜ r ≡ poolGetBuff s id ⌝ }
+pub fn pool_get_buff<'a>(
+    out: &mut [u64; 8],
+    address: &[u32; 8],
+    length: &[u32; 8],
+    size: &[u32; 8],
+    serial: &'a [u16; 8],
+    live: &'a [bool; 8],
+    running: usize,
+    id: u32,
+) -> Outcome
+    ensures { λ r. ⌜ ((s : State) → answerOf (lentPools s (now (out .exit)) (s .pools .name) (now (address .entry)) (now (length .entry)) (now (size .entry)) (now (serial .entry)) (now (live .entry)) (s .pools .forced) running) noWakes r ≡ poolGetBuff (lentPools s (now (out .entry)) (s .pools .name) (now (address .entry)) (now (length .entry)) (now (size .entry)) (now (serial .entry)) (now (live .entry)) (s .pools .forced) running) id) ⌝ }
 {
-    match find(s, id) {
-        Found::At(i) => get_at(s, i),
-        Found::Deleted => answers::plain(s, 5),
-        Found::Invalid => answers::plain(s, 4),
+    match tables::find(serial, live, id) {
+        Found::At(i) => get_at(out, address, length, size, running, i),
+        Found::Deleted => answers::plain(5, running),
+        Found::Invalid => answers::plain(4, running),
     }
 }
 
 // "Any task may return a buffer."
-fn ret_at(s: State, x: u32, i: usize) -> Answer
+fn ret_at(
+    out: &mut [u64; 8],
+    address: &[u32; 8],
+    length: &[u32; 8],
+    size: &[u32; 8],
+    running: usize,
+    x: u32,
+    i: usize,
+) -> Outcome
     requires { ⌜ i < 8 ⌝ }
-    ensures { λ r. ⌜ r ≡ poolRetBuffAt s x i ⌝ }
+    ensures { λ r. ⌜ ((s : State) (serial : List ℕ) (live : List Bool) → answerOf (lentPools s (now (out .exit)) (s .pools .name) (now (address .entry)) (now (length .entry)) (now (size .entry)) serial live (s .pools .forced) running) noWakes r ≡ poolRetBuffAt (lentPools s (now (out .entry)) (s .pools .name) (now (address .entry)) (now (length .entry)) (now (size .entry)) serial live (s .pools .forced) running) x i) ⌝ }
 {
-    let p = s.pools;
-    let n = buffers(p, i);
-    let out = p.out[i];
-    let k = areas::buffer_at(p.address[i], p.size[i], n, x);
+    let n = areas::buffers_of(length[i], size[i]);
+    let marks = out[i];
+    let k = areas::buffer_at(address[i], size[i], n, x);
     if k < 64 {
-        if areas::is_out(out, k) {
-            let back = areas::give_back(out, k);
-            return answers::plain(remark(s, i, back), 0);
+        if areas::is_out(marks, k) {
+            out[i] = areas::give_back(marks, k);
+            return answers::plain(0, running);
         }
     }
-    answers::plain(s, 18)
+    answers::plain(18, running)
 }
 
-pub fn pool_ret_buff(s: State, id: u32, x: u32) -> Answer
-    ensures { λ r. ⌜ r ≡ poolRetBuff s id x ⌝ }
+pub fn pool_ret_buff<'a>(
+    out: &mut [u64; 8],
+    address: &[u32; 8],
+    length: &[u32; 8],
+    size: &[u32; 8],
+    serial: &'a [u16; 8],
+    live: &'a [bool; 8],
+    running: usize,
+    id: u32,
+    x: u32,
+) -> Outcome
+    ensures { λ r. ⌜ ((s : State) → answerOf (lentPools s (now (out .exit)) (s .pools .name) (now (address .entry)) (now (length .entry)) (now (size .entry)) (now (serial .entry)) (now (live .entry)) (s .pools .forced) running) noWakes r ≡ poolRetBuff (lentPools s (now (out .entry)) (s .pools .name) (now (address .entry)) (now (length .entry)) (now (size .entry)) (now (serial .entry)) (now (live .entry)) (s .pools .forced) running) id x) ⌝ }
 {
-    match find(s, id) {
-        Found::At(i) => ret_at(s, x, i),
-        Found::Deleted => answers::plain(s, 5),
-        Found::Invalid => answers::plain(s, 4),
+    match tables::find(serial, live, id) {
+        Found::At(i) => ret_at(out, address, length, size, running, x, i),
+        Found::Deleted => answers::plain(5, running),
+        Found::Invalid => answers::plain(4, running),
     }
 }
 
 // "pool_info gives buffers, free, size, options"
-fn info_at(s: State, i: usize) -> Answer
+fn info_at(
+    out: &[u64; 8],
+    length: &[u32; 8],
+    size: &[u32; 8],
+    forced: &[bool; 8],
+    running: usize,
+    i: usize,
+) -> Outcome
     requires { ⌜ i < 8 ⌝ }
-    ensures { λ r. ⌜ r ≡ poolInfoAt s i ⌝ }
+    ensures { λ r. ⌜ ((s : State) (serial : List ℕ) (live : List Bool) → answerOf (lentPools s (now (out .entry)) (s .pools .name) (s .pools .address) (now (length .entry)) (now (size .entry)) serial live (now (forced .entry)) running) noWakes r ≡ poolInfoAt (lentPools s (now (out .entry)) (s .pools .name) (s .pools .address) (now (length .entry)) (now (size .entry)) serial live (now (forced .entry)) running) i) ⌝ }
 {
-    let p = s.pools;
-    let n = buffers(p, i);
-    let free = areas::free_of(p.out[i], n);
-    answers::answer(s, 0, n, free, p.size[i], answers::bit(p.forced[i]), false)
+    let n = areas::buffers_of(length[i], size[i]);
+    let free = areas::free_of(out[i], n);
+    answers::tells(n, free, size[i], answers::bit(forced[i]), false, running)
 }
 
-pub fn pool_info(s: State, id: u32) -> Answer
-    ensures { λ r. ⌜ r ≡ poolInfo s id ⌝ }
+pub fn pool_info<'a>(
+    out: &[u64; 8],
+    length: &[u32; 8],
+    size: &[u32; 8],
+    serial: &'a [u16; 8],
+    live: &'a [bool; 8],
+    forced: &[bool; 8],
+    running: usize,
+    id: u32,
+) -> Outcome
+    ensures { λ r. ⌜ ((s : State) → answerOf (lentPools s (now (out .entry)) (s .pools .name) (s .pools .address) (now (length .entry)) (now (size .entry)) (now (serial .entry)) (now (live .entry)) (now (forced .entry)) running) noWakes r ≡ poolInfo (lentPools s (now (out .entry)) (s .pools .name) (s .pools .address) (now (length .entry)) (now (size .entry)) (now (serial .entry)) (now (live .entry)) (now (forced .entry)) running) id) ⌝ }
 {
-    match find(s, id) {
-        Found::At(i) => info_at(s, i),
-        Found::Deleted => answers::plain(s, 5),
-        Found::Invalid => answers::plain(s, 4),
+    match tables::find(serial, live, id) {
+        Found::At(i) => info_at(out, length, size, forced, running, i),
+        Found::Deleted => answers::plain(5, running),
+        Found::Invalid => answers::plain(4, running),
     }
 }

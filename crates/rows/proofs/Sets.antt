@@ -10,7 +10,7 @@ use Rattle.scope.specs.Choice.{pick, every}
 use Rattle.scope.specs.Calls.{calls}
 use Rattle.laws.proofs.Branches.{true-false}
 use Rattle.laws.proofs.Searches.{every-at}
-use Rattle.rows.specs.Rows.{rowAt, mayGive}
+use Rattle.rows.specs.Rows.{setAt, mayGive}
 
 -- "The call table has twenty rows"
 pub twenty-rows : length calls ≡ 20
@@ -28,7 +28,7 @@ same-is false true e = absurd (true-false e refl)
 same-is false false e = refl
 
 abbrev hasBit : ℕ → ℕ → Bool
-hasBit call status = eqb (rowAt call .may / 2 ^ status % 2) 1
+hasBit call status = eqb (setAt call / 2 ^ status % 2) 1
 
 abbrev agrees : ℕ → ℕ → Bool
 agrees call status = same (hasBit call status) (mayGive call status)

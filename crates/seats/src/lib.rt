@@ -1,7 +1,7 @@
 // The verbs of the queues: leave from anywhere, join behind a key, first, who runs, how many. Nobody else touches a seat.
 // A seat is queue × 64 + place; slot 32 is nobody. (scope's specs/Seats.antt.)
 ghost use mathlib.Core.Path.{_≡_};
-ghost use mathlib.Core.Bool.{_&&_};
+ghost use mathlib.Core.Bool.{_&&_, false};
 ghost use Prim.Native.Nat.{ℕ, _<_};
 ghost use lib.Dec.{ltb};
 ghost use Rattle.scope.specs.Choice.{pick};
@@ -58,30 +58,31 @@ fn raised(y: u16, x: u16, end: u16) -> u16
     y
 }
 
-fn later(m: u16, y: u16, end: u16, key: u8, p: u8) -> u16
-    ensures { λ r. ⌜ r ≡ laterOf m y end key p ⌝ }
+// Seat `y` if it counts: before `end`, of a task whose key is `p` or more; else 0, which is nowhere.
+fn seat_ahead(y: u16, end: u16, key: u8, p: u8) -> u16
+    ensures { λ r. ⌜ r ≡ laterOf 0 y end key p ⌝ }
 {
-    if m < y {
-        if y < end {
-            if p <= key {
-                return y;
-            }
+    if y < end {
+        if p <= key {
+            return y;
         }
     }
-    m
+    0
 }
 
 // The last seat above `base` and before `end` of a task whose key is `p` or more; `base` if there is none.
+// In two loops, since the compiler takes many seats at a time in each of them, and one at a time where one loop does both.
 fn ahead(q: [u16; 32], key: [u8; 32], base: u16, end: u16, p: u8) -> u16
     ensures { λ r. ⌜ r ≡ aheadOf q key base end p 32 ⌝ }
 {
-    let mut m: u16 = base;
+    let mut s = q;
     let mut k: usize = 0;
     while k < 32 {
-        m = later(m, q[k], end, key[k], p);
+        let y = seat_ahead(s[k], end, key[k], p);
+        s[k] = y;
         k += 1;
     }
-    m
+    larger(base, top(s))
 }
 
 // Task `t`, which stands nowhere, joins the queue whose seats begin above `base`, behind all whose key is `p` or more.
@@ -130,12 +131,29 @@ pub fn on_seat(q: [u16; 32], x: u16) -> usize
     t
 }
 
-// The first waiter of semaphore `i`; 32 if there is none.
+// Whether somebody is on seat `x`. Without a branch for each task: the compiler takes many seats at a time.
+fn is_taken(q: [u16; 32], x: u16) -> bool
+    ensures { λ r. ⌜ (r ≡ false → 32 ≡ onSeat q x) ⌝ }
+{
+    let mut taken = false;
+    let mut t: usize = 0;
+    while t < 32 {
+        taken = taken | (q[t] == x);
+        t += 1;
+    }
+    taken
+}
+
+// The first waiter of semaphore `i`; 32 if there is none, which is most often so.
 pub fn first_waiter(q: [u16; 32], i: usize) -> usize
     requires { ⌜ i < 16 ⌝ }
     ensures { λ r. ⌜ r ≡ firstOf q (queueSeats i) ⌝ }
 {
-    on_seat(q, (i * 64 + 65) as u16)
+    let x = (i * 64 + 65) as u16;
+    if is_taken(q, x) {
+        return on_seat(q, x);
+    }
+    32
 }
 
 // 1 for a task that stands above `base`, before `end`; else 0.

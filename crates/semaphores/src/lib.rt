@@ -1,174 +1,221 @@
 // The semaphore calls: chapter 7, as document 01 fixes it. A semaphore keeps its free units; its count is those less the tasks
 // that wait, so whoever leaves its queue gives its one back by leaving. sem_release may come from an interrupt.
-// (scope's specs/Semaphores.antt.)
-use scope::Answer;
+// Each call is lent the columns it reads or changes, and changes them where they lie. (scope's specs/Semaphores.antt.)
+use answers::Outcome;
 use scope::Found;
-use scope::Line;
-use scope::State;
-use scope::Tasks;
-use scope::Waking;
 ghost use mathlib.Core.Path.{_≡_};
 ghost use mathlib.Core.Bool.{Bool, true, false, not, _&&_};
 ghost use Prim.Native.Nat.{ℕ, _+_, _<_, _≤_};
-ghost use lib.ListN.{getD};
+ghost use mathlib.Core.List.{List};
+ghost use lib.ListN.{getD, length};
 ghost use lib.Dec.{eqb};
-ghost use Rattle.scope.specs.Semaphores.{semFound, semCreateAt, semCreate, wokenSeats, wake, wakeNext, noneWoken, wakeAll, semDeleteAt, semDelete, semIdentAt, semIdent, isTimeOut, queueKey, waits, semWaitAt, semClaimAt, semClaim, semReleaseAt, semRelease, semInfoAt, semInfo};
+ghost use Rattle.scope.specs.declared.State.{State};
+ghost use Rattle.scope.specs.declared.Tasks.{Tasks};
+ghost use Rattle.scope.specs.Answers.{noWakes};
+ghost use Rattle.scope.specs.Semaphores.{semCreateAt, semCreate, wokenSeats, wake, wakeNext, noneWoken, wakeAll, semDeleteAt, semDelete, semIdentAt, semIdent, isTimeOut, queueKey, waits, semWaitAt, semClaimAt, semClaim, semReleaseAt, semRelease, semInfoAt, semInfo};
+ghost use Rattle.answers.specs.Outcomes.{answerOf};
+ghost use Rattle.answers.specs.Columns.{lineOf, wakers, wakingOf, lentSemaphores};
 
-fn find(s: State, id: u32) -> Found
-    ensures { λ r. ⌜ r ≡ semFound s id ⌝ }
-{
-    let m = s.semaphores;
-    tables::find(&m.serial, &m.live, id)
-}
-
-fn create_at(s: State, name: u32, count: u16, options: u32, i: usize) -> Answer
-    requires { ⌜ (i < 16 → getD (s .semaphores .serial) i 0 < 65535) ⌝ }
-    ensures { λ r. ⌜ r ≡ semCreateAt s name count options i ⌝ }
+fn create_at(
+    name: &mut [u32; 16],
+    serial: &mut [u16; 16],
+    units: &mut [u16; 16],
+    live: &mut [bool; 16],
+    fifo: &mut [bool; 16],
+    running: usize,
+    what: u32,
+    count: u16,
+    options: u32,
+    i: usize,
+) -> Outcome
+    requires { ⌜ (length (now serial) ≡ 16) × (i < 16 → getD (now serial) i 0 < 65535) ⌝ }
+    ensures { λ r. ⌜ ((s : State) → answerOf (lentSemaphores s (s .line .left) (s .line .seat) (s .line .joined) (s .tasks .serial) (s .tasks .suspended) (s .tasks .priority) (now (name .exit)) (now (serial .exit)) (now (units .exit)) (now (live .exit)) (now (fifo .exit)) running) noWakes r ≡ semCreateAt (lentSemaphores s (s .line .left) (s .line .seat) (s .line .joined) (s .tasks .serial) (s .tasks .suspended) (s .tasks .priority) (now (name .entry)) (now (serial .entry)) (now (units .entry)) (now (live .entry)) (now (fifo .entry)) running) what count options i) ⌝ }
 {
     if 16 <= i {
-        return answers::plain(s, 7);
+        return answers::plain(7, running);
     }
-    let mut m = s.semaphores;
-    let serial = m.serial[i] + 1;
-    m.name[i] = name;
-    m.serial[i] = serial;
-    m.units[i] = count;
-    m.live[i] = true;
-    m.fifo[i] = options == 1;
-    let mut n = s;
-    n.semaphores = m;
-    answers::gives(n, tables::identifier(serial, i))
+    let next = serial[i] + 1;
+    name[i] = what;
+    serial[i] = next;
+    units[i] = count;
+    live[i] = true;
+    fifo[i] = options == 1;
+    answers::gives(tables::identifier(next, i), running)
 }
 
-pub fn sem_create(s: State, name: u32, count: u32, options: u32) -> Answer
-    ensures { λ r. ⌜ r ≡ semCreate s name count options ⌝ }
+pub fn sem_create(
+    name: &mut [u32; 16],
+    serial: &mut [u16; 16],
+    units: &mut [u16; 16],
+    live: &mut [bool; 16],
+    fifo: &mut [bool; 16],
+    running: usize,
+    what: u32,
+    count: u32,
+    options: u32,
+) -> Outcome
+    ensures { λ r. ⌜ ((s : State) → answerOf (lentSemaphores s (s .line .left) (s .line .seat) (s .line .joined) (s .tasks .serial) (s .tasks .suspended) (s .tasks .priority) (now (name .exit)) (now (serial .exit)) (now (units .exit)) (now (live .exit)) (now (fifo .exit)) running) noWakes r ≡ semCreate (lentSemaphores s (s .line .left) (s .line .seat) (s .line .joined) (s .tasks .serial) (s .tasks .suspended) (s .tasks .priority) (now (name .entry)) (now (serial .entry)) (now (units .entry)) (now (live .entry)) (now (fifo .entry)) running) what count options) ⌝ }
 {
     if 32767 < count {
-        return answers::plain(s, 9);
+        return answers::plain(9, running);
     }
     if 1 < options {
-        return answers::plain(s, 6);
+        return answers::plain(6, running);
     }
-    let m = s.semaphores;
-    let i = tables::lowest_usable(&m.serial, &m.live);
-    create_at(s, name, count as u16, options, i)
+    let i = tables::lowest_usable(&serial[..], &live[..]);
+    create_at(
+        name,
+        serial,
+        units,
+        live,
+        fifo,
+        running,
+        what,
+        count as u16,
+        options,
+        i,
+    )
 }
 
 // Where the tasks stand once task `t` is woken: "it becomes ready when it neither waits nor is suspended".
-fn woken_seats(l: Line, suspended: bool, priority: u8, t: usize) -> [u16; 32]
+fn woken_seats(q: [u16; 32], joined: [u8; 32], suspended: bool, priority: u8, t: usize) -> [u16; 32]
     requires { ⌜ t < 32 ⌝ }
-    ensures { λ r. ⌜ r ≡ wokenSeats l suspended priority t ⌝ }
+    ensures { λ r. ⌜ ((left : List ℕ) → r ≡ wokenSeats (lineOf left q joined) suspended priority t) ⌝ }
 {
-    let q = l.seat;
     let r = seats::leave(q, t);
     if suspended {
         return r;
     }
-    let joined = l.joined;
     seats::make_ready(r, joined, t, priority)
 }
 
-// Task `t` leaves its queue and waits no longer.
-fn wake(l: Line, suspended: bool, priority: u8, t: usize) -> Line
-    requires { ⌜ t < 32 ⌝ }
-    ensures { λ r. ⌜ r ≡ wake l suspended priority t ⌝ }
+// Task `t` leaves its queue and waits no longer, and is the next of the wake list.
+pub fn wake_next(
+    left: &mut [u32; 32],
+    seat: &mut [u16; 32],
+    joined: &mut [u8; 32],
+    serial: &[u16; 32],
+    suspended: &[bool; 32],
+    priority: &[u8; 32],
+    wakes: &mut [u32; 32],
+    woken: usize,
+    t: usize,
+)
+    requires { ⌜ (t < 32) × (woken < 32) ⌝ }
+    ensures { λ r. ⌜ ((k : Tasks) → wakingOf (now (left .exit)) (now (seat .exit)) (now (joined .exit)) (now (wakes .exit)) (woken + 1) ≡ wakeNext (wakers k (now (serial .entry)) (now (suspended .entry)) (now (priority .entry))) (wakingOf (now (left .entry)) (now (seat .entry)) (now (joined .entry)) (now (wakes .entry)) woken) t) ⌝ }
 {
-    let q = woken_seats(l, suspended, priority, t);
-    let mut n = l;
-    n.left[t] = 0;
-    n.seat = q;
-    n.joined[t] = 0;
+    *seat = woken_seats(*seat, *joined, suspended[t], priority[t], t);
+    left[t] = 0;
+    joined[t] = 0;
+    let id = tables::identifier(serial[t], t);
+    wakes[woken] = id;
+}
+
+// "Delete wakes all waiters in queue order": the first, while there is one. Answers how many were woken.
+fn wake_all(
+    left: &mut [u32; 32],
+    seat: &mut [u16; 32],
+    joined: &mut [u8; 32],
+    serial: &[u16; 32],
+    suspended: &[bool; 32],
+    priority: &[u8; 32],
+    wakes: &mut [u32; 32],
+    i: usize,
+) -> usize
+    requires { ⌜ i < 16 ⌝ }
+    ensures { λ r. ⌜ ((k : Tasks) → wakingOf (now (left .exit)) (now (seat .exit)) (now (joined .exit)) (now (wakes .exit)) r ≡ wakeAll (wakers k (now (serial .entry)) (now (suspended .entry)) (now (priority .entry))) i 32 (wakingOf (now (left .entry)) (now (seat .entry)) (now (joined .entry)) (now (wakes .entry)) 0)) ⌝ }
+{
+    let mut n: usize = 0;
+    while n < 32 {
+        let t = seats::first_waiter(*seat, i);
+        if 32 <= t {
+            return n;
+        }
+        wake_next(left, seat, joined, serial, suspended, priority, wakes, n, t);
+        n += 1;
+    }
     n
 }
 
-// Task `t` is woken, and is the next of the wake list.
-pub fn wake_next(k: Tasks, w: Waking, t: usize) -> Waking
-    requires { ⌜ (t < 32) × (w .woken < 32) ⌝ }
-    ensures { λ r. ⌜ r ≡ wakeNext k w t ⌝ }
-{
-    let at = w.woken;
-    let line = wake(w.line, k.suspended[t], k.priority[t], t);
-    let mut wakes = w.wakes;
-    wakes[at] = tables::identifier(k.serial[t], t);
-    Waking {
-        line: line,
-        wakes: wakes,
-        woken: at + 1,
-    }
-}
-
-// Nobody is woken yet.
-pub fn none_woken(l: Line) -> Waking
-    ensures { λ r. ⌜ r ≡ noneWoken l ⌝ }
-{
-    Waking {
-        line: l,
-        wakes: [0; 32],
-        woken: 0,
-    }
-}
-
-// "Delete wakes all waiters in queue order": the first, while there is one.
-fn wake_all(k: Tasks, l: Line, i: usize) -> Waking
+fn delete_at(
+    left: &mut [u32; 32],
+    seat: &mut [u16; 32],
+    joined: &mut [u8; 32],
+    waker: &[u16; 32],
+    suspended: &[bool; 32],
+    priority: &[u8; 32],
+    name: &mut [u32; 16],
+    units: &mut [u16; 16],
+    live: &mut [bool; 16],
+    fifo: &mut [bool; 16],
+    wakes: &mut [u32; 32],
+    i: usize,
+) -> Outcome
     requires { ⌜ i < 16 ⌝ }
-    ensures { λ r. ⌜ r ≡ wakeAll k i 32 (noneWoken l) ⌝ }
+    requires { ⌜ now wakes ≡ noWakes ⌝ }
+    ensures { λ r. ⌜ ((s : State) (serial : List ℕ) (running : ℕ) → answerOf (lentSemaphores s (now (left .exit)) (now (seat .exit)) (now (joined .exit)) (now (waker .entry)) (now (suspended .entry)) (now (priority .entry)) (now (name .exit)) serial (now (units .exit)) (now (live .exit)) (now (fifo .exit)) running) (now (wakes .exit)) r ≡ semDeleteAt (lentSemaphores s (now (left .entry)) (now (seat .entry)) (now (joined .entry)) (now (waker .entry)) (now (suspended .entry)) (now (priority .entry)) (now (name .entry)) serial (now (units .entry)) (now (live .entry)) (now (fifo .entry)) running) i) ⌝ }
 {
-    let mut w = none_woken(l);
-    let mut n: usize = 0;
-    while n < 32 {
-        let here = w.line;
-        let q = here.seat;
-        let t = seats::first_waiter(q, i);
-        if 32 <= t {
-            return w;
-        }
-        w = wake_next(k, w, t);
-        n += 1;
+    let woken = wake_all(left, seat, joined, waker, suspended, priority, wakes, i);
+    name[i] = 0;
+    units[i] = 0;
+    live[i] = false;
+    fifo[i] = false;
+    answers::woke(woken, 11, seats::runner(*seat))
+}
+
+pub fn sem_delete(
+    left: &mut [u32; 32],
+    seat: &mut [u16; 32],
+    joined: &mut [u8; 32],
+    waker: &[u16; 32],
+    suspended: &[bool; 32],
+    priority: &[u8; 32],
+    name: &mut [u32; 16],
+    serial: &[u16; 16],
+    units: &mut [u16; 16],
+    live: &mut [bool; 16],
+    fifo: &mut [bool; 16],
+    wakes: &mut [u32; 32],
+    running: usize,
+    id: u32,
+) -> Outcome
+    ensures { λ r. ⌜ ((s : State) → answerOf (lentSemaphores s (now (left .exit)) (now (seat .exit)) (now (joined .exit)) (now (waker .entry)) (now (suspended .entry)) (now (priority .entry)) (now (name .exit)) (now (serial .entry)) (now (units .exit)) (now (live .exit)) (now (fifo .exit)) running) (now (wakes .exit)) r ≡ semDelete (lentSemaphores s (now (left .entry)) (now (seat .entry)) (now (joined .entry)) (now (waker .entry)) (now (suspended .entry)) (now (priority .entry)) (now (name .entry)) (now (serial .entry)) (now (units .entry)) (now (live .entry)) (now (fifo .entry)) running) id) ⌝ }
+{
+    *wakes = [0; 32];
+    match tables::find(serial, &live[..], id) {
+        Found::At(i) => delete_at(
+            left,
+            seat,
+            joined,
+            waker,
+            suspended,
+            priority,
+            name,
+            units,
+            live,
+            fifo,
+            wakes,
+            i,
+        ),
+        Found::Deleted => answers::plain(5, running),
+        Found::Invalid => answers::plain(4, running),
     }
-    w
 }
 
-fn delete_at(s: State, i: usize) -> Answer
-    requires { ⌜ i < 16 ⌝ }
-    ensures { λ r. ⌜ r ≡ semDeleteAt s i ⌝ }
+pub fn sem_ident<'a>(
+    name: &'a [u32; 16],
+    serial: &[u16; 16],
+    live: &'a [bool; 16],
+    running: usize,
+    what: u32,
+) -> Outcome
+    ensures { λ r. ⌜ ((s : State) → answerOf (lentSemaphores s (s .line .left) (s .line .seat) (s .line .joined) (s .tasks .serial) (s .tasks .suspended) (s .tasks .priority) (now (name .entry)) (now (serial .entry)) (s .semaphores .units) (now (live .entry)) (s .semaphores .fifo) running) noWakes r ≡ semIdent (lentSemaphores s (s .line .left) (s .line .seat) (s .line .joined) (s .tasks .serial) (s .tasks .suspended) (s .tasks .priority) (now (name .entry)) (now (serial .entry)) (s .semaphores .units) (now (live .entry)) (s .semaphores .fifo) running) what) ⌝ }
 {
-    let w = wake_all(s.tasks, s.line, i);
-    let mut m = s.semaphores;
-    m.name[i] = 0;
-    m.units[i] = 0;
-    m.live[i] = false;
-    m.fifo[i] = false;
-    let mut n = s;
-    n.semaphores = m;
-    answers::wakes_with(n, w, 11)
-}
-
-pub fn sem_delete(s: State, id: u32) -> Answer
-    ensures { λ r. ⌜ r ≡ semDelete s id ⌝ }
-{
-    match find(s, id) {
-        Found::At(i) => delete_at(s, i),
-        Found::Deleted => answers::plain(s, 5),
-        Found::Invalid => answers::plain(s, 4),
-    }
-}
-
-fn ident_at(s: State, i: usize) -> Answer
-    ensures { λ r. ⌜ r ≡ semIdentAt s i ⌝ }
-{
+    let i = tables::by_name(live, name, what);
     if 16 <= i {
-        return answers::plain(s, 8);
+        return answers::plain(8, running);
     }
-    let m = s.semaphores;
-    answers::gives(s, tables::identifier(m.serial[i], i))
-}
-
-pub fn sem_ident(s: State, name: u32) -> Answer
-    ensures { λ r. ⌜ r ≡ semIdent s name ⌝ }
-{
-    let m = s.semaphores;
-    let i = tables::by_name(&m.live, &m.name, name);
-    ident_at(s, i)
+    answers::gives(tables::identifier(serial[i], i), running)
 }
 
 // Whom a task stands behind: "FIFO queues grow at the end. Others are by priority at the moment of joining".
@@ -182,39 +229,27 @@ fn queue_key(fifo: bool, priority: u8) -> u8
 }
 
 // Task `t` leaves the ready order and joins the queue of semaphore `i`.
-fn wait(l: Line, i: usize, fifo: bool, priority: u8, ticks: u32, t: usize) -> Line
+fn wait(
+    left: &mut [u32; 32],
+    seat: &mut [u16; 32],
+    joined: &mut [u8; 32],
+    i: usize,
+    fifo: bool,
+    priority: u8,
+    ticks: u32,
+    t: usize,
+)
     requires { ⌜ (i < 16) × (t < 32) ⌝ }
-    ensures { λ r. ⌜ r ≡ waits l i fifo priority ticks t ⌝ }
+    ensures { λ r. ⌜ lineOf (now (left .exit)) (now (seat .exit)) (now (joined .exit)) ≡ waits (lineOf (now (left .entry)) (now (seat .entry)) (now (joined .entry))) i fifo priority ticks t ⌝ }
 {
-    let joined = l.joined;
-    let q = l.seat;
+    let q = *seat;
+    let keys = *joined;
     let r = seats::leave(q, t);
     let base = (i * 64 + 64) as u16;
     let key = queue_key(fifo, priority);
-    let x = seats::join(r, joined, t, base, key);
-    let mut n = l;
-    n.left[t] = ticks;
-    n.seat = x;
-    n.joined[t] = priority;
-    n
-}
-
-fn wait_at(s: State, ticks: u32, i: usize) -> Answer
-    requires { ⌜ i < 16 ⌝ }
-    ensures { λ r. ⌜ r ≡ semWaitAt s ticks i ⌝ }
-{
-    let t = s.running;
-    if 32 <= t {
-        return answers::plain(s, 24);
-    }
-    let m = s.semaphores;
-    let k = s.tasks;
-    let l = wait(s.line, i, m.fifo[i], k.priority[t], ticks, t);
-    let q = l.seat;
-    let mut n = s;
-    n.line = l;
-    n.running = seats::runner(q);
-    answers::plain(n, 1)
+    *seat = seats::join(r, keys, t, base, key);
+    left[t] = ticks;
+    joined[t] = priority;
 }
 
 // Whether a claim that may wait asks for no time_out there is. "With NOWAIT it is not looked at."
@@ -227,94 +262,205 @@ fn lacks_time_out(options: u32, ticks: u32) -> bool
     false
 }
 
-fn claim_at(s: State, options: u32, ticks: u32, i: usize) -> Answer
+fn wait_at(
+    left: &mut [u32; 32],
+    seat: &mut [u16; 32],
+    joined: &mut [u8; 32],
+    priority: &[u8; 32],
+    fifo: &[bool; 16],
+    running: usize,
+    ticks: u32,
+    i: usize,
+) -> Outcome
     requires { ⌜ i < 16 ⌝ }
-    ensures { λ r. ⌜ r ≡ semClaimAt s options ticks i ⌝ }
+    ensures { λ r. ⌜ ((s : State) (serial units : List ℕ) (live : List Bool) → answerOf (lentSemaphores s (now (left .exit)) (now (seat .exit)) (now (joined .exit)) (s .tasks .serial) (s .tasks .suspended) (now (priority .entry)) (s .semaphores .name) serial units live (now (fifo .entry)) running) noWakes r ≡ semWaitAt (lentSemaphores s (now (left .entry)) (now (seat .entry)) (now (joined .entry)) (s .tasks .serial) (s .tasks .suspended) (now (priority .entry)) (s .semaphores .name) serial units live (now (fifo .entry)) running) ticks i) ⌝ }
 {
-    if 1 < options {
-        return answers::plain(s, 6);
+    if 32 <= running {
+        return answers::plain(24, running);
     }
-    if lacks_time_out(options, ticks) {
-        return answers::plain(s, 3);
-    }
-    let mut m = s.semaphores;
-    let units = m.units[i];
-    if 0 < units {
-        m.units[i] = units - 1;
-        let mut n = s;
-        n.semaphores = m;
-        return answers::plain(n, 0);
-    }
-    if options == 1 {
-        return answers::plain(s, 10);
-    }
-    wait_at(s, ticks, i)
+    wait(
+        left,
+        seat,
+        joined,
+        i,
+        fifo[i],
+        priority[running],
+        ticks,
+        running,
+    );
+    answers::plain(1, seats::runner(*seat))
 }
 
-pub fn sem_claim(s: State, id: u32, options: u32, ticks: u32) -> Answer
-    ensures { λ r. ⌜ r ≡ semClaim s id options ticks ⌝ }
+fn claim_at(
+    left: &mut [u32; 32],
+    seat: &mut [u16; 32],
+    joined: &mut [u8; 32],
+    priority: &[u8; 32],
+    units: &mut [u16; 16],
+    fifo: &[bool; 16],
+    running: usize,
+    options: u32,
+    ticks: u32,
+    i: usize,
+) -> Outcome
+    requires { ⌜ i < 16 ⌝ }
+    ensures { λ r. ⌜ ((s : State) (serial : List ℕ) (live : List Bool) → answerOf (lentSemaphores s (now (left .exit)) (now (seat .exit)) (now (joined .exit)) (s .tasks .serial) (s .tasks .suspended) (now (priority .entry)) (s .semaphores .name) serial (now (units .exit)) live (now (fifo .entry)) running) noWakes r ≡ semClaimAt (lentSemaphores s (now (left .entry)) (now (seat .entry)) (now (joined .entry)) (s .tasks .serial) (s .tasks .suspended) (now (priority .entry)) (s .semaphores .name) serial (now (units .entry)) live (now (fifo .entry)) running) options ticks i) ⌝ }
 {
-    match find(s, id) {
-        Found::At(i) => claim_at(s, options, ticks, i),
-        Found::Deleted => answers::plain(s, 5),
-        Found::Invalid => answers::plain(s, 4),
+    if 1 < options {
+        return answers::plain(6, running);
+    }
+    if lacks_time_out(options, ticks) {
+        return answers::plain(3, running);
+    }
+    let free = units[i];
+    if 0 < free {
+        units[i] = free - 1;
+        return answers::plain(0, running);
+    }
+    if options == 1 {
+        return answers::plain(10, running);
+    }
+    wait_at(left, seat, joined, priority, fifo, running, ticks, i)
+}
+
+pub fn sem_claim<'a>(
+    left: &mut [u32; 32],
+    seat: &mut [u16; 32],
+    joined: &mut [u8; 32],
+    priority: &[u8; 32],
+    serial: &'a [u16; 16],
+    units: &mut [u16; 16],
+    live: &'a [bool; 16],
+    fifo: &[bool; 16],
+    running: usize,
+    id: u32,
+    options: u32,
+    ticks: u32,
+) -> Outcome
+    ensures { λ r. ⌜ ((s : State) → answerOf (lentSemaphores s (now (left .exit)) (now (seat .exit)) (now (joined .exit)) (s .tasks .serial) (s .tasks .suspended) (now (priority .entry)) (s .semaphores .name) (now (serial .entry)) (now (units .exit)) (now (live .entry)) (now (fifo .entry)) running) noWakes r ≡ semClaim (lentSemaphores s (now (left .entry)) (now (seat .entry)) (now (joined .entry)) (s .tasks .serial) (s .tasks .suspended) (now (priority .entry)) (s .semaphores .name) (now (serial .entry)) (now (units .entry)) (now (live .entry)) (now (fifo .entry)) running) id options ticks) ⌝ }
+{
+    match tables::find(serial, live, id) {
+        Found::At(i) => claim_at(
+            left,
+            seat,
+            joined,
+            priority,
+            units,
+            fifo,
+            running,
+            options,
+            ticks,
+            i,
+        ),
+        Found::Deleted => answers::plain(5, running),
+        Found::Invalid => answers::plain(4, running),
     }
 }
 
 // "If there were waiters the first leaves, woken with OK: that is its grant."
-fn release_at(s: State, i: usize) -> Answer
+fn release_at(
+    left: &mut [u32; 32],
+    seat: &mut [u16; 32],
+    joined: &mut [u8; 32],
+    waker: &[u16; 32],
+    suspended: &[bool; 32],
+    priority: &[u8; 32],
+    units: &mut [u16; 16],
+    wakes: &mut [u32; 32],
+    running: usize,
+    i: usize,
+) -> Outcome
     requires { ⌜ i < 16 ⌝ }
-    ensures { λ r. ⌜ r ≡ semReleaseAt s i ⌝ }
+    requires { ⌜ now wakes ≡ noWakes ⌝ }
+    ensures { λ r. ⌜ ((s : State) (name serial : List ℕ) (live fifo : List Bool) → answerOf (lentSemaphores s (now (left .exit)) (now (seat .exit)) (now (joined .exit)) (now (waker .entry)) (now (suspended .entry)) (now (priority .entry)) name serial (now (units .exit)) live fifo running) (now (wakes .exit)) r ≡ semReleaseAt (lentSemaphores s (now (left .entry)) (now (seat .entry)) (now (joined .entry)) (now (waker .entry)) (now (suspended .entry)) (now (priority .entry)) name serial (now (units .entry)) live fifo running) i) ⌝ }
 {
-    let l = s.line;
-    let q = l.seat;
-    let t = seats::first_waiter(q, i);
+    let t = seats::first_waiter(*seat, i);
     if t < 32 {
-        return answers::wakes_with(s, wake_next(s.tasks, none_woken(l), t), 0);
+        wake_next(left, seat, joined, waker, suspended, priority, wakes, 0, t);
+        return answers::woke(1, 0, seats::runner(*seat));
     }
-    let mut m = s.semaphores;
-    let units = m.units[i];
-    if 32767 <= units {
-        return answers::plain(s, 12);
+    let free = units[i];
+    if 32767 <= free {
+        return answers::plain(12, running);
     }
-    m.units[i] = units + 1;
-    let mut n = s;
-    n.semaphores = m;
-    answers::plain(n, 0)
+    units[i] = free + 1;
+    answers::plain(0, running)
 }
 
-pub fn sem_release(s: State, id: u32) -> Answer
-    ensures { λ r. ⌜ r ≡ semRelease s id ⌝ }
+pub fn sem_release<'a>(
+    left: &mut [u32; 32],
+    seat: &mut [u16; 32],
+    joined: &mut [u8; 32],
+    waker: &[u16; 32],
+    suspended: &[bool; 32],
+    priority: &[u8; 32],
+    serial: &'a [u16; 16],
+    units: &mut [u16; 16],
+    live: &'a [bool; 16],
+    wakes: &mut [u32; 32],
+    running: usize,
+    id: u32,
+) -> Outcome
+    ensures { λ r. ⌜ ((s : State) → answerOf (lentSemaphores s (now (left .exit)) (now (seat .exit)) (now (joined .exit)) (now (waker .entry)) (now (suspended .entry)) (now (priority .entry)) (s .semaphores .name) (now (serial .entry)) (now (units .exit)) (now (live .entry)) (s .semaphores .fifo) running) (now (wakes .exit)) r ≡ semRelease (lentSemaphores s (now (left .entry)) (now (seat .entry)) (now (joined .entry)) (now (waker .entry)) (now (suspended .entry)) (now (priority .entry)) (s .semaphores .name) (now (serial .entry)) (now (units .entry)) (now (live .entry)) (s .semaphores .fifo) running) id) ⌝ }
 {
-    match find(s, id) {
-        Found::At(i) => release_at(s, i),
-        Found::Deleted => answers::plain(s, 5),
-        Found::Invalid => answers::plain(s, 4),
+    *wakes = [0; 32];
+    match tables::find(serial, live, id) {
+        Found::At(i) => release_at(
+            left,
+            seat,
+            joined,
+            waker,
+            suspended,
+            priority,
+            units,
+            wakes,
+            running,
+            i,
+        ),
+        Found::Deleted => answers::plain(5, running),
+        Found::Invalid => answers::plain(4, running),
     }
+}
+
+fn wide(x: u16) -> u32
+    ensures { λ r. ⌜ r ≡ x ⌝ }
+{
+    x as u32
 }
 
 // "sem_info gives options, count, tasks waiting". The count is negative where tasks wait, and then its size is their number.
-fn info_at(s: State, i: usize) -> Answer
+fn info_at(
+    seat: &[u16; 32],
+    units: &[u16; 16],
+    fifo: &[bool; 16],
+    running: usize,
+    i: usize,
+) -> Outcome
     requires { ⌜ i < 16 ⌝ }
-    ensures { λ r. ⌜ r ≡ semInfoAt s i ⌝ }
+    ensures { λ r. ⌜ ((s : State) (serial : List ℕ) (live : List Bool) → answerOf (lentSemaphores s (s .line .left) (now (seat .entry)) (s .line .joined) (s .tasks .serial) (s .tasks .suspended) (s .tasks .priority) (s .semaphores .name) serial (now (units .entry)) live (now (fifo .entry)) running) noWakes r ≡ semInfoAt (lentSemaphores s (s .line .left) (now (seat .entry)) (s .line .joined) (s .tasks .serial) (s .tasks .suspended) (s .tasks .priority) (s .semaphores .name) serial (now (units .entry)) live (now (fifo .entry)) running) i) ⌝ }
 {
-    let l = s.line;
-    let m = s.semaphores;
-    let q = l.seat;
-    let waiting = seats::waiters(q, i) as u32;
-    let options = answers::bit(m.fifo[i]);
+    let waiting = seats::waiters(*seat, i) as u32;
+    let options = answers::bit(fifo[i]);
     if 0 < waiting {
-        return answers::answer(s, 0, options, waiting, waiting, 0, true);
+        return answers::tells(options, waiting, waiting, 0, true, running);
     }
-    answers::answer(s, 0, options, m.units[i] as u32, waiting, 0, false)
+    answers::tells(options, wide(units[i]), waiting, 0, false, running)
 }
 
-pub fn sem_info(s: State, id: u32) -> Answer
-    ensures { λ r. ⌜ r ≡ semInfo s id ⌝ }
+pub fn sem_info<'a>(
+    seat: &[u16; 32],
+    serial: &'a [u16; 16],
+    units: &[u16; 16],
+    live: &'a [bool; 16],
+    fifo: &[bool; 16],
+    running: usize,
+    id: u32,
+) -> Outcome
+    ensures { λ r. ⌜ ((s : State) → answerOf (lentSemaphores s (s .line .left) (now (seat .entry)) (s .line .joined) (s .tasks .serial) (s .tasks .suspended) (s .tasks .priority) (s .semaphores .name) (now (serial .entry)) (now (units .entry)) (now (live .entry)) (now (fifo .entry)) running) noWakes r ≡ semInfo (lentSemaphores s (s .line .left) (now (seat .entry)) (s .line .joined) (s .tasks .serial) (s .tasks .suspended) (s .tasks .priority) (s .semaphores .name) (now (serial .entry)) (now (units .entry)) (now (live .entry)) (now (fifo .entry)) running) id) ⌝ }
 {
-    match find(s, id) {
-        Found::At(i) => info_at(s, i),
-        Found::Deleted => answers::plain(s, 5),
-        Found::Invalid => answers::plain(s, 4),
+    match tables::find(serial, live, id) {
+        Found::At(i) => info_at(seat, units, fifo, running, i),
+        Found::Deleted => answers::plain(5, running),
+        Found::Invalid => answers::plain(4, running),
     }
 }

@@ -1,241 +1,320 @@
-// The task calls: chapter 4, as document 01 fixes it. One public function a call, refusals first. (scope's specs/Tasks.antt.)
-use scope::Answer;
+// The task calls: chapter 4, as document 01 fixes it. One public function a call, refusals first.
+// Each call is lent the columns it reads or changes, and changes them where they lie. (scope's specs/Tasks.antt.)
+// Where an argument has a column's name, the column's is in the plural.
+use answers::Outcome;
 use scope::Found;
-use scope::Line;
-use scope::State;
-use scope::Tasks;
 ghost use mathlib.Core.Path.{_≡_};
-ghost use mathlib.Core.Bool.{Bool, true, false};
-ghost use Prim.Native.Nat.{ℕ, _+_, _<_, _≤_};
-ghost use lib.ListN.{getD};
-ghost use Rattle.scope.specs.Views.{isReady, withLine, withTasks};
-ghost use Rattle.scope.specs.Tasks.{taskFound, readied, taskCreateAt, taskCreate, taskDeleteAt, taskDelete, taskIdentAt, taskIdent, taskStartAt, taskStart, taskSuspendAt, taskSuspend, taskResumeAt, taskResume, taskSetPriorityAt, taskSetPriority};
+ghost use mathlib.Core.Bool.{Bool};
+ghost use mathlib.Core.List.{List};
+ghost use Prim.Native.Nat.{ℕ, _<_};
+ghost use lib.ListN.{getD, length};
+ghost use Rattle.scope.specs.declared.State.{State};
+ghost use Rattle.scope.specs.declared.Line.{Line};
+ghost use Rattle.scope.specs.Answers.{noWakes};
+ghost use Rattle.scope.specs.Seats.{becomesReady};
+ghost use Rattle.scope.specs.Views.{readyWith};
+ghost use Rattle.scope.specs.Tasks.{taskFound, taskCreateAt, taskCreate, taskDeleteAt, taskDelete, taskIdent, taskStartAt, taskStart, taskSuspendAt, taskSuspend, taskResumeAt, taskResume, taskSetPriorityAt, taskSetPriority};
+ghost use Rattle.answers.specs.Outcomes.{answerOf};
+ghost use Rattle.answers.specs.Columns.{tasksOf, stateOf, lentTasks};
 
 // "16 priorities (0 to 15, 15 most urgent)"
 const LAST_PRIORITY: u32 = 15;
 
-// What a task's identifier names; 0 is SELF, the caller.
-fn find(s: State, id: u32) -> Found
-    ensures { λ r. ⌜ r ≡ taskFound s id ⌝ }
+// What a task's identifier names, and that it has a place in the table; 0 is SELF, the caller.
+fn find<'a>(serial: &'a [u16; 32], live: &'a [bool; 32], running: usize, id: u32) -> Found
+    ensures names { λ r. ⌜ ((s : State) (l : Line) (name priority : List ℕ) (started suspended : List Bool) → r ≡ taskFound (stateOf l (tasksOf name (now (serial .entry)) (now (live .entry)) started suspended priority) (s .semaphores) (s .pools) running) id) ⌝ }
+    ensures inside { λ r. ⌜ ((t : ℕ) → r ≡ Found.At t → t < 32) ⌝ }
 {
     if id == 0 {
-        if s.running < 32 {
-            return Found::At(s.running);
+        if running < 32 {
+            return Found::At(running);
         }
         return Found::Invalid;
     }
-    let k = s.tasks;
-    tables::find(&k.serial, &k.live, id)
-}
-
-// The state with tasks standing elsewhere, and so with whoever runs then.
-fn restand(s: State, l: Line) -> State
-    ensures { λ r. ⌜ r ≡ withLine s l ⌝ }
-{
-    let q = l.seat;
-    let mut n = s;
-    n.line = l;
-    n.running = seats::runner(q);
-    n
+    tables::find(serial, live, id)
 }
 
 // Task `t`, which stands nowhere, becomes ready.
-fn ready(l: Line, k: Tasks, t: usize) -> Line
+fn ready(seat: &mut [u16; 32], joined: &[u8; 32], priority: u8, t: usize)
     requires { ⌜ t < 32 ⌝ }
-    ensures { λ r. ⌜ r ≡ readied l k t ⌝ }
+    ensures { λ r. ⌜ now (seat .exit) ≡ becomesReady (now (seat .entry)) (now (joined .entry)) t priority ⌝ }
 {
-    let q = l.seat;
-    let joined = l.joined;
-    let r = seats::make_ready(q, joined, t, k.priority[t]);
-    let mut n = l;
-    n.seat = r;
-    n
+    *seat = seats::make_ready(*seat, *joined, t, priority);
 }
 
-fn create_at(s: State, name: u32, priority: u8, t: usize) -> Answer
-    requires { ⌜ (t < 32 → getD (s .tasks .serial) t 0 < 65535) ⌝ }
-    ensures { λ r. ⌜ r ≡ taskCreateAt s name priority t ⌝ }
+fn create_at(
+    names: &mut [u32; 32],
+    serial: &mut [u16; 32],
+    live: &mut [bool; 32],
+    started: &mut [bool; 32],
+    suspended: &mut [bool; 32],
+    priorities: &mut [u8; 32],
+    running: usize,
+    name: u32,
+    priority: u8,
+    t: usize,
+) -> Outcome
+    requires { ⌜ (length (now serial) ≡ 32) × (t < 32 → getD (now serial) t 0 < 65535) ⌝ }
+    ensures { λ r. ⌜ ((s : State) → answerOf (lentTasks s (s .line .left) (s .line .seat) (s .line .joined) (now (names .exit)) (now (serial .exit)) (now (live .exit)) (now (started .exit)) (now (suspended .exit)) (now (priorities .exit)) running) noWakes r ≡ taskCreateAt (lentTasks s (s .line .left) (s .line .seat) (s .line .joined) (now (names .entry)) (now (serial .entry)) (now (live .entry)) (now (started .entry)) (now (suspended .entry)) (now (priorities .entry)) running) name priority t) ⌝ }
 {
     if 32 <= t {
-        return answers::plain(s, 7);
+        return answers::plain(7, running);
     }
-    let mut k = s.tasks;
-    let serial = k.serial[t] + 1;
-    k.name[t] = name;
-    k.serial[t] = serial;
-    k.live[t] = true;
-    k.started[t] = false;
-    k.suspended[t] = false;
-    k.priority[t] = priority;
-    let mut n = s;
-    n.tasks = k;
-    answers::gives(n, tables::identifier(serial, t))
+    let next = serial[t] + 1;
+    names[t] = name;
+    serial[t] = next;
+    live[t] = true;
+    started[t] = false;
+    suspended[t] = false;
+    priorities[t] = priority;
+    answers::gives(tables::identifier(next, t), running)
 }
 
-pub fn task_create(s: State, name: u32, priority: u32) -> Answer
-    ensures { λ r. ⌜ r ≡ taskCreate s name priority ⌝ }
+pub fn task_create(
+    names: &mut [u32; 32],
+    serial: &mut [u16; 32],
+    live: &mut [bool; 32],
+    started: &mut [bool; 32],
+    suspended: &mut [bool; 32],
+    priorities: &mut [u8; 32],
+    running: usize,
+    name: u32,
+    priority: u32,
+) -> Outcome
+    ensures { λ r. ⌜ ((s : State) → answerOf (lentTasks s (s .line .left) (s .line .seat) (s .line .joined) (now (names .exit)) (now (serial .exit)) (now (live .exit)) (now (started .exit)) (now (suspended .exit)) (now (priorities .exit)) running) noWakes r ≡ taskCreate (lentTasks s (s .line .left) (s .line .seat) (s .line .joined) (now (names .entry)) (now (serial .entry)) (now (live .entry)) (now (started .entry)) (now (suspended .entry)) (now (priorities .entry)) running) name priority) ⌝ }
 {
     if LAST_PRIORITY < priority {
-        return answers::plain(s, 19);
+        return answers::plain(19, running);
     }
-    let k = s.tasks;
-    let t = tables::lowest_usable(&k.serial, &k.live);
-    create_at(s, name, priority as u8, t)
+    let t = tables::lowest_usable(serial, live);
+    create_at(
+        names,
+        serial,
+        live,
+        started,
+        suspended,
+        priorities,
+        running,
+        name,
+        priority as u8,
+        t,
+    )
 }
 
 // A waiter leaves its queue, and so gives its one back.
-fn delete_at(s: State, t: usize) -> Answer
+fn delete_at(
+    left: &mut [u32; 32],
+    seat: &mut [u16; 32],
+    joined: &mut [u8; 32],
+    name: &mut [u32; 32],
+    live: &mut [bool; 32],
+    started: &mut [bool; 32],
+    suspended: &mut [bool; 32],
+    priority: &mut [u8; 32],
+    t: usize,
+) -> Outcome
     requires { ⌜ t < 32 ⌝ }
-    ensures { λ r. ⌜ r ≡ taskDeleteAt s t ⌝ }
+    ensures { λ r. ⌜ ((s : State) (serial : List ℕ) (running : ℕ) → answerOf (lentTasks s (now (left .exit)) (now (seat .exit)) (now (joined .exit)) (now (name .exit)) serial (now (live .exit)) (now (started .exit)) (now (suspended .exit)) (now (priority .exit)) running) noWakes r ≡ taskDeleteAt (lentTasks s (now (left .entry)) (now (seat .entry)) (now (joined .entry)) (now (name .entry)) serial (now (live .entry)) (now (started .entry)) (now (suspended .entry)) (now (priority .entry)) running) t) ⌝ }
 {
-    let mut k = s.tasks;
-    k.name[t] = 0;
-    k.live[t] = false;
-    k.started[t] = false;
-    k.suspended[t] = false;
-    k.priority[t] = 0;
-    let mut l = s.line;
-    let q = l.seat;
-    let r = seats::leave(q, t);
-    l.left[t] = 0;
-    l.seat = r;
-    l.joined[t] = 0;
-    let mut n = s;
-    n.tasks = k;
-    answers::plain(restand(n, l), 0)
+    name[t] = 0;
+    live[t] = false;
+    started[t] = false;
+    suspended[t] = false;
+    priority[t] = 0;
+    *seat = seats::leave(*seat, t);
+    left[t] = 0;
+    joined[t] = 0;
+    answers::plain(0, seats::runner(*seat))
 }
 
-pub fn task_delete(s: State, id: u32) -> Answer
-    ensures { λ r. ⌜ r ≡ taskDelete s id ⌝ }
+pub fn task_delete(
+    left: &mut [u32; 32],
+    seat: &mut [u16; 32],
+    joined: &mut [u8; 32],
+    name: &mut [u32; 32],
+    serial: &[u16; 32],
+    live: &mut [bool; 32],
+    started: &mut [bool; 32],
+    suspended: &mut [bool; 32],
+    priority: &mut [u8; 32],
+    running: usize,
+    id: u32,
+) -> Outcome
+    ensures { λ r. ⌜ ((s : State) → answerOf (lentTasks s (now (left .exit)) (now (seat .exit)) (now (joined .exit)) (now (name .exit)) (now (serial .entry)) (now (live .exit)) (now (started .exit)) (now (suspended .exit)) (now (priority .exit)) running) noWakes r ≡ taskDelete (lentTasks s (now (left .entry)) (now (seat .entry)) (now (joined .entry)) (now (name .entry)) (now (serial .entry)) (now (live .entry)) (now (started .entry)) (now (suspended .entry)) (now (priority .entry)) running) id) ⌝ }
 {
-    match find(s, id) {
-        Found::At(t) => delete_at(s, t),
-        Found::Deleted => answers::plain(s, 5),
-        Found::Invalid => answers::plain(s, 4),
+    match find(serial, live, running, id) {
+        Found::At(t) => delete_at(
+            left,
+            seat,
+            joined,
+            name,
+            live,
+            started,
+            suspended,
+            priority,
+            t,
+        ),
+        Found::Deleted => answers::plain(5, running),
+        Found::Invalid => answers::plain(4, running),
     }
 }
 
-fn ident_at(s: State, t: usize) -> Answer
-    ensures { λ r. ⌜ r ≡ taskIdentAt s t ⌝ }
+pub fn task_ident<'a>(
+    names: &'a [u32; 32],
+    serial: &[u16; 32],
+    live: &'a [bool; 32],
+    running: usize,
+    name: u32,
+) -> Outcome
+    ensures { λ r. ⌜ ((s : State) → answerOf (lentTasks s (s .line .left) (s .line .seat) (s .line .joined) (now (names .entry)) (now (serial .entry)) (now (live .entry)) (s .tasks .started) (s .tasks .suspended) (s .tasks .priority) running) noWakes r ≡ taskIdent (lentTasks s (s .line .left) (s .line .seat) (s .line .joined) (now (names .entry)) (now (serial .entry)) (now (live .entry)) (s .tasks .started) (s .tasks .suspended) (s .tasks .priority) running) name) ⌝ }
 {
+    let t = tables::by_name(live, names, name);
     if 32 <= t {
-        return answers::plain(s, 8);
+        return answers::plain(8, running);
     }
-    let k = s.tasks;
-    answers::gives(s, tables::identifier(k.serial[t], t))
+    answers::gives(tables::identifier(serial[t], t), running)
 }
 
-pub fn task_ident(s: State, name: u32) -> Answer
-    ensures { λ r. ⌜ r ≡ taskIdent s name ⌝ }
-{
-    let k = s.tasks;
-    let t = tables::by_name(&k.live, &k.name, name);
-    ident_at(s, t)
-}
-
-fn start_at(s: State, t: usize) -> Answer
+fn start_at(
+    seat: &mut [u16; 32],
+    joined: &[u8; 32],
+    started: &mut [bool; 32],
+    priority: &[u8; 32],
+    running: usize,
+    t: usize,
+) -> Outcome
     requires { ⌜ t < 32 ⌝ }
-    ensures { λ r. ⌜ r ≡ taskStartAt s t ⌝ }
+    ensures { λ r. ⌜ ((s : State) (serial : List ℕ) (live : List Bool) → answerOf (lentTasks s (s .line .left) (now (seat .exit)) (now (joined .entry)) (s .tasks .name) serial live (now (started .exit)) (s .tasks .suspended) (now (priority .entry)) running) noWakes r ≡ taskStartAt (lentTasks s (s .line .left) (now (seat .entry)) (now (joined .entry)) (s .tasks .name) serial live (now (started .entry)) (s .tasks .suspended) (now (priority .entry)) running) t) ⌝ }
 {
-    let mut k = s.tasks;
-    if k.started[t] {
-        return answers::plain(s, 20);
+    if started[t] {
+        return answers::plain(20, running);
     }
-    k.started[t] = true;
-    let mut n = s;
-    n.tasks = k;
-    answers::plain(restand(n, ready(s.line, s.tasks, t)), 0)
+    started[t] = true;
+    ready(seat, joined, priority[t], t);
+    answers::plain(0, seats::runner(*seat))
 }
 
-pub fn task_start(s: State, id: u32) -> Answer
-    ensures { λ r. ⌜ r ≡ taskStart s id ⌝ }
+pub fn task_start<'a>(
+    seat: &mut [u16; 32],
+    joined: &[u8; 32],
+    serial: &'a [u16; 32],
+    live: &'a [bool; 32],
+    started: &mut [bool; 32],
+    priority: &[u8; 32],
+    running: usize,
+    id: u32,
+) -> Outcome
+    ensures { λ r. ⌜ ((s : State) → answerOf (lentTasks s (s .line .left) (now (seat .exit)) (now (joined .entry)) (s .tasks .name) (now (serial .entry)) (now (live .entry)) (now (started .exit)) (s .tasks .suspended) (now (priority .entry)) running) noWakes r ≡ taskStart (lentTasks s (s .line .left) (now (seat .entry)) (now (joined .entry)) (s .tasks .name) (now (serial .entry)) (now (live .entry)) (now (started .entry)) (s .tasks .suspended) (now (priority .entry)) running) id) ⌝ }
 {
-    match find(s, id) {
-        Found::At(t) => start_at(s, t),
-        Found::Deleted => answers::plain(s, 5),
-        Found::Invalid => answers::plain(s, 4),
+    match find(serial, live, running, id) {
+        Found::At(t) => start_at(seat, joined, started, priority, running, t),
+        Found::Deleted => answers::plain(5, running),
+        Found::Invalid => answers::plain(4, running),
     }
 }
 
 // "A suspended waiter keeps its place"; a ready task leaves the ready order.
-fn suspend_at(s: State, t: usize) -> Answer
+fn suspend_at(
+    seat: &mut [u16; 32],
+    started: &[bool; 32],
+    suspended: &mut [bool; 32],
+    running: usize,
+    t: usize,
+) -> Outcome
     requires { ⌜ t < 32 ⌝ }
-    ensures { λ r. ⌜ r ≡ taskSuspendAt s t ⌝ }
+    ensures { λ r. ⌜ ((s : State) (serial : List ℕ) (live : List Bool) → answerOf (lentTasks s (s .line .left) (now (seat .exit)) (s .line .joined) (s .tasks .name) serial live (now (started .entry)) (now (suspended .exit)) (s .tasks .priority) running) noWakes r ≡ taskSuspendAt (lentTasks s (s .line .left) (now (seat .entry)) (s .line .joined) (s .tasks .name) serial live (now (started .entry)) (now (suspended .entry)) (s .tasks .priority) running) t) ⌝ }
 {
-    let mut k = s.tasks;
-    if !k.started[t] {
-        return answers::plain(s, 21);
+    if !started[t] {
+        return answers::plain(21, running);
     }
-    if k.suspended[t] {
-        return answers::plain(s, 22);
+    if suspended[t] {
+        return answers::plain(22, running);
     }
-    k.suspended[t] = true;
-    let mut n = s;
-    n.tasks = k;
-    let mut l = s.line;
-    let q = l.seat;
-    if seats::waits_on(q[t]) {
-        return answers::plain(n, 0);
+    suspended[t] = true;
+    let x = seat[t];
+    if seats::waits_on(x) {
+        return answers::plain(0, running);
     }
-    let r = seats::leave(q, t);
-    l.seat = r;
-    answers::plain(restand(n, l), 0)
+    *seat = seats::leave(*seat, t);
+    answers::plain(0, seats::runner(*seat))
 }
 
-pub fn task_suspend(s: State, id: u32) -> Answer
-    ensures { λ r. ⌜ r ≡ taskSuspend s id ⌝ }
+pub fn task_suspend<'a>(
+    seat: &mut [u16; 32],
+    serial: &'a [u16; 32],
+    live: &'a [bool; 32],
+    started: &[bool; 32],
+    suspended: &mut [bool; 32],
+    running: usize,
+    id: u32,
+) -> Outcome
+    ensures { λ r. ⌜ ((s : State) → answerOf (lentTasks s (s .line .left) (now (seat .exit)) (s .line .joined) (s .tasks .name) (now (serial .entry)) (now (live .entry)) (now (started .entry)) (now (suspended .exit)) (s .tasks .priority) running) noWakes r ≡ taskSuspend (lentTasks s (s .line .left) (now (seat .entry)) (s .line .joined) (s .tasks .name) (now (serial .entry)) (now (live .entry)) (now (started .entry)) (now (suspended .entry)) (s .tasks .priority) running) id) ⌝ }
 {
-    match find(s, id) {
-        Found::At(t) => suspend_at(s, t),
-        Found::Deleted => answers::plain(s, 5),
-        Found::Invalid => answers::plain(s, 4),
+    match find(serial, live, running, id) {
+        Found::At(t) => suspend_at(seat, started, suspended, running, t),
+        Found::Deleted => answers::plain(5, running),
+        Found::Invalid => answers::plain(4, running),
     }
 }
 
 // "it becomes ready when it neither waits nor is suspended"
-fn resume_at(s: State, t: usize) -> Answer
+fn resume_at(
+    seat: &mut [u16; 32],
+    joined: &[u8; 32],
+    started: &[bool; 32],
+    suspended: &mut [bool; 32],
+    priority: &[u8; 32],
+    running: usize,
+    t: usize,
+) -> Outcome
     requires { ⌜ t < 32 ⌝ }
-    ensures { λ r. ⌜ r ≡ taskResumeAt s t ⌝ }
+    ensures { λ r. ⌜ ((s : State) (serial : List ℕ) (live : List Bool) → answerOf (lentTasks s (s .line .left) (now (seat .exit)) (now (joined .entry)) (s .tasks .name) serial live (now (started .entry)) (now (suspended .exit)) (now (priority .entry)) running) noWakes r ≡ taskResumeAt (lentTasks s (s .line .left) (now (seat .entry)) (now (joined .entry)) (s .tasks .name) serial live (now (started .entry)) (now (suspended .entry)) (now (priority .entry)) running) t) ⌝ }
 {
-    let mut k = s.tasks;
-    if !k.started[t] {
-        return answers::plain(s, 21);
+    if !started[t] {
+        return answers::plain(21, running);
     }
-    if !k.suspended[t] {
-        return answers::plain(s, 23);
+    if !suspended[t] {
+        return answers::plain(23, running);
     }
-    k.suspended[t] = false;
-    let mut n = s;
-    n.tasks = k;
-    let l = s.line;
-    if seats::waits_on(l.seat[t]) {
-        return answers::plain(n, 0);
+    suspended[t] = false;
+    if seats::waits_on(seat[t]) {
+        return answers::plain(0, running);
     }
-    answers::plain(restand(n, ready(l, s.tasks, t)), 0)
+    ready(seat, joined, priority[t], t);
+    answers::plain(0, seats::runner(*seat))
 }
 
-pub fn task_resume(s: State, id: u32) -> Answer
-    ensures { λ r. ⌜ r ≡ taskResume s id ⌝ }
+pub fn task_resume<'a>(
+    seat: &mut [u16; 32],
+    joined: &[u8; 32],
+    serial: &'a [u16; 32],
+    live: &'a [bool; 32],
+    started: &[bool; 32],
+    suspended: &mut [bool; 32],
+    priority: &[u8; 32],
+    running: usize,
+    id: u32,
+) -> Outcome
+    ensures { λ r. ⌜ ((s : State) → answerOf (lentTasks s (s .line .left) (now (seat .exit)) (now (joined .entry)) (s .tasks .name) (now (serial .entry)) (now (live .entry)) (now (started .entry)) (now (suspended .exit)) (now (priority .entry)) running) noWakes r ≡ taskResume (lentTasks s (s .line .left) (now (seat .entry)) (now (joined .entry)) (s .tasks .name) (now (serial .entry)) (now (live .entry)) (now (started .entry)) (now (suspended .entry)) (now (priority .entry)) running) id) ⌝ }
 {
-    match find(s, id) {
-        Found::At(t) => resume_at(s, t),
-        Found::Deleted => answers::plain(s, 5),
-        Found::Invalid => answers::plain(s, 4),
+    match find(serial, live, running, id) {
+        Found::At(t) => resume_at(seat, joined, started, suspended, priority, running, t),
+        Found::Deleted => answers::plain(5, running),
+        Found::Invalid => answers::plain(4, running),
     }
 }
 
-// "A task is ready if started, not waiting and not suspended."
-fn is_ready(l: Line, k: Tasks, t: usize) -> bool
-    requires { ⌜ t < 32 ⌝ }
-    ensures { λ r. ⌜ r ≡ isReady l k t ⌝ }
+// "A task is ready if started, not waiting and not suspended." (Here of a task on seat `x`.)
+fn is_ready(started: bool, suspended: bool, x: u16) -> bool
+    ensures { λ r. ⌜ r ≡ readyWith started suspended x ⌝ }
 {
-    if !k.started[t] {
+    if !started {
         return false;
     }
-    if k.suspended[t] {
+    if suspended {
         return false;
     }
-    !seats::waits_on(l.seat[t])
+    !seats::waits_on(x)
 }
 
 fn wide(p: u8) -> u32
@@ -245,37 +324,59 @@ fn wide(p: u8) -> u32
 }
 
 // A ready task is taken out and put in again behind its new equals.
-fn set_priority_at(s: State, priority: u32, t: usize) -> Answer
+fn set_priority_at(
+    seat: &mut [u16; 32],
+    joined: &[u8; 32],
+    started: &[bool; 32],
+    suspended: &[bool; 32],
+    priorities: &mut [u8; 32],
+    running: usize,
+    priority: u32,
+    t: usize,
+) -> Outcome
     requires { ⌜ t < 32 ⌝ }
-    ensures { λ r. ⌜ r ≡ taskSetPriorityAt s priority t ⌝ }
+    ensures { λ r. ⌜ ((s : State) (serial : List ℕ) (live : List Bool) → answerOf (lentTasks s (s .line .left) (now (seat .exit)) (now (joined .entry)) (s .tasks .name) serial live (now (started .entry)) (now (suspended .entry)) (now (priorities .exit)) running) noWakes r ≡ taskSetPriorityAt (lentTasks s (s .line .left) (now (seat .entry)) (now (joined .entry)) (s .tasks .name) serial live (now (started .entry)) (now (suspended .entry)) (now (priorities .entry)) running) priority t) ⌝ }
 {
     if LAST_PRIORITY < priority {
-        return answers::plain(s, 19);
+        return answers::plain(19, running);
     }
-    let mut k = s.tasks;
-    let mut l = s.line;
-    let before = k.priority[t];
+    let before = priorities[t];
     let after = priority as u8;
-    let ready = is_ready(l, k, t);
-    k.priority[t] = after;
-    let mut n = s;
-    n.tasks = k;
-    if ready {
-        let q = l.seat;
-        let joined = l.joined;
-        let r = seats::make_ready(seats::leave(q, t), joined, t, after);
-        l.seat = r;
-        return answers::gives(restand(n, l), wide(before));
+    priorities[t] = after;
+    if is_ready(started[t], suspended[t], seat[t]) {
+        *seat = seats::leave(*seat, t);
+        ready(seat, joined, after, t);
+        return answers::gives(wide(before), seats::runner(*seat));
     }
-    answers::gives(n, wide(before))
+    answers::gives(wide(before), running)
 }
 
-pub fn task_set_priority(s: State, id: u32, priority: u32) -> Answer
-    ensures { λ r. ⌜ r ≡ taskSetPriority s id priority ⌝ }
+pub fn task_set_priority<'a>(
+    seat: &mut [u16; 32],
+    joined: &[u8; 32],
+    serial: &'a [u16; 32],
+    live: &'a [bool; 32],
+    started: &[bool; 32],
+    suspended: &[bool; 32],
+    priorities: &mut [u8; 32],
+    running: usize,
+    id: u32,
+    priority: u32,
+) -> Outcome
+    ensures { λ r. ⌜ ((s : State) → answerOf (lentTasks s (s .line .left) (now (seat .exit)) (now (joined .entry)) (s .tasks .name) (now (serial .entry)) (now (live .entry)) (now (started .entry)) (now (suspended .entry)) (now (priorities .exit)) running) noWakes r ≡ taskSetPriority (lentTasks s (s .line .left) (now (seat .entry)) (now (joined .entry)) (s .tasks .name) (now (serial .entry)) (now (live .entry)) (now (started .entry)) (now (suspended .entry)) (now (priorities .entry)) running) id priority) ⌝ }
 {
-    match find(s, id) {
-        Found::At(t) => set_priority_at(s, priority, t),
-        Found::Deleted => answers::plain(s, 5),
-        Found::Invalid => answers::plain(s, 4),
+    match find(serial, live, running, id) {
+        Found::At(t) => set_priority_at(
+            seat,
+            joined,
+            started,
+            suspended,
+            priorities,
+            running,
+            priority,
+            t,
+        ),
+        Found::Deleted => answers::plain(5, running),
+        Found::Invalid => answers::plain(4, running),
     }
 }

@@ -1,12 +1,15 @@
 // Numbers out of a script's bytes, and an answer's line into a listing's. (scope's specs/Script.antt and Listing.antt.)
-use scope::Answer;
+use answers::Outcome;
 ghost use mathlib.Core.Path.{_≡_};
 ghost use mathlib.Core.Bool.{Bool, true, false};
 ghost use mathlib.Core.List.{[], _∷_, _++_};
 ghost use Prim.Native.Nat.{ℕ, _+_, _*_, _≤_, _<_};
 ghost use lib.ListN.{length, take};
+ghost use Rattle.scope.specs.declared.State.{State};
 ghost use Rattle.scope.specs.Script.{number32, isScript};
+ghost use Rattle.text.specs.Records.{recordAt};
 ghost use Rattle.scope.specs.Listing.{decimal, signed, field, wakeFields, lineOf, refusedLine};
+ghost use Rattle.answers.specs.Outcomes.{told};
 
 fn wide(b: u8) -> u32
     ensures { λ r. ⌜ (r ≡ b) × (r < 256) ⌝ }
@@ -20,6 +23,33 @@ pub fn read_number(s: &[u8], at: usize) -> u32
     ensures { λ r. ⌜ r ≡ number32 (now (s .entry)) at ⌝ }
 {
     wide(s[at]) + wide(s[at + 1]) * 256 + wide(s[at + 2]) * 65536 + wide(s[at + 3]) * 16777216
+}
+
+// "records of seven: call, caller mark, five arguments"
+pub struct Record {
+    pub call: u32,
+    pub mark: u32,
+    pub a: u32,
+    pub b: u32,
+    pub c: u32,
+    pub d: u32,
+    pub e: u32,
+}
+
+// The record at a place.
+pub fn read_record(s: &[u8], at: usize) -> Record
+    requires { ⌜ at + 28 ≤ length (now s) ⌝ }
+    ensures { λ r. ⌜ r ≡ recordAt (now (s .entry)) at ⌝ }
+{
+    Record {
+        call: read_number(s, at),
+        mark: read_number(s, at + 4),
+        a: read_number(s, at + 8),
+        b: read_number(s, at + 12),
+        c: read_number(s, at + 16),
+        d: read_number(s, at + 20),
+        e: read_number(s, at + 24),
+    }
 }
 
 // Whether the bytes are a script, and no refusal of it applies.
@@ -120,21 +150,28 @@ fn put_wakes(out: &mut [u8], at: usize, wakes: &[u32], woken: usize, why: u32) -
 // The longest line: a record number of 10 digits, six fields of 11 bytes, a minus sign, 32 wakes of 22, a newline.
 pub const LONGEST_LINE: usize = 782;
 
-// Puts an answer's line at a place, and answers the place after it.
-pub fn put_line(out: &mut [u8], at: usize, number: u32, a: Answer) -> usize
-    requires { ⌜ (at + 782 ≤ length (now out)) × (a .woken ≤ 32) ⌝ }
-    ensures { λ r. ⌜ (r ≡ at + length (lineOf number a)) × (take r (now (out .exit)) ≡ take at (now (out .entry)) ++ lineOf number a) ⌝ }
+// Puts an answer's line at a place, and answers the place after it. The answer is an outcome, the wake list and the running task:
+// no line tells more of the state.
+pub fn put_line(
+    out: &mut [u8],
+    at: usize,
+    number: u32,
+    o: Outcome,
+    wakes: &[u32; 32],
+    running: u32,
+) -> usize
+    requires { ⌜ (at + 782 ≤ length (now out)) × (o .woken ≤ 32) ⌝ }
+    ensures { λ r. ⌜ ((s : State) → (r ≡ at + length (lineOf number (told s (now (wakes .entry)) o running))) × (take r (now (out .exit)) ≡ take at (now (out .entry)) ++ lineOf number (told s (now (wakes .entry)) o running))) ⌝ }
 {
-    let values = a.values;
-    let wakes = a.wakes;
+    let values = o.values;
     let p0 = put_decimal(out, at, number);
-    let p1 = put_field(out, p0, a.status);
+    let p1 = put_field(out, p0, o.status);
     let p2 = put_field(out, p1, values[0]);
-    let p3 = put_signed_field(out, p2, a.negative, values[1]);
+    let p3 = put_signed_field(out, p2, o.negative, values[1]);
     let p4 = put_field(out, p3, values[2]);
     let p5 = put_field(out, p4, values[3]);
-    let p6 = put_field(out, p5, a.running);
-    let p7 = put_wakes(out, p6, &wakes, a.woken, a.why);
+    let p6 = put_field(out, p5, running);
+    let p7 = put_wakes(out, p6, wakes, o.woken, o.why);
     put_byte(out, p7, b'\n')
 }
 

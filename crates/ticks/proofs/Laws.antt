@@ -5,17 +5,21 @@ use native.Mathlib.Omega.{arith}
 use native.Mathlib.Nat.{not-suc-le-zero}
 use native.Mathlib.Numerals.{add-one}
 use mathlib.Core.Path.{_≡_, refl, sym, ap, _∙_}
-use mathlib.Core.Bool.{Bool, true, false, _&&_}
+use mathlib.Core.Bool.{Bool, true, false, _&&_, _||_}
 use mathlib.Core.List.{List, [], _∷_}
 use lib.ListN.{length, getD}
 use lib.Dec.{eqb}
 use Rattle.laws.proofs.Arrays.{Changing, changing-done}
+use Rattle.laws.proofs.Branches.{picked-yes, picked-no}
+use Rattle.laws.proofs.Searches.{none-more}
 use Rattle.scope.specs.declared.Tasks.{Tasks}
 use Rattle.scope.specs.declared.Line.{Line}
 use Rattle.scope.specs.declared.Waking.{Waking}
 use Rattle.scope.specs.Seats.{waitsOn}
+use Rattle.scope.specs.Choice.{pick}
 use Rattle.scope.specs.Semaphores.{wakeNext}
 use Rattle.scope.specs.Ticks.{timeLeft, timesLeft, isDue, wakeDue}
+use Rattle.answers.specs.Columns.{lineOf}
 
 -- one time_out for each there was, by its task
 times-length : (suspended : List Bool) (left : List ℕ) → length (timesLeft suspended left) ≡ length left
@@ -40,35 +44,44 @@ times-done suspended left r k n h m =
     changing-done 32 (λ j. timeLeft (getD suspended j false)) left r (timesLeft suspended left) k h (times-length suspended left ∙ e)
     (λ j l. times-at suspended left j (omega arith) (omega arith)) m
 
--- what is read of a task says whether it is due
-due : (l : Line) (t : ℕ) {b d : Bool} → b ≡ (waitsOn (getD (l .seat) t 0) && eqb (getD (l .left) t 0) 0) → b ≡ d → isDue l t ≡ d
-unfolding isDue
-due l t e f = sym e ∙ f
-
 -- The tasks below t are looked at: no more are woken, and the rest of the work gives what the whole gives.
 abbrev pub Looked : Tasks → Waking → Waking → ℕ → Type 0
 Looked k x w t = (t ≤ 32) × (w .woken ≤ t) × (wakeDue k (32 - t) t w ≡ wakeDue k 32 0 x)
 
 -- one task more, woken where it is due and passed by where it is not; and the end
-module _ (k : Tasks) (x w v : Waking) (t : ℕ) where
-  pub due-woken : (u : Waking) {b : Bool} → Looked k x w t → t < 32 → b ≡ (waitsOn (getD (w .line .seat) t 0) && eqb (getD (w .line .left) t 0) 0)
-      → b ≡ true → u ≡ wakeNext k w t → v ≡ u → Looked k x v (t + 1)
-  unfolding wakeDue wakeNext
-  due-woken u m h e f g z =
-      let d : 32 - t ≡ suc (32 - (t + 1)) = omega arith in
-      let n : v .woken ≡ w .woken + 1 = rw (z, g) in
-      let r : wakeDue k (32 - (t + 1)) (t + 1) v ≡ wakeDue k (32 - t) t w = rw (z, g, d, wakeDue, due (w .line) t e f, add-one t) in
-      (omega arith, omega arith, r ∙ m .2)
-
-  pub due-passed : {b : Bool} → Looked k x w t → t < 32 → b ≡ (waitsOn (getD (w .line .seat) t 0) && eqb (getD (w .line .left) t 0) 0)
-      → b ≡ false → v ≡ w → Looked k x v (t + 1)
-  unfolding wakeDue
-  due-passed m h e f z =
-      let d : 32 - t ≡ suc (32 - (t + 1)) = omega arith in
-      let n : v .woken ≡ w .woken = rw z in
-      let r : wakeDue k (32 - (t + 1)) (t + 1) v ≡ wakeDue k (32 - t) t w = rw (z, d, wakeDue, due (w .line) t e f, add-one t) in
-      (omega arith, omega arith, r ∙ m .2)
+pub due-looked : (k : Tasks) (x w v : Waking) (t : ℕ) → Looked k x w t → t < 32 → v .woken ≤ w .woken + 1
+    → v ≡ pick (isDue (w .line) t) (wakeNext k w t) w → Looked k x v (t + 1)
+unfolding wakeDue
+due-looked k x w v t m h f e =
+    let d : 32 - t ≡ suc (32 - (t + 1)) = omega arith in
+    let r : wakeDue k (32 - (t + 1)) (t + 1) v ≡ wakeDue k (32 - t) t w = rw (d, wakeDue) (go (isDue (w .line) t) refl) in
+    (omega arith, omega arith, r ∙ m .2)
+  where
+    go : (b : Bool) → isDue (w .line) t ≡ b
+        → wakeDue k (32 - (t + 1)) (t + 1) v
+        ≡ elim (isDue (w .line) t) [ true ↦ wakeDue k (32 - (t + 1)) (suc t) (wakeNext k w t) | false ↦ wakeDue k (32 - (t + 1)) (suc t) w ]
+    go true p = rw (e, p, picked-yes {A = Waking} true _ _ refl, add-one t)
+    go false p = rw (e, p, picked-no {A = Waking} false _ _ refl, add-one t)
 
 pub due-done : (k : Tasks) (x w : Waking) (t : ℕ) → Looked k x w t → 32 ≤ t → w ≡ wakeDue k 32 0 x
 unfolding wakeDue
 due-done k x w t m h = let d : 32 - t ≡ 0 = omega arith in rw d at (m .2)
+
+-- nobody below t is due, in whatever order they joined
+abbrev pub NoneBelow : List ℕ → List ℕ → ℕ → Type 0
+NoneBelow left seat t = (joined : List ℕ) (j : ℕ) → j < t → isDue (lineOf left seat joined) j ≡ false
+
+-- and so with one task more, if it is not due either
+pub none-due-more : (left seat : List ℕ) (t : ℕ) (a b : Bool) → b ≡ (waitsOn (getD seat t 0) && eqb (getD left t 0) 0)
+    → (a ≡ false → NoneBelow left seat t) → (a || b) ≡ false → NoneBelow left seat (t + 1)
+unfolding isDue
+none-due-more left seat t a b e h g joined =
+    none-more (isDue (lineOf left seat joined)) t a (λ f. h f joined) (rw (← e) g)
+
+-- nobody is due, so nobody is woken
+pub none-due : (k : Tasks) (w : Waking) (n t : ℕ) → ((j : ℕ) → j < t + n → isDue (w .line) j ≡ false) → w ≡ wakeDue k n t w
+unfolding wakeDue
+none-due k w zero t h = refl
+none-due k w (suc n) t h =
+    let e : isDue (w .line) t ≡ false = h t (omega arith) in
+    rw (wakeDue, e) (none-due k w n (suc t) (λ j l. h j (omega arith)))

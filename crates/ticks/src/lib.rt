@@ -1,17 +1,19 @@
 // The tick: one taken from each running time_out, then those who reached 0 woken in ascending slot order.
 // (scope's specs/Ticks.antt.)
-use scope::Answer;
-use scope::Line;
-use scope::State;
-use scope::Tasks;
-use scope::Waking;
+use answers::Outcome;
 ghost use mathlib.Core.Path.{_≡_};
 ghost use mathlib.Core.Bool.{Bool, true, false, _&&_};
+ghost use mathlib.Core.List.{List};
 ghost use Prim.Native.Nat.{ℕ, _+_, _<_, _≤_};
 ghost use lib.Dec.{eqb};
+ghost use Rattle.scope.specs.declared.State.{State};
+ghost use Rattle.scope.specs.declared.Tasks.{Tasks};
+ghost use Rattle.scope.specs.Choice.{pick};
 ghost use Rattle.scope.specs.Seats.{waitsOn};
-ghost use Rattle.scope.specs.Semaphores.{noneWoken};
-ghost use Rattle.scope.specs.Ticks.{timesLeft, wakeDue, tick};
+ghost use Rattle.scope.specs.Semaphores.{wakeNext};
+ghost use Rattle.scope.specs.Ticks.{timesLeft, isDue, wakeDue, tick};
+ghost use Rattle.answers.specs.Outcomes.{answerOf};
+ghost use Rattle.answers.specs.Columns.{lineOf, wakers, wakingOf, lentLine};
 
 // One is taken from each running time_out.
 fn times_left(suspended: [bool; 32], left: [u32; 32]) -> [u32; 32]
@@ -37,31 +39,99 @@ fn is_due(seat: u16, left: u32) -> bool
     false
 }
 
-// "Those reaching 0 are woken with 13 in ascending slot order".
-fn wake_due(k: Tasks, l: Line) -> Waking
-    ensures { λ r. ⌜ r ≡ wakeDue k 32 0 (noneWoken l) ⌝ }
+// Whether anybody is due. Most ticks wake nobody, and are told so without a branch for each task.
+fn any_due(seat: [u16; 32], left: [u32; 32]) -> bool
+    ensures { λ r. ⌜ (r ≡ false → (joined : List ℕ) (t : ℕ) → t < 32 → isDue (lineOf left seat joined) t ≡ false) ⌝ }
 {
-    let mut w = semaphores::none_woken(l);
-    let mut t: usize = 0;
-    while t < 32 {
-        let here = w.line;
-        if is_due(here.seat[t], here.left[t]) {
-            w = semaphores::wake_next(k, w, t);
-        }
-        t += 1;
+    let mut any = false;
+    let mut k: usize = 0;
+    while k < 32 {
+        any = any | is_due(seat[k], left[k]);
+        k += 1;
     }
-    w
+    any
 }
 
-pub fn tick(s: State) -> Answer
-    ensures { λ r. ⌜ r ≡ tick s ⌝ }
+// Task `t` is woken if it is due. Answers how many are woken by then.
+fn wake_if_due(
+    left: &mut [u32; 32],
+    seat: &mut [u16; 32],
+    joined: &mut [u8; 32],
+    serial: &[u16; 32],
+    suspended: &[bool; 32],
+    priority: &[u8; 32],
+    wakes: &mut [u32; 32],
+    woken: usize,
+    t: usize,
+) -> usize
+    requires { ⌜ (t < 32) × (woken < 32) ⌝ }
+    ensures few { λ r. ⌜ r ≤ woken + 1 ⌝ }
+    ensures { λ r. ⌜ ((k : Tasks) → wakingOf (now (left .exit)) (now (seat .exit)) (now (joined .exit)) (now (wakes .exit)) r ≡ pick (isDue (lineOf (now (left .entry)) (now (seat .entry)) (now (joined .entry))) t) (wakeNext (wakers k (now (serial .entry)) (now (suspended .entry)) (now (priority .entry))) (wakingOf (now (left .entry)) (now (seat .entry)) (now (joined .entry)) (now (wakes .entry)) woken) t) (wakingOf (now (left .entry)) (now (seat .entry)) (now (joined .entry)) (now (wakes .entry)) woken)) ⌝ }
 {
-    let k = s.tasks;
-    let mut l = s.line;
-    let left = l.left;
-    let suspended = k.suspended;
-    let r = times_left(suspended, left);
-    l.left = r;
-    let w = wake_due(k, l);
-    answers::wakes_with(s, w, 13)
+    if is_due(seat[t], left[t]) {
+        semaphores::wake_next(
+            left,
+            seat,
+            joined,
+            serial,
+            suspended,
+            priority,
+            wakes,
+            woken,
+            t,
+        );
+        return woken + 1;
+    }
+    woken
+}
+
+// "Those reaching 0 are woken with 13 in ascending slot order". Answers how many were woken.
+fn wake_due(
+    left: &mut [u32; 32],
+    seat: &mut [u16; 32],
+    joined: &mut [u8; 32],
+    serial: &[u16; 32],
+    suspended: &[bool; 32],
+    priority: &[u8; 32],
+    wakes: &mut [u32; 32],
+) -> usize
+    ensures { λ r. ⌜ ((k : Tasks) → wakingOf (now (left .exit)) (now (seat .exit)) (now (joined .exit)) (now (wakes .exit)) r ≡ wakeDue (wakers k (now (serial .entry)) (now (suspended .entry)) (now (priority .entry))) 32 0 (wakingOf (now (left .entry)) (now (seat .entry)) (now (joined .entry)) (now (wakes .entry)) 0)) ⌝ }
+{
+    let mut woken: usize = 0;
+    let mut t: usize = 0;
+    if !any_due(*seat, *left) {
+        return 0;
+    }
+    while t < 32 {
+        woken = wake_if_due(
+            left,
+            seat,
+            joined,
+            serial,
+            suspended,
+            priority,
+            wakes,
+            woken,
+            t,
+        );
+        t += 1;
+    }
+    woken
+}
+
+pub fn tick(
+    left: &mut [u32; 32],
+    seat: &mut [u16; 32],
+    joined: &mut [u8; 32],
+    serial: &[u16; 32],
+    suspended: &[bool; 32],
+    priority: &[u8; 32],
+    wakes: &mut [u32; 32],
+) -> Outcome
+    ensures { λ r. ⌜ ((s : State) (running : ℕ) → answerOf (lentLine s (now (left .exit)) (now (seat .exit)) (now (joined .exit)) (now (serial .entry)) (now (suspended .entry)) (now (priority .entry)) running) (now (wakes .exit)) r ≡ tick (lentLine s (now (left .entry)) (now (seat .entry)) (now (joined .entry)) (now (serial .entry)) (now (suspended .entry)) (now (priority .entry)) running)) ⌝ }
+{
+    *wakes = [0; 32];
+    *left = times_left(*suspended, *left);
+    let woken = wake_due(left, seat, joined, serial, suspended, priority, wakes);
+    answers::woke(woken, 13, seats::runner(*seat))
 }

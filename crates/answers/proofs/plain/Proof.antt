@@ -1,17 +1,14 @@
-use Rattle.scope.specs.Answers.{plain}
-use borrow.Author.Needs.{needs}
+use mathlib.Core.Path.{refl}
+use Rattle.answers.specs.Outcomes.{outcome}
 use Rattle.answers.proofs.plain.Statement.{statement}
 use Rattle.answers.proofs.plain.Tie as tie
 use Rattle.answers.proofs.plain.Reads as reads
 use Rattle.answers.proofs.plain.Lts as lts
-use Rattle.answers.proofs.answer.Reads as answer-reads
 
-answer-requires : tie.Need-answer-requires
-answer-requires c κs = search needs
-
+-- src/lib.rt:62:1
 returns : tie.Need-returns
-unfolding plain
-returns c = c .answer .ensures
+unfolding outcome
+returns c = refl
 
 pub plain-spec : {M : Type 1} → statement M
-plain-spec = tie.close (tie.spec answer-requires returns)
+plain-spec = tie.close (tie.spec returns)

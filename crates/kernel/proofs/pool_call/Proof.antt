@@ -1,17 +1,18 @@
-use mathlib.Core.Path.{_≡_}
+-- `kernel::pool_call`: each call of the chapter by its number; the last is what is left when it is none of those before.
+-- Assumes nothing.
 use native.Mathlib.Omega.{arith}
+use mathlib.Core.Path.{_≡_}
 use borrow.Author.Needs.{needs}
+use denote.Ref.{now}
+use Rattle.answers.specs.Columns.{lentPools}
 use Rattle.kernel.proofs.Laws.{last-of-six}
 use Rattle.kernel.proofs.pool_call.Statement.{statement}
 use Rattle.kernel.proofs.pool_call.Tie as tie
-use Rattle.kernel.proofs.pool_call.Reads as reads
-use Rattle.kernel.proofs.pool_call.Lts as lts
-use Rattle.pools.proofs.pool_create.Reads as pool-create-reads
-use Rattle.pools.proofs.pool_delete.Reads as pool-delete-reads
-use Rattle.pools.proofs.pool_get_buff.Reads as pool-get-buff-reads
-use Rattle.pools.proofs.pool_ident.Reads as pool-ident-reads
-use Rattle.pools.proofs.pool_info.Reads as pool-info-reads
-use Rattle.pools.proofs.pool_ret_buff.Reads as pool-ret-buff-reads
+use Rattle.scope.specs.declared.State.{State}
+
+-- the state before, out of all the columns lent
+abbrev whole : tie.Start → State → State
+whole c s = lentPools s (now (c .args .out)) (now (c .args .name)) (now (c .args .address)) (now (c .args .length)) (now (c .args .size)) (now (c .args .serial)) (now (c .args .live)) (now (c .args .forced)) (c .args .running)
 
 pool-create-requires : tie.Need-pool-create-requires
 pool-create-requires c κs = search needs
@@ -32,22 +33,22 @@ pool-info-requires : tie.Need-pool-info-requires
 pool-info-requires c κs = search needs
 
 returns : tie.Need-returns
-returns c = rw (c .before .match .keys1) (c .pool-create .ensures)
+returns c = λ s. rw (c .before .before .before .before .before .before .before .before .before .match .keys1) (c .pool-create .ensures (whole (c .before .before .before .before .before .before .before .before .before .before) s))
 
 returns-2 : tie.Need-returns-2
-returns-2 c = rw (c .before .match .keys2) (c .pool-delete .ensures)
+returns-2 c = λ s. rw (c .before .before .before .before .before .before .before .before .before .match .keys2) (c .pool-delete .ensures (whole (c .before .before .before .before .before .before .before .before .before .before) s))
 
 returns-3 : tie.Need-returns-3
-returns-3 c = rw (c .before .match .keys3) (c .pool-ident .ensures)
+returns-3 c = λ s. rw (c .before .before .before .before .match .keys3) (c .pool-ident .ensures (whole (c .before .before .before .before .before) s))
 
 returns-4 : tie.Need-returns-4
-returns-4 c = rw (c .before .match .keys4) (c .pool-get-buff .ensures)
+returns-4 c = λ s. rw (c .before .before .before .before .before .before .before .match .keys4) (c .pool-get-buff .ensures (whole (c .before .before .before .before .before .before .before .before) s))
 
 returns-5 : tie.Need-returns-5
-returns-5 c = rw (c .before .match .keys5) (c .pool-ret-buff .ensures)
+returns-5 c = λ s. rw (c .before .before .before .before .before .before .before .match .keys5) (c .pool-ret-buff .ensures (whole (c .before .before .before .before .before .before .before .before) s))
 
 returns-6 : tie.Need-returns-6
-returns-6 c = let h : c .before .before .args .call ≡ 19 = last-of-six 14 _ (omega arith) (omega arith) (c .before .match .rest .0 .0 .0 .0 .1) (c .before .match .rest .0 .0 .0 .1) (c .before .match .rest .0 .0 .1) (c .before .match .rest .0 .1) (c .before .match .rest .1) in rw h (c .pool-info .ensures)
+returns-6 c = λ s. let h : c .before .before .before .before .before .before .before .before .args .call ≡ 19 = last-of-six 14 _ (omega arith) (omega arith) (c .before .before .before .before .before .before .before .match .rest .0 .0 .0 .0 .1) (c .before .before .before .before .before .before .before .match .rest .0 .0 .0 .1) (c .before .before .before .before .before .before .before .match .rest .0 .0 .1) (c .before .before .before .before .before .before .before .match .rest .0 .1) (c .before .before .before .before .before .before .before .match .rest .1) in rw h (c .pool-info .ensures (whole (c .before .before .before .before .before .before .before .before) s))
 
 pub pool-call-spec : {M : Type 1} → statement M
 pool-call-spec =

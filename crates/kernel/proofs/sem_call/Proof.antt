@@ -1,17 +1,19 @@
-use mathlib.Core.Path.{_≡_}
+-- `kernel::sem_call`: each call of the chapter by its number; the last is what is left when it is none of those before.
+-- Assumes nothing.
 use native.Mathlib.Omega.{arith}
+use mathlib.Core.Path.{_≡_}
 use borrow.Author.Needs.{needs}
+use denote.Ref.{now}
+use Rattle.answers.proofs.Outcomes.{none-woken}
+use Rattle.answers.specs.Columns.{lentSemaphores}
 use Rattle.kernel.proofs.Laws.{last-of-six}
 use Rattle.kernel.proofs.sem_call.Statement.{statement}
 use Rattle.kernel.proofs.sem_call.Tie as tie
-use Rattle.kernel.proofs.sem_call.Reads as reads
-use Rattle.kernel.proofs.sem_call.Lts as lts
-use Rattle.semaphores.proofs.sem_claim.Reads as sem-claim-reads
-use Rattle.semaphores.proofs.sem_create.Reads as sem-create-reads
-use Rattle.semaphores.proofs.sem_delete.Reads as sem-delete-reads
-use Rattle.semaphores.proofs.sem_ident.Reads as sem-ident-reads
-use Rattle.semaphores.proofs.sem_info.Reads as sem-info-reads
-use Rattle.semaphores.proofs.sem_release.Reads as sem-release-reads
+use Rattle.scope.specs.declared.State.{State}
+
+-- the state before, out of all the columns lent
+abbrev whole : tie.Start → State → State
+whole c s = lentSemaphores s (now (c .args .left)) (now (c .args .seat)) (now (c .args .joined)) (now (c .args .waker)) (now (c .args .suspended)) (now (c .args .priority)) (now (c .args .name)) (now (c .args .serial)) (now (c .args .units)) (now (c .args .live)) (now (c .args .fifo)) (c .args .running)
 
 sem-create-requires : tie.Need-sem-create-requires
 sem-create-requires c κs = search needs
@@ -32,22 +34,22 @@ sem-info-requires : tie.Need-sem-info-requires
 sem-info-requires c κs = search needs
 
 returns : tie.Need-returns
-returns c = λ d e. rw (c .before .match .keys1) (c .sem-create .ensures)
+returns c = λ s d e. rw (c .before .before .before .before .before .before .match .keys1) (none-woken _ _ (c .before .before .before .before .before .before .before .pre .1) (c .sem-create .ensures (whole (c .before .before .before .before .before .before .before) s)))
 
 returns-2 : tie.Need-returns-2
-returns-2 c = λ d e. rw (c .before .match .keys2) (c .sem-delete .ensures)
+returns-2 c = λ s d e. rw (c .before .before .before .before .before .before .before .before .before .before .match .keys2) (c .sem-delete .ensures (whole (c .before .before .before .before .before .before .before .before .before .before .before) s))
 
 returns-3 : tie.Need-returns-3
-returns-3 c = λ d e. rw (c .before .match .keys3) (c .sem-ident .ensures)
+returns-3 c = λ s d e. rw (c .before .before .before .before .match .keys3) (none-woken _ _ (c .before .before .before .before .before .pre .1) (c .sem-ident .ensures (whole (c .before .before .before .before .before) s)))
 
 returns-4 : tie.Need-returns-4
-returns-4 c = λ d e. rw (c .before .match .keys4) (c .sem-claim .ensures)
+returns-4 c = λ s d e. rw (c .before .before .before .before .before .before .before .before .match .keys4) (none-woken _ _ (c .before .before .before .before .before .before .before .before .before .pre .1) (c .sem-claim .ensures (whole (c .before .before .before .before .before .before .before .before .before) s)))
 
 returns-5 : tie.Need-returns-5
-returns-5 c = λ d e. rw (c .before .match .keys5) (c .sem-release .ensures)
+returns-5 c = λ s d e. rw (c .before .before .before .before .before .before .before .before .match .keys5) (c .sem-release .ensures (whole (c .before .before .before .before .before .before .before .before .before) s))
 
 returns-6 : tie.Need-returns-6
-returns-6 c = λ d e. let h : c .before .before .args .call ≡ 13 = last-of-six 8 _ (omega arith) (omega arith) (c .before .match .rest .0 .0 .0 .0 .1) (c .before .match .rest .0 .0 .0 .1) (c .before .match .rest .0 .0 .1) (c .before .match .rest .0 .1) (c .before .match .rest .1) in rw h (c .sem-info .ensures)
+returns-6 c = λ s d e. let h : c .before .before .before .before .before .before .before .args .call ≡ 13 = last-of-six 8 _ (omega arith) (omega arith) (c .before .before .before .before .before .before .match .rest .0 .0 .0 .0 .1) (c .before .before .before .before .before .before .match .rest .0 .0 .0 .1) (c .before .before .before .before .before .before .match .rest .0 .0 .1) (c .before .before .before .before .before .before .match .rest .0 .1) (c .before .before .before .before .before .before .match .rest .1) in rw h (none-woken _ _ (c .before .before .before .before .before .before .before .pre .1) (c .sem-info .ensures (whole (c .before .before .before .before .before .before .before) s)))
 
 pub sem-call-spec : {M : Type 1} → statement M
 sem-call-spec =

@@ -1,18 +1,18 @@
-use mathlib.Core.Path.{_≡_}
+-- `kernel::task_call`: each call of the chapter by its number; the last is what is left when it is none of those before.
+-- Assumes nothing.
 use native.Mathlib.Omega.{arith}
-use Rattle.kernel.proofs.Laws.{last-of-seven}
+use mathlib.Core.Path.{_≡_}
 use borrow.Author.Needs.{needs}
+use denote.Ref.{now}
+use Rattle.answers.specs.Columns.{lentTasks}
+use Rattle.kernel.proofs.Laws.{last-of-seven}
 use Rattle.kernel.proofs.task_call.Statement.{statement}
 use Rattle.kernel.proofs.task_call.Tie as tie
-use Rattle.kernel.proofs.task_call.Reads as reads
-use Rattle.kernel.proofs.task_call.Lts as lts
-use Rattle.tasks.proofs.task_create.Reads as task-create-reads
-use Rattle.tasks.proofs.task_delete.Reads as task-delete-reads
-use Rattle.tasks.proofs.task_ident.Reads as task-ident-reads
-use Rattle.tasks.proofs.task_resume.Reads as task-resume-reads
-use Rattle.tasks.proofs.task_set_priority.Reads as task-set-priority-reads
-use Rattle.tasks.proofs.task_start.Reads as task-start-reads
-use Rattle.tasks.proofs.task_suspend.Reads as task-suspend-reads
+use Rattle.scope.specs.declared.State.{State}
+
+-- the state before, out of all the columns lent
+abbrev whole : tie.Start → State → State
+whole c s = lentTasks s (now (c .args .left)) (now (c .args .seat)) (now (c .args .joined)) (now (c .args .name)) (now (c .args .serial)) (now (c .args .live)) (now (c .args .started)) (now (c .args .suspended)) (now (c .args .priority)) (c .args .running)
 
 task-create-requires : tie.Need-task-create-requires
 task-create-requires c κs = search needs
@@ -36,25 +36,25 @@ task-set-priority-requires : tie.Need-task-set-priority-requires
 task-set-priority-requires c κs = search needs
 
 returns : tie.Need-returns
-returns c = λ x d e. rw (c .before .match .keys1) (c .task-create .ensures)
+returns c = λ s x d e. rw (c .before .before .before .before .before .before .before .match .keys1) (c .task-create .ensures (whole (c .before .before .before .before .before .before .before .before) s))
 
 returns-2 : tie.Need-returns-2
-returns-2 c = λ x d e. rw (c .before .match .keys2) (c .task-delete .ensures)
+returns-2 c = λ s x d e. rw (c .before .before .before .before .before .before .before .before .before .before .match .keys2) (c .task-delete .ensures (whole (c .before .before .before .before .before .before .before .before .before .before .before) s))
 
 returns-3 : tie.Need-returns-3
-returns-3 c = λ x d e. rw (c .before .match .keys3) (c .task-ident .ensures)
+returns-3 c = λ s x d e. rw (c .before .before .before .before .match .keys3) (c .task-ident .ensures (whole (c .before .before .before .before .before) s))
 
 returns-4 : tie.Need-returns-4
-returns-4 c = λ x d e. rw (c .before .match .keys4) (c .task-start .ensures)
+returns-4 c = λ s x d e. rw (c .before .before .before .before .before .before .before .match .keys4) (c .task-start .ensures (whole (c .before .before .before .before .before .before .before .before) s))
 
 returns-5 : tie.Need-returns-5
-returns-5 c = λ x d e. rw (c .before .match .keys5) (c .task-suspend .ensures)
+returns-5 c = λ s x d e. rw (c .before .before .before .before .before .before .match .keys5) (c .task-suspend .ensures (whole (c .before .before .before .before .before .before .before) s))
 
 returns-6 : tie.Need-returns-6
-returns-6 c = λ x d e. rw (c .before .match .keys6) (c .task-resume .ensures)
+returns-6 c = λ s x d e. rw (c .before .before .before .before .before .before .before .before .match .keys6) (c .task-resume .ensures (whole (c .before .before .before .before .before .before .before .before .before) s))
 
 returns-7 : tie.Need-returns-7
-returns-7 c = λ x d e. let h : c .before .before .args .call ≡ 7 = last-of-seven 1 _ (omega arith) (omega arith) (c .before .match .rest .0 .0 .0 .0 .0 .1) (c .before .match .rest .0 .0 .0 .0 .1) (c .before .match .rest .0 .0 .0 .1) (c .before .match .rest .0 .0 .1) (c .before .match .rest .0 .1) (c .before .match .rest .1) in rw h (c .task-set-priority .ensures)
+returns-7 c = λ s x d e. let h : c .before .before .before .before .before .before .before .before .before .args .call ≡ 7 = last-of-seven 1 _ (omega arith) (omega arith) (c .before .before .before .before .before .before .before .before .match .rest .0 .0 .0 .0 .0 .1) (c .before .before .before .before .before .before .before .before .match .rest .0 .0 .0 .0 .1) (c .before .before .before .before .before .before .before .before .match .rest .0 .0 .0 .1) (c .before .before .before .before .before .before .before .before .match .rest .0 .0 .1) (c .before .before .before .before .before .before .before .before .match .rest .0 .1) (c .before .before .before .before .before .before .before .before .match .rest .1) in rw h (c .task-set-priority .ensures (whole (c .before .before .before .before .before .before .before .before .before) s))
 
 pub task-call-spec : {M : Type 1} → statement M
 task-call-spec =

@@ -1,98 +1,38 @@
+-- `mixes::play`: the loop ends.
+-- Assumes nothing.
+use Prim.Native.Nat.{ℕ, _≤_, _<_, _-_}
 use native.Mathlib.Omega.{arith}
-use Prim.Native.Nat.{ℕ, _≤_, _-_}
-use mathlib.Core.Path.{_≡_}
-use lib.ListN.{length}
 use borrow.Author.Needs.{needs}
 use Rattle.mixes.proofs.play.Statement.{statement}
 use Rattle.mixes.proofs.play.Tie as tie
-use Rattle.mixes.proofs.play.Reads as reads
-use Rattle.mixes.proofs.play.Lts as lts
-use Rattle.mixes.proofs.one.Reads as one-reads
-use Rattle.mixes.proofs.summed.Reads as summed-reads
 
 abbrev Inv-loop : tie.InvT-loop
-Inv-loop r from to checked s₀ sum₀ i₀ s sum i = (to ≤ 512) × (3584 ≤ length r)
+Inv-loop file from to left₀ seat₀ joined₀ task-name₀ task-serial₀ task-live₀ started₀ suspended₀ priority₀ sem-name₀ sem-serial₀ units₀ sem-live₀ fifo₀ taken₀ pool-name₀ address₀ long₀ size₀ pool-serial₀ pool-live₀ forced₀ wakes₀ running₀ sum₀ i₀ left seat joined task-name task-serial task-live started suspended priority sem-name sem-serial units sem-live fifo taken pool-name address long size pool-serial pool-live forced wakes running sum i = 0 ≤ 0
 
 abbrev μ-loop : tie.MeasureT-loop
-μ-loop r from to checked s₀ sum₀ i₀ s sum i = to - i
+μ-loop file from to left₀ seat₀ joined₀ task-name₀ task-serial₀ task-live₀ started₀ suspended₀ priority₀ sem-name₀ sem-serial₀ units₀ sem-live₀ fifo₀ taken₀ pool-name₀ address₀ long₀ size₀ pool-serial₀ pool-live₀ forced₀ wakes₀ running₀ sum₀ i₀ left seat joined task-name task-serial task-live started suspended priority sem-name sem-serial units sem-live fifo taken pool-name address long size pool-serial pool-live forced wakes running sum i = to - i
+
+-- the loop counts no further than a number can
+bound : (c : tie.Start Inv-loop μ-loop) → c .args .to < 18446744073709551616
+bound c = search needs
 
 loop-holds : tie.Need-loop-holds Inv-loop μ-loop
-loop-holds c = search needs
+loop-holds c = omega arith
 
-mul-at : tie.Need-mul-at Inv-loop μ-loop
-mul-at c = search needs
+record-at-requires : tie.Need-record-at-requires Inv-loop μ-loop
+record-at-requires c κs = search needs
 
-mul-one : tie.Need-mul-one Inv-loop μ-loop
-mul-one c = search needs
+perform-requires : tie.Need-perform-requires Inv-loop μ-loop
+perform-requires c κs = search needs
 
-shared-slice-read-one : tie.Need-shared-slice-read-one Inv-loop μ-loop
-shared-slice-read-one c = search needs
-
-add-one : tie.Need-add-one Inv-loop μ-loop
-add-one c = search needs
-
-mul-one-2 : tie.Need-mul-one-2 Inv-loop μ-loop
-mul-one-2 c = search needs
-
-shared-slice-read-one-2 : tie.Need-shared-slice-read-one-2 Inv-loop μ-loop
-shared-slice-read-one-2 c = search needs
-
-add-one-2 : tie.Need-add-one-2 Inv-loop μ-loop
-add-one-2 c = search needs
-
-mul-one-3 : tie.Need-mul-one-3 Inv-loop μ-loop
-mul-one-3 c = search needs
-
-shared-slice-read-one-3 : tie.Need-shared-slice-read-one-3 Inv-loop μ-loop
-shared-slice-read-one-3 c = search needs
-
-add-one-3 : tie.Need-add-one-3 Inv-loop μ-loop
-add-one-3 c = search needs
-
-mul-one-4 : tie.Need-mul-one-4 Inv-loop μ-loop
-mul-one-4 c = search needs
-
-shared-slice-read-one-4 : tie.Need-shared-slice-read-one-4 Inv-loop μ-loop
-shared-slice-read-one-4 c = search needs
-
-add-one-4 : tie.Need-add-one-4 Inv-loop μ-loop
-add-one-4 c = search needs
-
-mul-one-5 : tie.Need-mul-one-5 Inv-loop μ-loop
-mul-one-5 c = search needs
-
-shared-slice-read-one-5 : tie.Need-shared-slice-read-one-5 Inv-loop μ-loop
-shared-slice-read-one-5 c = search needs
-
-add-one-5 : tie.Need-add-one-5 Inv-loop μ-loop
-add-one-5 c = search needs
-
-mul-one-6 : tie.Need-mul-one-6 Inv-loop μ-loop
-mul-one-6 c = search needs
-
-shared-slice-read-one-6 : tie.Need-shared-slice-read-one-6 Inv-loop μ-loop
-shared-slice-read-one-6 c = search needs
-
-add-one-6 : tie.Need-add-one-6 Inv-loop μ-loop
-add-one-6 c = search needs
-
-mul-one-7 : tie.Need-mul-one-7 Inv-loop μ-loop
-mul-one-7 c = search needs
-
-shared-slice-read-one-7 : tie.Need-shared-slice-read-one-7 Inv-loop μ-loop
-shared-slice-read-one-7 c = search needs
-
-one-requires : tie.Need-one-requires Inv-loop μ-loop
-one-requires c κs = search needs
+running-task-requires : tie.Need-running-task-requires Inv-loop μ-loop
+running-task-requires c κs = search needs
 
 array-read-summed : tie.Need-array-read-summed Inv-loop μ-loop
 array-read-summed c = search needs
 
 array-read-summed-2 : tie.Need-array-read-summed-2 Inv-loop μ-loop
 array-read-summed-2 c = search needs
-
-cast-summed : tie.Need-cast-summed Inv-loop μ-loop
-cast-summed c = search needs
 
 array-read-summed-3 : tie.Need-array-read-summed-3 Inv-loop μ-loop
 array-read-summed-3 c = search needs
@@ -101,13 +41,16 @@ summed-requires : tie.Need-summed-requires Inv-loop μ-loop
 summed-requires c κs = search needs
 
 add-i : tie.Need-add-i Inv-loop μ-loop
-add-i c = omega (arith, c .before .before .before .before .before .before .before .before .before .before .before .before .before .loop-test .taken, c .before .before .before .before .before .before .before .before .before .before .before .before .before .before .loop .inv .0)
+add-i c = omega (arith, c .before .before .before .before .before .before .before .before .before .before .before .before .before .before .before .before .before .before .before .before .before .before .before .before .before .before .before .before .before .loop-test .taken, bound (c .before .before .before .before .before .before .before .before .before .before .before .before .before .before .before .before .before .before .before .before .before .before .before .before .before .before .before .before .before .before .before .before .before .before .before .before .before .before .before .before .before .before .before .before .before .before .before .before .before .before .before .before .before .before .before .before .before .before .before))
 
 loop-less : tie.Need-loop-less Inv-loop μ-loop
-loop-less c = search needs
+loop-less c = omega (arith, c .before .before .before .before .before .before .before .before .before .before .before .before .before .before .before .before .before .before .before .before .before .before .before .before .before .before .before .before .before .loop-test .taken)
 
 loop-again : tie.Need-loop-again Inv-loop μ-loop
-loop-again c = c .before .before .before .before .before .before .before .before .before .before .before .before .before .before .loop .inv
+loop-again c = omega arith
+
+gathered-requires : tie.Need-gathered-requires Inv-loop μ-loop
+gathered-requires c κs = search needs
 
 returns : tie.Need-returns Inv-loop μ-loop
 returns c = search needs
@@ -119,34 +62,15 @@ play-spec =
     Inv-loop
     μ-loop
     loop-holds
-    mul-at
-    mul-one
-    shared-slice-read-one
-    add-one
-    mul-one-2
-    shared-slice-read-one-2
-    add-one-2
-    mul-one-3
-    shared-slice-read-one-3
-    add-one-3
-    mul-one-4
-    shared-slice-read-one-4
-    add-one-4
-    mul-one-5
-    shared-slice-read-one-5
-    add-one-5
-    mul-one-6
-    shared-slice-read-one-6
-    add-one-6
-    mul-one-7
-    shared-slice-read-one-7
-    one-requires
+    record-at-requires
+    perform-requires
+    running-task-requires
     array-read-summed
     array-read-summed-2
-    cast-summed
     array-read-summed-3
     summed-requires
     add-i
     loop-less
     loop-again
+    gathered-requires
     returns)

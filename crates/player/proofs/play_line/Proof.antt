@@ -1,43 +1,42 @@
--- `play_line` plays one record: the place after it has one record less, and its line stands in `out`. Assumes nothing.
-use Prim.Native.Nat.{_-_, _≤_}
-use native.Mathlib.Omega.{arith}
-use mathlib.Core.Path.{refl, sym, subst}
-use Rattle.scope.specs.declared.Answer.{Answer}
-use Rattle.player.proofs.Laws.{step-few, played}
+-- `play_line` plays one record: the columns are the state after it, and its line stands in `lines`.
+-- Assumes nothing.
+use Prim.Native.Nat.{_≤_}
+use mathlib.Core.Path.{sym, subst}
 use borrow.Author.Needs.{needs}
+use Rattle.answers.specs.Outcomes.{answerOf}
+use Rattle.player.proofs.Laws.{record-step, step-few, line-told}
 use Rattle.player.proofs.play_line.Statement.{statement}
 use Rattle.player.proofs.play_line.Tie as tie
+use Rattle.scope.specs.Views.{runningTask}
+use Rattle.scope.specs.declared.Answer.{Answer}
 
-play-record-requires : tie.Need-play-record-requires
-play-record-requires c κs = search needs
+read-record-requires : tie.Need-read-record-requires
+read-record-requires c κs = search needs
+
+perform-requires : tie.Need-perform-requires
+perform-requires c κs = search needs
+
+running-task-requires : tie.Need-running-task-requires
+running-task-requires c κs = search needs
 
 put-line-requires : tie.Need-put-line-requires
-put-line-requires c κs =
-    let s = c .before .before .before .before in
-    let p = s .args .p in
-    (omega arith, subst (λ (x : Answer). x .woken ≤ 32) (sym (c .before .play-record .ensures)) (step-few (s .args .script .now) (p .at) (p .state) (s .pre .0 .state)))
-
-sub-t11 : tie.Need-sub-t11
-sub-t11 c = search needs
-
-add-t12 : tie.Need-add-t12
-add-t12 c = search needs
-
-add-t13 : tie.Need-add-t13
-add-t13 c = let s = c .before .before .before .before .before .before .before .before .before .before .before in omega (arith, s .pre .0 .within, s .pre .0 .small)
+unfolding answerOf
+put-line-requires c κs = (c .before .before .before .before .before .before .before .before .before .before .before .before .before .before .before .before .before .before .before .before .before .before .before .before .before .before .before .before .before .before .before .pre .1, subst (λ (x : Answer). x .woken ≤ 32) (sym (record-step _ _ _ (c .before .before .before .before .before .before .before .before .before .before .before .before .before .before .before .before .before .before .before .before .before .before .before .before .before .before .before .before .before .before .before .pre .2) _ (c .before .before .before .before .before .before .before .before .before .before .before .before .before .before .before .before .before .before .before .before .before .before .before .before .before .before .before .before .read-record .ensures) (c .before .before .before .before .perform .ensures))) (step-few _ _ _ (c .before .before .before .before .before .before .before .before .before .before .before .before .before .before .before .before .before .before .before .before .before .before .before .before .before .before .before .before .before .before .before .pre .2)))
 
 same-length : tie.Need-same-length
 same-length c = search needs
 
 returns : tie.Need-returns
-returns c =
-    let s = c .before .before .before .before .before .before .before .before .before .before .before in
-    let p = s .args .p in
-    played (s .args .script .now) p (s .args .out .now) (c .before .before .before .before .before .before .put-line .last .0) (s .args .k) _ (c .before .before .before .before .before .before .before .before .play-record .result) (s .pre .0) (s .pre .1)
-    (c .before .before .before .before .before .before .before .before .play-record .ensures) (s .pre .2) (c .before .before .before .before .before .before .put-line .kept .0) (c .before .before .before .before .before .before .put-line .ensures .0) (c .before .before .before .before .before .before .put-line .ensures .1)
-    (omega (arith, s .pre .1)) refl refl refl refl
+unfolding runningTask
+returns c = line-told _ _ _ _ _ _ _ _ _ _ _ _ (record-step _ _ _ (c .before .before .before .before .before .before .before .before .before .before .before .before .before .before .before .before .before .before .before .before .before .before .before .before .before .before .before .before .before .before .before .before .before .before .pre .2) _ (c .before .before .before .before .before .before .before .before .before .before .before .before .before .before .before .before .before .before .before .before .before .before .before .before .before .before .before .before .before .before .before .read-record .ensures) (c .before .before .before .before .before .before .before .perform .ensures)) (c .before .before .before .before .before .running-task .ensures) (c .before .before .put-line .ensures _)
 
 pub play-line-spec : {M : Type 1} → statement M
 play-line-spec =
     tie.close
-    (tie.spec play-record-requires put-line-requires sub-t11 add-t12 add-t13 same-length returns)
+    (tie.spec
+    read-record-requires
+    perform-requires
+    running-task-requires
+    put-line-requires
+    same-length
+    returns)

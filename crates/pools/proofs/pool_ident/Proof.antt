@@ -1,19 +1,50 @@
--- `pools::pool_ident`: the lowest slot so named.
+-- `pools::pool_ident`: the lowest slot so named; past the table's end no object has the name.
 -- Assumes nothing.
+use mathlib.Core.Path.{_≡_}
+use lib.ListN.{length}
+use denote.Ref.{now}
 use borrow.Author.Needs.{needs}
-use Rattle.scope.specs.Pools.{poolIdent}
+use Rattle.scope.specs.Pools.{poolIdentAt, poolIdent}
+use Rattle.laws.proofs.Arrays.{pick-outside, pick-inside}
+use Rattle.answers.proofs.Outcomes.{plain-of, gives-of}
 use Rattle.pools.proofs.pool_ident.Statement.{statement}
 use Rattle.pools.proofs.pool_ident.Tie as tie
 
 by-name-requires : tie.Need-by-name-requires
 by-name-requires c κs = search needs
 
-ident-at-requires : tie.Need-ident-at-requires
-ident-at-requires c κs = search needs
+plain-requires : tie.Need-plain-requires
+plain-requires c κs = search needs
 
 returns : tie.Need-returns
-unfolding poolIdent
-returns c = rw (c .ident-at .ensures, c .before .by-name .ensures)
+unfolding poolIdentAt poolIdent
+returns c = λ s. let n : length (now (c .before .before .before .before .before .args .live)) ≡ 8 = search needs in rw (← c .before .before .by-name .ensures) (pick-outside 8 _ (now (c .before .before .before .before .before .args .live)) _ _ n (c .before .if1 .taken) (plain-of _ _ _ _ (c .plain .ensures)))
+
+mul-identifier : tie.Need-mul-identifier
+mul-identifier c = search needs
+
+element-copy-out-identifier : tie.Need-element-copy-out-identifier
+element-copy-out-identifier c = search needs
+
+identifier-requires : tie.Need-identifier-requires
+identifier-requires c κs = search needs
+
+gives-requires : tie.Need-gives-requires
+gives-requires c κs = search needs
+
+returns-2 : tie.Need-returns-2
+unfolding poolIdentAt poolIdent
+returns-2 c = λ s. let n : length (now (c .before .before .before .before .before .before .before .args .live)) ≡ 8 = search needs in rw (← c .before .before .before .before .by-name .ensures) (pick-inside 8 _ (now (c .before .before .before .before .before .before .before .args .live)) _ _ n (c .before .before .before .if1 .left) (rw (← c .before .identifier .ensures) (gives-of _ _ _ _ (c .gives .ensures))))
 
 pub pool-ident-spec : {M : Type 1} → statement M
-pool-ident-spec = tie.close (tie.spec by-name-requires ident-at-requires returns)
+pool-ident-spec =
+    tie.close
+    (tie.spec
+    by-name-requires
+    plain-requires
+    returns
+    mul-identifier
+    element-copy-out-identifier
+    identifier-requires
+    gives-requires
+    returns-2)

@@ -7,17 +7,30 @@ use borrow.Author.Needs.{needs}
 use borrow.Author.Tests.{lt-ltb, le-ltb}
 use Rattle.scope.specs.Pools.{poolRetBuffer, poolRetBuffAt}
 use Rattle.laws.proofs.Branches.{pick-yes, pick-no, both, first-fails, second-fails}
+use Rattle.answers.proofs.Outcomes.{plain-of}
 use Rattle.pools.proofs.ret_at.Statement.{statement}
 use Rattle.pools.proofs.ret_at.Tie as tie
 
-buffers-requires : tie.Need-buffers-requires
-buffers-requires c κs = search needs
+mul-buffers-of : tie.Need-mul-buffers-of
+mul-buffers-of c = search needs
 
-mul-out : tie.Need-mul-out
-mul-out c = search needs
+element-copy-out-buffers-of : tie.Need-element-copy-out-buffers-of
+element-copy-out-buffers-of c = search needs
 
-element-copy-out-out : tie.Need-element-copy-out-out
-element-copy-out-out c = search needs
+mul-buffers-of-2 : tie.Need-mul-buffers-of-2
+mul-buffers-of-2 c = search needs
+
+element-copy-out-buffers-of-2 : tie.Need-element-copy-out-buffers-of-2
+element-copy-out-buffers-of-2 c = search needs
+
+buffers-of-requires : tie.Need-buffers-of-requires
+buffers-of-requires c κs = search needs
+
+mul-marks : tie.Need-mul-marks
+mul-marks c = search needs
+
+element-copy-out-marks : tie.Need-element-copy-out-marks
+element-copy-out-marks c = search needs
 
 mul-buffer-at : tie.Need-mul-buffer-at
 mul-buffer-at c = search needs
@@ -38,32 +51,39 @@ is-out-requires : tie.Need-is-out-requires
 is-out-requires c κs = search needs
 
 give-back-requires : tie.Need-give-back-requires
-give-back-requires c κs = (c .before .before .if1 .taken, sym (c .before .is-out .ensures) ∙ c .if2 .taken)
+give-back-requires c κs = (search needs, sym (c .before .is-out .ensures) ∙ c .if2 .taken)
 
-remark-requires : tie.Need-remark-requires
-remark-requires c κs = search needs
+mul-out : tie.Need-mul-out
+mul-out c = search needs
+
+element-write-out : tie.Need-element-write-out
+element-write-out c = search needs
 
 plain-requires : tie.Need-plain-requires
 plain-requires c κs = search needs
 
 returns : tie.Need-returns
 unfolding poolRetBuffer poolRetBuffAt
-returns c = rw (← c .before .before .before .before .before .before .before .before .before .before .buffers .ensures, ← c .before .before .before .before .before .before .buffer-at .ensures) (pick-yes _ _ _ (both _ _ (lt-ltb _ _ (c .before .before .before .before .before .if1 .taken)) (sym (c .before .before .before .before .is-out .ensures) ∙ c .before .before .before .if2 .taken)) (rw (c .plain .ensures, c .before .remark .ensures, c .before .before .give-back .ensures)))
+returns c = λ s serial live. rw (← c .before .before .before .before .before .before .before .before .before .buffers-of .ensures, ← c .before .before .before .before .before .buffer-at .ensures) (pick-yes _ _ _ (both _ _ (lt-ltb _ _ (c .before .before .before .before .if1 .taken)) (sym (c .before .before .before .is-out .ensures) ∙ c .before .before .if2 .taken)) (rw (c .before .give-back .ensures) (plain-of _ _ _ _ (c .plain .ensures))))
 
 plain-requires-2 : tie.Need-plain-requires-2
 plain-requires-2 c κs = search needs
 
 returns-2 : tie.Need-returns-2
 unfolding poolRetBuffer poolRetBuffAt
-returns-2 c = rw (← c .before .before .before .before .before .before .buffers .ensures, ← c .before .before .buffer-at .ensures) (pick-no _ _ _ (⊎-elim (λ j. second-fails (ltb (c .before .before .buffer-at .result) 64) _ (sym (j .1 .ensures) ∙ j .2 .left)) (λ e. first-fails _ _ (le-ltb _ _ (e .left))) (c .before .if1 .came)) (c .plain2 .ensures))
+returns-2 c = λ s serial live. rw (← c .before .before .before .before .before .before .buffers-of .ensures, ← c .before .before .buffer-at .ensures) (pick-no _ _ _ (⊎-elim (λ j. second-fails (ltb (c .before .before .buffer-at .result) 64) _ (sym (j .1 .ensures) ∙ j .2 .left)) (λ e. first-fails _ _ (le-ltb _ _ (e .left))) (c .before .if1 .came)) (plain-of _ _ _ _ (c .plain2 .ensures)))
 
 pub ret-at-spec : {M : Type 1} → statement M
 ret-at-spec =
     tie.close
     (tie.spec
-    buffers-requires
-    mul-out
-    element-copy-out-out
+    mul-buffers-of
+    element-copy-out-buffers-of
+    mul-buffers-of-2
+    element-copy-out-buffers-of-2
+    buffers-of-requires
+    mul-marks
+    element-copy-out-marks
     mul-buffer-at
     element-copy-out-buffer-at
     mul-buffer-at-2
@@ -71,7 +91,8 @@ ret-at-spec =
     buffer-at-requires
     is-out-requires
     give-back-requires
-    remark-requires
+    mul-out
+    element-write-out
     plain-requires
     returns
     plain-requires-2

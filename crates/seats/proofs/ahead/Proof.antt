@@ -1,35 +1,40 @@
--- `seats::ahead`: before task k the loop holds `aheadOf` of the first k.
+-- `seats::ahead`: the loop leaves the seats that count and makes the others 0, and the greatest of those and `base` is `aheadOf`.
 -- Assumes nothing.
-use Prim.Native.Nat.{_-_, _≤_}
-use native.Mathlib.Omega.{arith}
-use native.Mathlib.Numerals.{add-one}
-use mathlib.Core.Path.{_≡_, refl, _∙_}
+use Prim.Native.Nat.{_-_}
+use lib.ListN.{getD}
 use borrow.Author.Needs.{needs}
-use Rattle.scope.specs.Seats.{aheadOf}
+use Rattle.laws.proofs.Arrays.{Changing, changing-start, changing-more}
+use Rattle.scope.specs.Seats.{laterOf}
+use Rattle.seats.proofs.Laws.{ahead-found}
 use Rattle.seats.proofs.ahead.Statement.{statement}
 use Rattle.seats.proofs.ahead.Tie as tie
 
 abbrev Inv-loop : tie.InvT-loop
-Inv-loop base end p q key m₀ k₀ m k = (k ≤ 32) × (m ≡ aheadOf q key base end p k)
+Inv-loop base end p key s₀ k₀ s k = Changing 32 (λ j y. laterOf 0 y end (getD key j 0) p) s₀ s k
 
 abbrev μ-loop : tie.MeasureT-loop
-μ-loop base end p q key m₀ k₀ m k = 32 - k
+μ-loop base end p key s₀ k₀ s k = 32 - k
 
 loop-holds : tie.Need-loop-holds Inv-loop μ-loop
-unfolding aheadOf
-loop-holds c = (search needs, refl)
+loop-holds c = changing-start 32 (λ j y. laterOf 0 y (c .args .end) (getD (c .args .t2) j 0) (c .args .p)) (c .args .q) (search needs)
 
-mul-later : tie.Need-mul-later Inv-loop μ-loop
-mul-later c = search needs
+mul-seat-ahead : tie.Need-mul-seat-ahead Inv-loop μ-loop
+mul-seat-ahead c = search needs
 
-array-read-later : tie.Need-array-read-later Inv-loop μ-loop
-array-read-later c = search needs
+array-read-seat-ahead : tie.Need-array-read-seat-ahead Inv-loop μ-loop
+array-read-seat-ahead c = search needs
 
-array-read-later-2 : tie.Need-array-read-later-2 Inv-loop μ-loop
-array-read-later-2 c = search needs
+array-read-seat-ahead-2 : tie.Need-array-read-seat-ahead-2 Inv-loop μ-loop
+array-read-seat-ahead-2 c = search needs
 
-later-requires : tie.Need-later-requires Inv-loop μ-loop
-later-requires c κs = search needs
+seat-ahead-requires : tie.Need-seat-ahead-requires Inv-loop μ-loop
+seat-ahead-requires c κs = search needs
+
+mul-s : tie.Need-mul-s Inv-loop μ-loop
+mul-s c = search needs
+
+array-write-s : tie.Need-array-write-s Inv-loop μ-loop
+array-write-s c = search needs
 
 add-k : tie.Need-add-k Inv-loop μ-loop
 add-k c = search needs
@@ -38,12 +43,20 @@ loop-less : tie.Need-loop-less Inv-loop μ-loop
 loop-less c = search needs
 
 loop-again : tie.Need-loop-again Inv-loop μ-loop
-unfolding aheadOf
-loop-again c = (search needs, rw add-one (c .later .ensures ∙ rw (c .before .before .loop .inv .1)))
+loop-again c =
+    let a = c .before .before .before .args in
+    changing-more 32 (λ j y. laterOf 0 y (a .end) (getD (a .t2) j 0) (a .p)) (a .q) (c .before .before .loop .s) (c .before .before .loop .k) _ (search needs) (c .seat-ahead .ensures) (c .before .before .loop .inv)
+
+top-requires : tie.Need-top-requires Inv-loop μ-loop
+top-requires c κs = search needs
+
+larger-requires : tie.Need-larger-requires Inv-loop μ-loop
+larger-requires c κs = search needs
 
 returns : tie.Need-returns Inv-loop μ-loop
-unfolding aheadOf
-returns c = let e : c .before .loop .k ≡ 32 = omega arith in rw e at (c .before .loop .inv .1)
+returns c =
+    let a = c .before .before .before .before .args in
+    ahead-found (a .q) (a .t2) (c .before .before .before .loop .s) (a .base) (a .end) (a .p) (c .before .before .before .loop .k) _ _ (search needs) (c .before .top .ensures) (c .larger .ensures) (c .before .before .before .loop .inv)
 
 pub ahead-spec : {M : Type 1} → statement M
 ahead-spec =
@@ -52,11 +65,15 @@ ahead-spec =
     Inv-loop
     μ-loop
     loop-holds
-    mul-later
-    array-read-later
-    array-read-later-2
-    later-requires
+    mul-seat-ahead
+    array-read-seat-ahead
+    array-read-seat-ahead-2
+    seat-ahead-requires
+    mul-s
+    array-write-s
     add-k
     loop-less
     loop-again
+    top-requires
+    larger-requires
     returns)

@@ -1,56 +1,53 @@
 -- `semaphores::create_at`: past the table's end there is no slot; else the slot holds its next object.
 -- Assumes nothing.
 use native.Mathlib.Omega.{arith}
-use mathlib.Core.Path.{_≡_}
-use lib.ListN.{length}
 use borrow.Author.Needs.{needs}
-use Rattle.scope.specs.Semaphores.{semCreateAt}
+use denote.Ref.{now}
+use Rattle.answers.proofs.Outcomes.{plain-of, gives-of}
 use Rattle.laws.proofs.Arrays.{pick-outside, pick-inside}
+use Rattle.scope.specs.Semaphores.{semCreateAt}
 use Rattle.semaphores.proofs.create_at.Statement.{statement}
 use Rattle.semaphores.proofs.create_at.Tie as tie
-
-slots : (c : tie.Start) → length (c .args .s .semaphores .serial) ≡ 16
-slots c = search needs
 
 plain-requires : tie.Need-plain-requires
 plain-requires c κs = search needs
 
 returns : tie.Need-returns
 unfolding semCreateAt
-returns c = pick-outside 16 _ (c .before .before .args .s .semaphores .serial) _ _ (slots (c .before .before)) (c .before .if1 .taken) (c .plain .ensures)
+returns c = λ s. pick-outside 16 _ (now (c .before .before .args .serial)) _ _ (c .before .before .pre .0) (c .before .if1 .taken) (plain-of _ _ _ _ (c .plain .ensures))
+
+mul-next : tie.Need-mul-next
+mul-next c = search needs
+
+element-copy-out-next : tie.Need-element-copy-out-next
+element-copy-out-next c = search needs
+
+add-next : tie.Need-add-next
+add-next c = omega (arith, c .before .before .pre .1 (search needs))
+
+mul-name : tie.Need-mul-name
+mul-name c = search needs
+
+element-write-name : tie.Need-element-write-name
+element-write-name c = search needs
 
 mul-serial : tie.Need-mul-serial
 mul-serial c = search needs
 
-element-copy-out-serial : tie.Need-element-copy-out-serial
-element-copy-out-serial c = search needs
+element-write-serial : tie.Need-element-write-serial
+element-write-serial c = search needs
 
-add-serial : tie.Need-add-serial
-add-serial c = omega (arith, c .before .before .before .pre (search needs))
+mul-units : tie.Need-mul-units
+mul-units c = search needs
 
-mul-m : tie.Need-mul-m
-mul-m c = search needs
+element-write-units : tie.Need-element-write-units
+element-write-units c = search needs
 
-element-write-m : tie.Need-element-write-m
-element-write-m c = search needs
+element-write-live : tie.Need-element-write-live
+element-write-live c = search needs
 
-mul-m-2 : tie.Need-mul-m-2
-mul-m-2 c = search needs
-
-element-write-m-2 : tie.Need-element-write-m-2
-element-write-m-2 c = search needs
-
-mul-m-3 : tie.Need-mul-m-3
-mul-m-3 c = search needs
-
-element-write-m-3 : tie.Need-element-write-m-3
-element-write-m-3 c = search needs
-
-element-write-m-4 : tie.Need-element-write-m-4
-element-write-m-4 c = search needs
-
-element-write-m-5 : tie.Need-element-write-m-5
-element-write-m-5 c = search needs
+element-write-fifo : tie.Need-element-write-fifo
+element-write-fifo c = search needs
 
 identifier-requires : tie.Need-identifier-requires
 identifier-requires c κs = search needs
@@ -60,7 +57,7 @@ gives-requires c κs = search needs
 
 returns-2 : tie.Need-returns-2
 unfolding semCreateAt
-returns-2 c = pick-inside 16 _ (c .before .before .before .before .before .args .s .semaphores .serial) _ _ (slots (c .before .before .before .before .before)) (c .before .before .before .before .if1 .left) (rw (c .gives .ensures, c .before .identifier .ensures))
+returns-2 c = λ s. pick-inside 16 _ (now (c .before .before .before .before .args .serial)) _ _ (c .before .before .before .before .pre .0) (c .before .before .before .if1 .left) (gives-of _ _ _ _ (rw (← c .before .identifier .ensures) (c .gives .ensures)))
 
 pub create-at-spec : {M : Type 1} → statement M
 create-at-spec =
@@ -68,17 +65,17 @@ create-at-spec =
     (tie.spec
     plain-requires
     returns
+    mul-next
+    element-copy-out-next
+    add-next
+    mul-name
+    element-write-name
     mul-serial
-    element-copy-out-serial
-    add-serial
-    mul-m
-    element-write-m
-    mul-m-2
-    element-write-m-2
-    mul-m-3
-    element-write-m-3
-    element-write-m-4
-    element-write-m-5
+    element-write-serial
+    mul-units
+    element-write-units
+    element-write-live
+    element-write-fifo
     identifier-requires
     gives-requires
     returns-2)

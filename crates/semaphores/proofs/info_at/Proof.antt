@@ -3,6 +3,8 @@
 use Prim.Native.Nat.{_+_, _*_}
 use native.Mathlib.Omega.{arith}
 use borrow.Author.Needs.{needs}
+use denote.Ref.{now}
+use Rattle.answers.proofs.Outcomes.{tells-of}
 use Rattle.semaphores.proofs.Laws.{few, info-waiting, info-free}
 use Rattle.semaphores.proofs.info_at.Statement.{statement}
 use Rattle.semaphores.proofs.info_at.Tie as tie
@@ -11,7 +13,7 @@ waiters-requires : tie.Need-waiters-requires
 waiters-requires c κs = search needs
 
 cast-waiting : tie.Need-cast-waiting
-cast-waiting c = omega (arith, c .waiters .ensures, few (c .before .before .before .before .args .s .line .seat) (c .before .before .before .before .args .i * 64 + 64))
+cast-waiting c = omega (arith, c .waiters .ensures, few (now (c .before .before .args .seat)) (c .before .before .args .i * 64 + 64))
 
 element-copy-out-bit : tie.Need-element-copy-out-bit
 element-copy-out-bit c = search needs
@@ -19,26 +21,26 @@ element-copy-out-bit c = search needs
 bit-requires : tie.Need-bit-requires
 bit-requires c κs = search needs
 
-answer-requires : tie.Need-answer-requires
-answer-requires c κs = search needs
+tells-requires : tie.Need-tells-requires
+tells-requires c κs = search needs
 
 returns : tie.Need-returns
-returns c = info-waiting (c .before .before .before .before .before .before .before .before .args .s) (c .before .before .before .before .before .before .before .before .args .i) _ _ _ (c .before .before .before .before .waiters .ensures) (c .before .before .bit .ensures) (search needs) (c .answer .ensures)
+returns c = λ s serial live. info-waiting _ (c .before .before .before .before .before .before .args .i) _ _ _ (c .before .before .before .before .waiters .ensures) (c .before .before .bit .ensures) (search needs) (tells-of _ _ _ _ _ _ _ _ (c .tells .ensures))
 
-mul-answer : tie.Need-mul-answer
-mul-answer c = search needs
+mul-wide : tie.Need-mul-wide
+mul-wide c = search needs
 
-element-copy-out-answer : tie.Need-element-copy-out-answer
-element-copy-out-answer c = search needs
+element-copy-out-wide : tie.Need-element-copy-out-wide
+element-copy-out-wide c = search needs
 
-cast-answer : tie.Need-cast-answer
-cast-answer c = search needs
+wide-requires : tie.Need-wide-requires
+wide-requires c κs = search needs
 
-answer-requires-2 : tie.Need-answer-requires-2
-answer-requires-2 c κs = search needs
+tells-requires-2 : tie.Need-tells-requires-2
+tells-requires-2 c κs = search needs
 
 returns-2 : tie.Need-returns-2
-returns-2 c = info-free (c .before .before .before .before .before .before .before .before .before .args .s) (c .before .before .before .before .before .before .before .before .before .args .i) _ _ _ (c .before .before .before .before .before .waiters .ensures) (c .before .before .before .bit .ensures) (search needs) (c .answer2 .ensures)
+returns-2 c = λ s serial live. info-free _ (c .before .before .before .before .before .before .before .before .args .i) _ _ _ (c .before .before .before .before .before .before .waiters .ensures) (c .before .before .before .before .bit .ensures) (search needs) (tells-of _ _ _ _ _ _ _ _ (rw (← c .before .wide .ensures) (c .tells2 .ensures)))
 
 pub info-at-spec : {M : Type 1} → statement M
 info-at-spec =
@@ -48,10 +50,10 @@ info-at-spec =
     cast-waiting
     element-copy-out-bit
     bit-requires
-    answer-requires
+    tells-requires
     returns
-    mul-answer
-    element-copy-out-answer
-    cast-answer
-    answer-requires-2
+    mul-wide
+    element-copy-out-wide
+    wide-requires
+    tells-requires-2
     returns-2)

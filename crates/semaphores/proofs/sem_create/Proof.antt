@@ -4,25 +4,27 @@ use mathlib.Core.Path.{_≡_}
 use lib.ListN.{length}
 use borrow.Author.Needs.{needs}
 use borrow.Author.Tests.{lt-ltb, le-ltb}
-use Rattle.scope.specs.Semaphores.{semCreate}
+use denote.Ref.{now}
+use Rattle.answers.proofs.Outcomes.{plain-of}
 use Rattle.laws.proofs.Branches.{pick-yes, pick-no}
-use Rattle.tables.proofs.Laws.{serial-left}
+use Rattle.scope.specs.Semaphores.{semCreate}
 use Rattle.semaphores.proofs.sem_create.Statement.{statement}
 use Rattle.semaphores.proofs.sem_create.Tie as tie
+use Rattle.tables.proofs.Laws.{serial-left}
 
 plain-requires : tie.Need-plain-requires
 plain-requires c κs = search needs
 
 returns : tie.Need-returns
 unfolding semCreate
-returns c = pick-yes _ _ _ (lt-ltb _ _ (c .before .if1 .taken)) (c .plain .ensures)
+returns c = λ s. pick-yes _ _ _ (lt-ltb _ _ (c .before .if1 .taken)) (plain-of _ _ _ _ (c .plain .ensures))
 
 plain-requires-2 : tie.Need-plain-requires-2
 plain-requires-2 c κs = search needs
 
 returns-2 : tie.Need-returns-2
 unfolding semCreate
-returns-2 c = pick-no _ _ _ (le-ltb _ _ (c .before .before .if1 .left)) (pick-yes _ _ _ (lt-ltb _ _ (c .before .if2 .taken)) (c .plain2 .ensures))
+returns-2 c = λ s. pick-no _ _ _ (le-ltb _ _ (c .before .before .if1 .left)) (pick-yes _ _ _ (lt-ltb _ _ (c .before .if2 .taken)) (plain-of _ _ _ _ (c .plain2 .ensures)))
 
 lowest-usable-requires : tie.Need-lowest-usable-requires
 lowest-usable-requires c κs = search needs
@@ -31,11 +33,11 @@ cast-create-at : tie.Need-cast-create-at
 cast-create-at c = search needs
 
 create-at-requires : tie.Need-create-at-requires
-create-at-requires c κs = λ h. let n : length (c .before .before .before .before .before .before .before .before .before .args .s .semaphores .serial) ≡ 16 = search needs in serial-left 16 _ _ n (c .lowest-usable .ensures) h
+create-at-requires c κs = let n : length (now (c .before .before .before .before .before .before .before .before .before .before .before .before .args .serial)) ≡ 16 = search needs in (n, λ h. serial-left 16 _ _ n (c .before .before .before .before .before .lowest-usable .ensures) h)
 
 returns-3 : tie.Need-returns-3
 unfolding semCreate
-returns-3 c = pick-no _ _ _ (le-ltb _ _ (c .before .before .before .before .before .before .before .before .before .if1 .left)) (pick-no _ _ _ (le-ltb _ _ (c .before .before .before .before .before .before .before .before .if2 .left)) (rw (c .create-at .ensures, c .before .lowest-usable .ensures)))
+returns-3 c = λ s. pick-no _ _ _ (le-ltb _ _ (c .before .before .before .before .before .before .before .before .before .before .before .before .if1 .left)) (pick-no _ _ _ (le-ltb _ _ (c .before .before .before .before .before .before .before .before .before .before .before .if2 .left)) (rw (← c .before .before .before .before .before .before .lowest-usable .ensures) (c .create-at .ensures s)))
 
 pub sem-create-spec : {M : Type 1} → statement M
 sem-create-spec =

@@ -1,12 +1,14 @@
 -- `semaphores::sem_delete`: what the identifier names, or its refusal.
 -- Assumes nothing.
-use mathlib.Core.Path.{_≡_}
+use mathlib.Core.Path.{_≡_, refl}
 use lib.ListN.{length}
 use borrow.Author.Needs.{needs}
+use denote.Ref.{now}
 use Rattle.answers.proofs.Named.{on-at, on-deleted, on-invalid}
-use Rattle.tables.proofs.Laws.{named-below}
+use Rattle.answers.proofs.Outcomes.{plain-of}
 use Rattle.semaphores.proofs.sem_delete.Statement.{statement}
 use Rattle.semaphores.proofs.sem_delete.Tie as tie
+use Rattle.tables.proofs.Laws.{named-below}
 
 find-requires : tie.Need-find-requires
 find-requires c κs = search needs
@@ -15,7 +17,7 @@ enum-known-i : tie.Need-enum-known-i
 enum-known-i c = search needs
 
 delete-at-requires : tie.Need-delete-at-requires
-delete-at-requires c κs = let n : length (c .before .before .before .before .args .s .semaphores .serial) ≡ 16 = search needs in named-below 16 _ _ n (c .before .before .before .before .args .id) (c .before .before .before .find .ensures) (c .before .i .given .1)
+delete-at-requires c κs = let n : length (now (c .before .before .before .before .before .before .before .before .before .before .before .before .before .before .before .before .args .serial)) ≡ 16 = search needs in (named-below 16 _ _ n (c .before .before .before .before .before .before .before .before .before .before .before .before .before .before .before .before .args .id) (c .before .before .before .before .before .before .before .before .before .before .before .find .ensures) (c .before .before .before .before .before .before .before .before .before .i .given .1), refl)
 
 enum-told : tie.Need-enum-told
 enum-told c = search needs
@@ -30,13 +32,13 @@ plain-requires-2 : tie.Need-plain-requires-2
 plain-requires-2 c κs = search needs
 
 returns : tie.Need-returns
-returns c = on-at _ _ _ _ (c .before .before .before .before .find .ensures) (c .before .before .i .given .1) (c .delete-at .ensures)
+returns c = λ s. on-at _ _ _ _ (c .before .before .before .before .before .before .before .before .before .before .before .before .find .ensures) (c .before .before .before .before .before .before .before .before .before .before .i .given .1) (c .delete-at .ensures s _ _)
 
 returns-2 : tie.Need-returns-2
-returns-2 c = on-deleted _ _ _ _ (c .before .before .before .find .ensures) (c .before .enum-told .given .1) (c .plain .ensures)
+returns-2 c = λ s. on-deleted _ _ _ _ (c .before .before .before .find .ensures) (c .before .enum-told .given .1) (plain-of _ _ _ _ (c .plain .ensures))
 
 returns-3 : tie.Need-returns-3
-returns-3 c = on-invalid _ _ _ _ (c .before .before .before .find .ensures) (c .before .enum-told2 .given .1) (c .plain2 .ensures)
+returns-3 c = λ s. on-invalid _ _ _ _ (c .before .before .before .find .ensures) (c .before .enum-told2 .given .1) (plain-of _ _ _ _ (c .plain2 .ensures))
 
 pub sem-delete-spec : {M : Type 1} → statement M
 sem-delete-spec =

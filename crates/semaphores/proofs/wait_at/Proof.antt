@@ -1,37 +1,50 @@
--- `semaphores::wait_at`: the running task waits, and the next one runs.
--- Assumes nothing.
-use borrow.Author.Needs.{needs}
+use Rattle.answers.proofs.Outcomes.{plain-moved}
 use borrow.Author.Tests.{lt-ltb, le-ltb}
 use Rattle.scope.specs.Semaphores.{semWaitAt}
 use Rattle.laws.proofs.Branches.{pick-yes, pick-no}
+use Rattle.answers.proofs.Outcomes.{plain-of}
+use borrow.Author.Needs.{needs}
 use Rattle.semaphores.proofs.wait_at.Statement.{statement}
 use Rattle.semaphores.proofs.wait_at.Tie as tie
+use Rattle.semaphores.proofs.wait_at.Reads as reads
+use Rattle.semaphores.proofs.wait_at.Lts as lts
+use Rattle.answers.proofs.plain.Reads as plain-reads
+use Rattle.seats.proofs.runner.Reads as runner-reads
+use Rattle.semaphores.proofs.wait.Reads as wait-reads
 
+-- src/lib.rt:77:9
 plain-requires : tie.Need-plain-requires
 plain-requires c κs = search needs
 
+-- src/lib.rt:77:9
 returns : tie.Need-returns
 unfolding semWaitAt
-returns c = pick-no _ _ _ (le-ltb _ _ (c .before .if1 .taken)) (c .plain .ensures)
+returns c = λ s serial units live. pick-no _ _ _ (le-ltb _ _ (c .before .if1 .taken)) (plain-of _ _ _ _ (c .plain .ensures))
 
+-- src/lib.rt:79:33
 element-copy-out-wait : tie.Need-element-copy-out-wait
 element-copy-out-wait c = search needs
 
+-- src/lib.rt:79:42
 element-copy-out-wait-2 : tie.Need-element-copy-out-wait-2
 element-copy-out-wait-2 c = search needs
 
+-- src/lib.rt:79:5
 wait-requires : tie.Need-wait-requires
 wait-requires c κs = search needs
 
+-- src/lib.rt:80:23
 runner-requires : tie.Need-runner-requires
 runner-requires c κs = search needs
 
+-- src/lib.rt:80:5
 plain-requires-2 : tie.Need-plain-requires-2
 plain-requires-2 c κs = search needs
 
+-- src/lib.rt:63:1
 returns-2 : tie.Need-returns-2
 unfolding semWaitAt
-returns-2 c = pick-yes _ _ _ (lt-ltb _ _ (c .before .before .before .before .before .before .before .before .if1 .left)) (rw (c .plain2 .ensures, c .before .runner .ensures, c .before .before .before .wait .ensures))
+returns-2 c = λ s serial units live. pick-yes _ _ _ (lt-ltb _ _ (c .before .before .before .before .before .before .before .before .before .if1 .left)) (plain-moved _ _ _ _ _ _ _ _ _ (c .plain2 .ensures) (c .before .runner .ensures) (c .before .before .before .wait .ensures))
 
 pub wait-at-spec : {M : Type 1} → statement M
 wait-at-spec =

@@ -3,28 +3,28 @@
 use Prim.Native.Nat.{_-_, _≤_}
 use mathlib.Core.Path.{_≡_, refl, _∙_}
 use borrow.Author.Needs.{needs}
+use Rattle.answers.specs.Columns.{wakers, wakingOf}
 use Rattle.scope.specs.Semaphores.{wakeAll}
-use Rattle.semaphores.proofs.Laws.{wake-all-more, wake-all-none, wake-all-done, woken-more}
+use Rattle.scope.specs.declared.Tasks.{Tasks}
+use Rattle.semaphores.proofs.Laws.{wake-all-more, wake-all-none, wake-all-done}
 use Rattle.semaphores.proofs.wake_all.Statement.{statement}
 use Rattle.semaphores.proofs.wake_all.Tie as tie
 
 abbrev Inv-loop : tie.InvT-loop
-Inv-loop k i w₀ n₀ w n = (n ≤ 32) × (w .woken ≡ n) × (wakeAll k i (32 - n) w ≡ wakeAll k i 32 w₀)
+Inv-loop left₀ seat₀ joined₀ serial suspended priority wakes₀ i n₀ left seat joined wakes n =
+    (n ≤ 32) × ((k : Tasks) → wakeAll (wakers k serial suspended priority) i (32 - n) (wakingOf left seat joined wakes n) ≡ wakeAll (wakers k serial suspended priority) i 32 (wakingOf left₀ seat₀ joined₀ wakes₀ 0))
 
 abbrev μ-loop : tie.MeasureT-loop
-μ-loop k i w₀ n₀ w n = 32 - n
-
-none-woken-requires : tie.Need-none-woken-requires Inv-loop μ-loop
-none-woken-requires c κs = search needs
+μ-loop left₀ seat₀ joined₀ serial suspended priority wakes₀ i n₀ left seat joined wakes n = 32 - n
 
 loop-holds : tie.Need-loop-holds Inv-loop μ-loop
-loop-holds c = (search needs, rw (c .none-woken .ensures), refl)
+loop-holds c = (search needs, λ k. refl)
 
 first-waiter-requires : tie.Need-first-waiter-requires Inv-loop μ-loop
 first-waiter-requires c κs = search needs
 
 returns : tie.Need-returns Inv-loop μ-loop
-returns c = wake-all-none _ _ (c .before .before .before .before .before .loop .n) (c .before .first-waiter .result) (c .before .before .before .before .before .loop .w) (search needs) (c .before .first-waiter .ensures) (search needs) ∙ c .before .before .before .before .before .loop .inv .2 ∙ rw (c .before .before .before .before .before .before .none-woken .ensures)
+returns c = λ k. wake-all-none _ _ (c .before .before .before .before .loop .n) _ _ (search needs) (c .before .first-waiter .ensures) (search needs) ∙ c .before .before .before .before .loop .inv .1 k
 
 wake-next-requires : tie.Need-wake-next-requires Inv-loop μ-loop
 wake-next-requires c κs = search needs
@@ -36,10 +36,10 @@ loop-less : tie.Need-loop-less Inv-loop μ-loop
 loop-less c = search needs
 
 loop-again : tie.Need-loop-again Inv-loop μ-loop
-loop-again c = (search needs, woken-more _ _ _ _ _ (c .wake-next .ensures) (c .before .before .before .before .before .before .loop .inv .1), wake-all-more _ _ (c .before .before .before .before .before .before .loop .n) (c .before .before .first-waiter .result) _ _ (search needs) (c .before .before .first-waiter .ensures) (search needs) (c .wake-next .ensures) ∙ c .before .before .before .before .before .before .loop .inv .2)
+loop-again c = (search needs, λ k. wake-all-more _ _ (c .before .before .before .before .before .before .before .before .before .loop .n) (c .before .before .before .before .before .before .first-waiter .result) _ _ (search needs) (c .before .before .before .before .before .before .first-waiter .ensures) (search needs) (c .wake-next .ensures k) ∙ c .before .before .before .before .before .before .before .before .before .loop .inv .1 k)
 
 returns-2 : tie.Need-returns-2 Inv-loop μ-loop
-returns-2 c = wake-all-done _ _ (c .before .loop .n) (c .before .loop .w) (search needs) ∙ c .before .loop .inv .2 ∙ rw (c .before .before .none-woken .ensures)
+returns-2 c = λ k. wake-all-done _ _ (c .before .loop .n) _ (search needs) ∙ c .before .loop .inv .1 k
 
 pub wake-all-spec : {M : Type 1} → statement M
 wake-all-spec =
@@ -47,7 +47,6 @@ wake-all-spec =
     (tie.spec
     Inv-loop
     μ-loop
-    none-woken-requires
     loop-holds
     first-waiter-requires
     returns

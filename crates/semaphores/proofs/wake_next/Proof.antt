@@ -1,18 +1,28 @@
--- `semaphores::wake_next`: it is woken, and put at the end of the wake list.
+-- `semaphores::wake_next`: it stands elsewhere, waits no longer, and is put at the end of the wake list.
 -- Assumes nothing.
+use denote.Ref.{now}
 use borrow.Author.Needs.{needs}
-use Rattle.scope.specs.Semaphores.{wake, wakeNext}
+use Rattle.scope.specs.Semaphores.{wakeNext, wake}
 use Rattle.semaphores.proofs.wake_next.Statement.{statement}
 use Rattle.semaphores.proofs.wake_next.Tie as tie
 
-element-copy-out-wake : tie.Need-element-copy-out-wake
-element-copy-out-wake c = search needs
+element-copy-out-woken-seats : tie.Need-element-copy-out-woken-seats
+element-copy-out-woken-seats c = search needs
 
-element-copy-out-wake-2 : tie.Need-element-copy-out-wake-2
-element-copy-out-wake-2 c = search needs
+element-copy-out-woken-seats-2 : tie.Need-element-copy-out-woken-seats-2
+element-copy-out-woken-seats-2 c = search needs
 
-wake-requires : tie.Need-wake-requires
-wake-requires c κs = search needs
+woken-seats-requires : tie.Need-woken-seats-requires
+woken-seats-requires c κs = search needs
+
+mul-left : tie.Need-mul-left
+mul-left c = search needs
+
+element-write-left : tie.Need-element-write-left
+element-write-left c = search needs
+
+element-write-joined : tie.Need-element-write-joined
+element-write-joined c = search needs
 
 mul-identifier : tie.Need-mul-identifier
 mul-identifier c = search needs
@@ -26,27 +36,26 @@ identifier-requires c κs = search needs
 mul-wakes : tie.Need-mul-wakes
 mul-wakes c = search needs
 
-array-write-wakes : tie.Need-array-write-wakes
-array-write-wakes c = search needs
-
-add-t15 : tie.Need-add-t15
-add-t15 c = search needs
+element-write-wakes : tie.Need-element-write-wakes
+element-write-wakes c = search needs
 
 returns : tie.Need-returns
-unfolding wakeNext
-returns c = rw (c .before .before .before .wake .ensures, c .identifier .ensures)
+unfolding wakeNext wake
+returns c = λ k. rw (c .before .before .woken-seats .ensures (now (c .before .before .before .before .before .before .before .args .left)), c .identifier .ensures)
 
 pub wake-next-spec : {M : Type 1} → statement M
 wake-next-spec =
     tie.close
     (tie.spec
-    element-copy-out-wake
-    element-copy-out-wake-2
-    wake-requires
+    element-copy-out-woken-seats
+    element-copy-out-woken-seats-2
+    woken-seats-requires
+    mul-left
+    element-write-left
+    element-write-joined
     mul-identifier
     element-copy-out-identifier
     identifier-requires
     mul-wakes
-    array-write-wakes
-    add-t15
+    element-write-wakes
     returns)

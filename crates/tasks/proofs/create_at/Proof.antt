@@ -1,58 +1,53 @@
 -- Creation at a slot: refused past the end of the table, else the slot holds its next object. By the test of the slot.
 -- Assumes nothing.
-use mathlib.Core.Path.{_≡_}
 use native.Mathlib.Omega.{arith}
-use lib.ListN.{length}
 use Rattle.laws.proofs.Branches.{pick-yes, pick-no}
+use Rattle.answers.proofs.Outcomes.{plain-of, gives-of}
 use Rattle.tasks.proofs.Laws.{past-end, before-end}
 use Rattle.scope.specs.Tasks.{taskCreateAt}
 use borrow.Author.Needs.{needs}
 use Rattle.tasks.proofs.create_at.Statement.{statement}
 use Rattle.tasks.proofs.create_at.Tie as tie
 
--- the table has 32 places
-long : (c : tie.Start) → length (c .args .s .tasks .serial) ≡ 32
-long c = search needs
-
 plain-requires : tie.Need-plain-requires
 plain-requires c κs = search needs
 
 returns : tie.Need-returns
 unfolding taskCreateAt
-returns c = pick-yes _ _ _ (past-end (long (c .before .before)) (c .before .if1 .taken)) (c .plain .ensures)
+returns c = λ s. pick-yes _ _ _ (past-end (c .before .before .pre .0) (c .before .if1 .taken)) (plain-of _ _ _ _ (c .plain .ensures))
+
+mul-next : tie.Need-mul-next
+mul-next c = search needs
+
+element-copy-out-next : tie.Need-element-copy-out-next
+element-copy-out-next c = search needs
+
+add-next : tie.Need-add-next
+add-next c = omega (arith, c .before .before .pre .1 (omega arith))
+
+mul-names : tie.Need-mul-names
+mul-names c = search needs
+
+element-write-names : tie.Need-element-write-names
+element-write-names c = search needs
 
 mul-serial : tie.Need-mul-serial
 mul-serial c = search needs
 
-element-copy-out-serial : tie.Need-element-copy-out-serial
-element-copy-out-serial c = search needs
+element-write-serial : tie.Need-element-write-serial
+element-write-serial c = search needs
 
-add-serial : tie.Need-add-serial
-add-serial c = omega (arith, c .before .before .before .pre (omega arith))
+element-write-live : tie.Need-element-write-live
+element-write-live c = search needs
 
-mul-k : tie.Need-mul-k
-mul-k c = search needs
+element-write-started : tie.Need-element-write-started
+element-write-started c = search needs
 
-element-write-k : tie.Need-element-write-k
-element-write-k c = search needs
+element-write-suspended : tie.Need-element-write-suspended
+element-write-suspended c = search needs
 
-mul-k-2 : tie.Need-mul-k-2
-mul-k-2 c = search needs
-
-element-write-k-2 : tie.Need-element-write-k-2
-element-write-k-2 c = search needs
-
-element-write-k-3 : tie.Need-element-write-k-3
-element-write-k-3 c = search needs
-
-element-write-k-4 : tie.Need-element-write-k-4
-element-write-k-4 c = search needs
-
-element-write-k-5 : tie.Need-element-write-k-5
-element-write-k-5 c = search needs
-
-element-write-k-6 : tie.Need-element-write-k-6
-element-write-k-6 c = search needs
+element-write-priorities : tie.Need-element-write-priorities
+element-write-priorities c = search needs
 
 identifier-requires : tie.Need-identifier-requires
 identifier-requires c κs = search needs
@@ -62,7 +57,7 @@ gives-requires c κs = search needs
 
 returns-2 : tie.Need-returns-2
 unfolding taskCreateAt
-returns-2 c = pick-no _ _ _ (before-end (long (c .before .before .before .before .before)) (c .before .before .before .before .if1 .left)) (rw (c .gives .ensures, c .before .identifier .ensures))
+returns-2 c = λ s. pick-no _ _ _ (before-end (c .before .before .before .before .pre .0) (c .before .before .before .if1 .left)) (gives-of _ _ _ _ (rw (c .before .identifier .ensures) at (c .gives .ensures)))
 
 pub create-at-spec : {M : Type 1} → statement M
 create-at-spec =
@@ -70,17 +65,17 @@ create-at-spec =
     (tie.spec
     plain-requires
     returns
+    mul-next
+    element-copy-out-next
+    add-next
+    mul-names
+    element-write-names
     mul-serial
-    element-copy-out-serial
-    add-serial
-    mul-k
-    element-write-k
-    mul-k-2
-    element-write-k-2
-    element-write-k-3
-    element-write-k-4
-    element-write-k-5
-    element-write-k-6
+    element-write-serial
+    element-write-live
+    element-write-started
+    element-write-suspended
+    element-write-priorities
     identifier-requires
     gives-requires
     returns-2)

@@ -1,64 +1,65 @@
 -- A task is deleted: the slot is emptied, and its task leaves its queue. By what the callees ensure, last call first.
 -- Assumes nothing.
+use Rattle.answers.proofs.Outcomes.{plain-moved}
 use Rattle.scope.specs.Tasks.{taskDeleteAt}
 use borrow.Author.Needs.{needs}
 use Rattle.tasks.proofs.delete_at.Statement.{statement}
 use Rattle.tasks.proofs.delete_at.Tie as tie
 
-mul-k : tie.Need-mul-k
-mul-k c = search needs
+mul-name : tie.Need-mul-name
+mul-name c = search needs
 
-element-write-k : tie.Need-element-write-k
-element-write-k c = search needs
+element-write-name : tie.Need-element-write-name
+element-write-name c = search needs
 
-element-write-k-2 : tie.Need-element-write-k-2
-element-write-k-2 c = search needs
+element-write-live : tie.Need-element-write-live
+element-write-live c = search needs
 
-element-write-k-3 : tie.Need-element-write-k-3
-element-write-k-3 c = search needs
+element-write-started : tie.Need-element-write-started
+element-write-started c = search needs
 
-element-write-k-4 : tie.Need-element-write-k-4
-element-write-k-4 c = search needs
+element-write-suspended : tie.Need-element-write-suspended
+element-write-suspended c = search needs
 
-element-write-k-5 : tie.Need-element-write-k-5
-element-write-k-5 c = search needs
+element-write-priority : tie.Need-element-write-priority
+element-write-priority c = search needs
 
 leave-requires : tie.Need-leave-requires
 leave-requires c κs = search needs
 
-mul-l : tie.Need-mul-l
-mul-l c = search needs
+mul-left : tie.Need-mul-left
+mul-left c = search needs
 
-element-write-l : tie.Need-element-write-l
-element-write-l c = search needs
+element-write-left : tie.Need-element-write-left
+element-write-left c = search needs
 
-element-write-l-2 : tie.Need-element-write-l-2
-element-write-l-2 c = search needs
+element-write-joined : tie.Need-element-write-joined
+element-write-joined c = search needs
 
-restand-requires : tie.Need-restand-requires
-restand-requires c κs = search needs
+runner-requires : tie.Need-runner-requires
+runner-requires c κs = search needs
 
 plain-requires : tie.Need-plain-requires
 plain-requires c κs = search needs
 
 returns : tie.Need-returns
 unfolding taskDeleteAt
-returns c = rw (c .plain .ensures, c .before .restand .ensures, c .before .before .leave .ensures)
+returns c = λ s serial running. plain-moved _ _ _ _ _ _ _ _ _ (c .plain .ensures) (c .before .runner .ensures) (rw (c .before .before .before .leave .ensures))
 
 pub delete-at-spec : {M : Type 1} → statement M
 delete-at-spec =
     tie.close
     (tie.spec
-    mul-k
-    element-write-k
-    element-write-k-2
-    element-write-k-3
-    element-write-k-4
-    element-write-k-5
+    mul-name
+    element-write-name
+    element-write-live
+    element-write-started
+    element-write-suspended
+    element-write-priority
     leave-requires
-    mul-l
-    element-write-l
-    element-write-l-2
-    restand-requires
+    mul-left
+    element-write-left
+    element-write-joined
+    runner-requires
     plain-requires
     returns)

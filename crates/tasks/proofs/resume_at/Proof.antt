@@ -3,6 +3,7 @@
 use mathlib.Core.Path.{sym, _∙_}
 use borrow.Author.Tests.{not-true, not-false}
 use Rattle.laws.proofs.Branches.{pick-yes, pick-no}
+use Rattle.answers.proofs.Outcomes.{plain-of, plain-moved}
 use Rattle.scope.specs.Tasks.{taskResumeAt}
 use borrow.Author.Needs.{needs}
 use Rattle.tasks.proofs.resume_at.Statement.{statement}
@@ -16,7 +17,7 @@ plain-requires c κs = search needs
 
 returns : tie.Need-returns
 unfolding taskResumeAt
-returns c = pick-no _ _ _ (not-true _ (c .before .if1 .taken)) (c .plain .ensures)
+returns c = λ s serial live. pick-no _ _ _ (not-true _ (c .before .if1 .taken)) (plain-of _ _ _ _ (c .plain .ensures))
 
 element-copy-out-if2 : tie.Need-element-copy-out-if2
 element-copy-out-if2 c = search needs
@@ -26,10 +27,10 @@ plain-requires-2 c κs = search needs
 
 returns-2 : tie.Need-returns-2
 unfolding taskResumeAt
-returns-2 c = pick-yes _ _ _ (not-false _ (c .before .before .before .if1 .left)) (pick-no _ _ _ (not-true _ (c .before .if2 .taken)) (c .plain2 .ensures))
+returns-2 c = λ s serial live. pick-yes _ _ _ (not-false _ (c .before .before .before .if1 .left)) (pick-no _ _ _ (not-true _ (c .before .if2 .taken)) (plain-of _ _ _ _ (c .plain2 .ensures)))
 
-element-write-k : tie.Need-element-write-k
-element-write-k c = search needs
+element-write-suspended : tie.Need-element-write-suspended
+element-write-suspended c = search needs
 
 mul-waits-on : tie.Need-mul-waits-on
 mul-waits-on c = search needs
@@ -45,20 +46,23 @@ plain-requires-3 c κs = search needs
 
 returns-3 : tie.Need-returns-3
 unfolding taskResumeAt
-returns-3 c = pick-yes _ _ _ (not-false _ (c .before .before .before .before .before .before .before .if1 .left)) (pick-yes _ _ _ (not-false _ (c .before .before .before .before .before .if2 .left)) (pick-yes _ _ _ (sym (c .before .before .waits-on .ensures) ∙ c .before .if3 .taken) (c .plain3 .ensures)))
+returns-3 c = λ s serial live. pick-yes _ _ _ (not-false _ (c .before .before .before .before .before .before .if1 .left)) (pick-yes _ _ _ (not-false _ (c .before .before .before .before .if2 .left)) (pick-yes _ _ _ (sym (c .before .before .waits-on .ensures) ∙ c .before .if3 .taken) (plain-of _ _ _ _ (c .plain3 .ensures))))
+
+element-copy-out-ready : tie.Need-element-copy-out-ready
+element-copy-out-ready c = search needs
 
 ready-requires : tie.Need-ready-requires
 ready-requires c κs = search needs
 
-restand-requires : tie.Need-restand-requires
-restand-requires c κs = search needs
+runner-requires : tie.Need-runner-requires
+runner-requires c κs = search needs
 
 plain-requires-4 : tie.Need-plain-requires-4
 plain-requires-4 c κs = search needs
 
 returns-4 : tie.Need-returns-4
 unfolding taskResumeAt
-returns-4 c = pick-yes _ _ _ (not-false _ (c .before .before .before .before .before .before .before .before .before .if1 .left)) (pick-yes _ _ _ (not-false _ (c .before .before .before .before .before .before .before .if2 .left)) (pick-no _ _ _ (sym (c .before .before .before .before .waits-on .ensures) ∙ c .before .before .before .if3 .left) (rw (c .plain4 .ensures, c .before .restand .ensures, c .before .before .ready .ensures))))
+returns-4 c = λ s serial live. pick-yes _ _ _ (not-false _ (c .before .before .before .before .before .before .before .before .before .before .before .if1 .left)) (pick-yes _ _ _ (not-false _ (c .before .before .before .before .before .before .before .before .before .if2 .left)) (pick-no _ _ _ (sym (c .before .before .before .before .before .before .before .waits-on .ensures) ∙ c .before .before .before .before .before .before .if3 .left) (plain-moved _ _ _ _ _ _ _ _ _ (c .plain4 .ensures) (c .before .runner .ensures) (rw (c .before .before .before .ready .ensures)))))
 
 pub resume-at-spec : {M : Type 1} → statement M
 resume-at-spec =
@@ -70,13 +74,14 @@ resume-at-spec =
     element-copy-out-if2
     plain-requires-2
     returns-2
-    element-write-k
+    element-write-suspended
     mul-waits-on
     element-copy-out-waits-on
     waits-on-requires
     plain-requires-3
     returns-3
+    element-copy-out-ready
     ready-requires
-    restand-requires
+    runner-requires
     plain-requires-4
     returns-4)

@@ -3,6 +3,7 @@
 use mathlib.Core.Path.{sym, _∙_}
 use borrow.Author.Tests.{lt-ltb, le-ltb}
 use Rattle.laws.proofs.Branches.{pick-yes, pick-no}
+use Rattle.answers.proofs.Outcomes.{plain-of, gives-of, gives-moved}
 use Rattle.scope.specs.Tasks.{taskSetPriorityAt}
 use borrow.Author.Needs.{needs}
 use Rattle.tasks.proofs.set_priority_at.Statement.{statement}
@@ -13,7 +14,7 @@ plain-requires c κs = search needs
 
 returns : tie.Need-returns
 unfolding taskSetPriorityAt
-returns c = pick-yes _ _ _ (lt-ltb _ _ (c .before .if1 .taken)) (c .plain .ensures)
+returns c = λ s serial live. pick-yes _ _ _ (lt-ltb _ _ (c .before .if1 .taken)) (plain-of _ _ _ _ (c .plain .ensures))
 
 element-copy-out-before : tie.Need-element-copy-out-before
 element-copy-out-before c = search needs
@@ -21,30 +22,42 @@ element-copy-out-before c = search needs
 cast-after : tie.Need-cast-after
 cast-after c = search needs
 
+element-write-priorities : tie.Need-element-write-priorities
+element-write-priorities c = search needs
+
+element-copy-out-is-ready : tie.Need-element-copy-out-is-ready
+element-copy-out-is-ready c = search needs
+
+element-copy-out-is-ready-2 : tie.Need-element-copy-out-is-ready-2
+element-copy-out-is-ready-2 c = search needs
+
+mul-is-ready : tie.Need-mul-is-ready
+mul-is-ready c = search needs
+
+element-copy-out-is-ready-3 : tie.Need-element-copy-out-is-ready-3
+element-copy-out-is-ready-3 c = search needs
+
 is-ready-requires : tie.Need-is-ready-requires
 is-ready-requires c κs = search needs
-
-element-write-k : tie.Need-element-write-k
-element-write-k c = search needs
 
 leave-requires : tie.Need-leave-requires
 leave-requires c κs = search needs
 
-make-ready-requires : tie.Need-make-ready-requires
-make-ready-requires c κs = search needs
-
-restand-requires : tie.Need-restand-requires
-restand-requires c κs = search needs
+ready-requires : tie.Need-ready-requires
+ready-requires c κs = search needs
 
 wide-requires : tie.Need-wide-requires
 wide-requires c κs = search needs
+
+runner-requires : tie.Need-runner-requires
+runner-requires c κs = search needs
 
 gives-requires : tie.Need-gives-requires
 gives-requires c κs = search needs
 
 returns-2 : tie.Need-returns-2
 unfolding taskSetPriorityAt
-returns-2 c = pick-no _ _ _ (le-ltb _ _ (c .before .before .before .before .before .before .before .before .before .before .before .before .if1 .left)) (pick-yes _ _ _ (sym (c .before .before .before .before .before .before .before .before .is-ready .ensures) ∙ c .before .before .before .before .before .before .before .if2 .taken) (rw (c .gives .ensures, c .before .wide .ensures, c .before .before .restand .ensures, c .before .before .before .make-ready .ensures, c .before .before .before .before .leave .ensures)))
+returns-2 c = λ s serial live. pick-no _ _ _ (le-ltb _ _ (c .before .before .before .before .before .before .before .before .before .before .before .before .before .before .if1 .left)) (pick-yes _ _ _ (sym (c .before .before .before .before .before .before .before .before .before .is-ready .ensures) ∙ c .before .before .before .before .before .before .before .before .if2 .taken) (gives-moved _ _ _ _ _ _ _ _ _ (rw (c .before .before .before .wide .ensures) at (c .gives .ensures)) (c .before .runner .ensures) (rw (c .before .before .before .before .ready .ensures, c .before .before .before .before .before .before .leave .ensures))))
 
 wide-requires-2 : tie.Need-wide-requires-2
 wide-requires-2 c κs = search needs
@@ -54,7 +67,7 @@ gives-requires-2 c κs = search needs
 
 returns-3 : tie.Need-returns-3
 unfolding taskSetPriorityAt
-returns-3 c = pick-no _ _ _ (le-ltb _ _ (c .before .before .before .before .before .before .before .if1 .left)) (pick-no _ _ _ (sym (c .before .before .before .is-ready .ensures) ∙ c .before .before .if2 .left) (rw (c .gives2 .ensures, c .before .wide2 .ensures)))
+returns-3 c = λ s serial live. pick-no _ _ _ (le-ltb _ _ (c .before .before .before .before .before .before .before .before .if1 .left)) (pick-no _ _ _ (sym (c .before .before .before .is-ready .ensures) ∙ c .before .before .if2 .left) (gives-of _ _ _ _ (rw (c .before .wide2 .ensures) at (c .gives2 .ensures))))
 
 pub set-priority-at-spec : {M : Type 1} → statement M
 set-priority-at-spec =
@@ -64,12 +77,16 @@ set-priority-at-spec =
     returns
     element-copy-out-before
     cast-after
+    element-write-priorities
+    element-copy-out-is-ready
+    element-copy-out-is-ready-2
+    mul-is-ready
+    element-copy-out-is-ready-3
     is-ready-requires
-    element-write-k
     leave-requires
-    make-ready-requires
-    restand-requires
+    ready-requires
     wide-requires
+    runner-requires
     gives-requires
     returns-2
     wide-requires-2

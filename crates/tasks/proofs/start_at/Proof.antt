@@ -1,6 +1,7 @@
 -- A task is started: 20 by the test of its flag, else it becomes ready.
 -- Assumes nothing.
 use Rattle.laws.proofs.Branches.{pick-yes, pick-no}
+use Rattle.answers.proofs.Outcomes.{plain-of, plain-moved}
 use Rattle.scope.specs.Tasks.{taskStartAt}
 use borrow.Author.Needs.{needs}
 use Rattle.tasks.proofs.start_at.Statement.{statement}
@@ -14,23 +15,26 @@ plain-requires c κs = search needs
 
 returns : tie.Need-returns
 unfolding taskStartAt
-returns c = pick-yes _ _ _ (c .before .if1 .taken) (c .plain .ensures)
+returns c = λ s serial live. pick-yes _ _ _ (c .before .if1 .taken) (plain-of _ _ _ _ (c .plain .ensures))
 
-element-write-k : tie.Need-element-write-k
-element-write-k c = search needs
+element-write-started : tie.Need-element-write-started
+element-write-started c = search needs
+
+element-copy-out-ready : tie.Need-element-copy-out-ready
+element-copy-out-ready c = search needs
 
 ready-requires : tie.Need-ready-requires
 ready-requires c κs = search needs
 
-restand-requires : tie.Need-restand-requires
-restand-requires c κs = search needs
+runner-requires : tie.Need-runner-requires
+runner-requires c κs = search needs
 
 plain-requires-2 : tie.Need-plain-requires-2
 plain-requires-2 c κs = search needs
 
 returns-2 : tie.Need-returns-2
 unfolding taskStartAt
-returns-2 c = pick-no _ _ _ (c .before .before .before .if1 .left) (rw (c .plain2 .ensures, c .before .restand .ensures, c .before .before .ready .ensures))
+returns-2 c = λ s serial live. pick-no _ _ _ (c .before .before .before .before .before .before .if1 .left) (plain-moved _ _ _ _ _ _ _ _ _ (c .plain2 .ensures) (c .before .runner .ensures) (rw (c .before .before .before .ready .ensures)))
 
 pub start-at-spec : {M : Type 1} → statement M
 start-at-spec =
@@ -39,8 +43,9 @@ start-at-spec =
     element-copy-out-if1
     plain-requires
     returns
-    element-write-k
+    element-write-started
+    element-copy-out-ready
     ready-requires
-    restand-requires
+    runner-requires
     plain-requires-2
     returns-2)

@@ -3,6 +3,7 @@
 use mathlib.Core.Path.{sym, _∙_}
 use borrow.Author.Tests.{not-true, not-false}
 use Rattle.laws.proofs.Branches.{pick-yes, pick-no}
+use Rattle.answers.proofs.Outcomes.{plain-of, plain-moved}
 use Rattle.scope.specs.Tasks.{taskSuspendAt}
 use borrow.Author.Needs.{needs}
 use Rattle.tasks.proofs.suspend_at.Statement.{statement}
@@ -16,7 +17,7 @@ plain-requires c κs = search needs
 
 returns : tie.Need-returns
 unfolding taskSuspendAt
-returns c = pick-no _ _ _ (not-true _ (c .before .if1 .taken)) (c .plain .ensures)
+returns c = λ s serial live. pick-no _ _ _ (not-true _ (c .before .if1 .taken)) (plain-of _ _ _ _ (c .plain .ensures))
 
 element-copy-out-if2 : tie.Need-element-copy-out-if2
 element-copy-out-if2 c = search needs
@@ -26,16 +27,16 @@ plain-requires-2 c κs = search needs
 
 returns-2 : tie.Need-returns-2
 unfolding taskSuspendAt
-returns-2 c = pick-yes _ _ _ (not-false _ (c .before .before .before .if1 .left)) (pick-yes _ _ _ (c .before .if2 .taken) (c .plain2 .ensures))
+returns-2 c = λ s serial live. pick-yes _ _ _ (not-false _ (c .before .before .before .if1 .left)) (pick-yes _ _ _ (c .before .if2 .taken) (plain-of _ _ _ _ (c .plain2 .ensures)))
 
-element-write-k : tie.Need-element-write-k
-element-write-k c = search needs
+element-write-suspended : tie.Need-element-write-suspended
+element-write-suspended c = search needs
 
-mul-waits-on : tie.Need-mul-waits-on
-mul-waits-on c = search needs
+mul-x : tie.Need-mul-x
+mul-x c = search needs
 
-array-read-waits-on : tie.Need-array-read-waits-on
-array-read-waits-on c = search needs
+element-copy-out-x : tie.Need-element-copy-out-x
+element-copy-out-x c = search needs
 
 waits-on-requires : tie.Need-waits-on-requires
 waits-on-requires c κs = search needs
@@ -45,20 +46,20 @@ plain-requires-3 c κs = search needs
 
 returns-3 : tie.Need-returns-3
 unfolding taskSuspendAt
-returns-3 c = pick-yes _ _ _ (not-false _ (c .before .before .before .before .before .before .before .if1 .left)) (pick-no _ _ _ (c .before .before .before .before .before .if2 .left) (pick-yes _ _ _ (sym (c .before .before .waits-on .ensures) ∙ c .before .if3 .taken) (c .plain3 .ensures)))
+returns-3 c = λ s serial live. pick-yes _ _ _ (not-false _ (c .before .before .before .before .before .before .if1 .left)) (pick-no _ _ _ (c .before .before .before .before .if2 .left) (pick-yes _ _ _ (sym (c .before .before .waits-on .ensures) ∙ c .before .if3 .taken) (plain-of _ _ _ _ (c .plain3 .ensures))))
 
 leave-requires : tie.Need-leave-requires
 leave-requires c κs = search needs
 
-restand-requires : tie.Need-restand-requires
-restand-requires c κs = search needs
+runner-requires : tie.Need-runner-requires
+runner-requires c κs = search needs
 
 plain-requires-4 : tie.Need-plain-requires-4
 plain-requires-4 c κs = search needs
 
 returns-4 : tie.Need-returns-4
 unfolding taskSuspendAt
-returns-4 c = pick-yes _ _ _ (not-false _ (c .before .before .before .before .before .before .before .before .before .if1 .left)) (pick-no _ _ _ (c .before .before .before .before .before .before .before .if2 .left) (pick-no _ _ _ (sym (c .before .before .before .before .waits-on .ensures) ∙ c .before .before .before .if3 .left) (rw (c .plain4 .ensures, c .before .restand .ensures, c .before .before .leave .ensures))))
+returns-4 c = λ s serial live. pick-yes _ _ _ (not-false _ (c .before .before .before .before .before .before .before .before .before .before .if1 .left)) (pick-no _ _ _ (c .before .before .before .before .before .before .before .before .if2 .left) (pick-no _ _ _ (sym (c .before .before .before .before .before .before .waits-on .ensures) ∙ c .before .before .before .before .before .if3 .left) (plain-moved _ _ _ _ _ _ _ _ _ (c .plain4 .ensures) (c .before .runner .ensures) (rw (c .before .before .before .leave .ensures)))))
 
 pub suspend-at-spec : {M : Type 1} → statement M
 suspend-at-spec =
@@ -70,13 +71,13 @@ suspend-at-spec =
     element-copy-out-if2
     plain-requires-2
     returns-2
-    element-write-k
-    mul-waits-on
-    array-read-waits-on
+    element-write-suspended
+    mul-x
+    element-copy-out-x
     waits-on-requires
     plain-requires-3
     returns-3
     leave-requires
-    restand-requires
+    runner-requires
     plain-requires-4
     returns-4)

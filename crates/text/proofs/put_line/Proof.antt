@@ -2,21 +2,18 @@
 -- Assumes nothing.
 use Prim.Native.Nat.{_+_, _≤_}
 use native.Mathlib.Omega.{arith}
-use mathlib.Core.Path.{_≡_, sym, _∙_}
+use mathlib.Core.Path.{_≡_, _∙_}
 use lib.ListN.{length}
+use denote.Ref.{now}
 use borrow.Author.Needs.{needs}
 use Rattle.scope.specs.Listing.{wakeFields, lineOf}
 use Rattle.text.proofs.Laws.{decimal-length, field-length, signed-field-length, wakes-length, room-after, put-then}
 use Rattle.text.proofs.put_line.Statement.{statement}
 use Rattle.text.proofs.put_line.Tie as tie
 
--- the wake list is an array of 32
-wakes-are : (c : tie.Start) → length (c .args .a .wakes) ≡ 32
-wakes-are c = search needs
-
 -- after each put, the room left for those that follow
 room-put-decimal : (c : tie.After-put-decimal) → c .put-decimal .result + 772 ≤ length (c .put-decimal .last .0)
-room-put-decimal c = room-after 10 772 _ _ _ _ _ (c .put-decimal .ensures .0) (decimal-length _) (c .put-decimal .kept .0) (c .before .before .before .before .before .pre .0)
+room-put-decimal c = room-after 10 772 _ _ _ _ _ (c .put-decimal .ensures .0) (decimal-length _) (c .put-decimal .kept .0) (c .before .before .before .before .pre .0)
 
 room-put-field : (c : tie.After-put-field) → c .put-field .result + 761 ≤ length (c .put-field .last .0)
 room-put-field c = room-after 11 761 _ _ _ _ _ (c .put-field .ensures .0) (field-length _) (c .put-field .kept .0) (room-put-decimal (c .before .before .before .before))
@@ -38,13 +35,13 @@ room-put-field5 c = room-after 11 705 _ _ _ _ _ (c .put-field5 .ensures .0) (fie
 
 room-put-wakes : (c : tie.After-put-wakes) → c .put-wakes .result + 1 ≤ length (c .put-wakes .last .0)
 room-put-wakes c =
-    let s = c .before .before .before .before .before .before .before .before .before .before .before .before .before .before .before .before .before .before .before .before .before .before .before .before .before .before .before .before .before .before .before .before .before .before in
-    let a = s .args .a in
-    let l : length (wakeFields (a .woken) 0 (a .wakes) (a .why)) ≤ 704 = omega (arith, wakes-length (a .woken) 0 (a .wakes) (a .why), s .pre .1) in
+    let s = c .before .before .before .before .before .before .before .before .before .before .before .before .before .before .before .before .before .before .before .before .before .before .before .before .before .before .before .before .before .before .before .before .before in
+    let o = s .args .o in
+    let l : length (wakeFields (o .woken) 0 (now (s .args .wakes)) (o .why)) ≤ 704 = omega (arith, wakes-length (o .woken) 0 (now (s .args .wakes)) (o .why), s .pre .1) in
     room-after 704 1 _ _ _ _ _ (c .put-wakes .ensures .0) l (c .put-wakes .kept .0) (room-put-field5 (c .before .before .before .before .before))
 
 put-decimal-requires : tie.Need-put-decimal-requires
-put-decimal-requires c κs = omega (arith, decimal-length (c .before .before .before .before .args .number), c .before .before .before .before .pre)
+put-decimal-requires c κs = omega (arith, decimal-length (c .before .before .before .args .number), c .before .before .before .pre)
 
 put-field-requires : tie.Need-put-field-requires
 put-field-requires c κs = omega (arith, room-put-decimal (c .before .before .before))
@@ -76,13 +73,11 @@ put-field-requires-4 c κs = omega (arith, room-put-field3 (c .before .before .b
 put-field-requires-5 : tie.Need-put-field-requires-5
 put-field-requires-5 c κs = omega (arith, room-put-field4 (c .before .before .before))
 
-slice-aggregate-put-wakes : tie.Need-slice-aggregate-put-wakes
-slice-aggregate-put-wakes c = sym (wakes-are (c .before .before .before .before .before .before .before .before .before .before .before .before .before .before .before .before .before .before .before .before .before .before .before .before .before .before .before .before .before .before .before .before .before))
-
 put-wakes-requires : tie.Need-put-wakes-requires
 put-wakes-requires c κs =
-    let s = c .before .before .before .before .before .before .before .before .before .before .before .before .before .before .before .before .before .before .before .before .before .before .before .before .before .before .before .before .before .before .before .before .before in
-    (omega (arith, room-put-field5 (c .before .before .before .before), s .pre .1), omega (arith, wakes-are s, s .pre .1))
+    let s = c .before .before .before .before .before .before .before .before .before .before .before .before .before .before .before .before .before .before .before .before .before .before .before .before .before .before .before .before .before .before .before .before in
+    let n : length (now (s .args .wakes)) ≡ 32 = search needs in
+    (omega (arith, room-put-field5 (c .before .before .before .before), s .pre .1), omega (arith, n, s .pre .1))
 
 put-byte-requires : tie.Need-put-byte-requires
 put-byte-requires c κs = omega (arith, room-put-wakes (c .before .before .before))
@@ -102,7 +97,7 @@ same-length c =
 
 returns : tie.Need-returns
 unfolding lineOf
-returns c =
+returns c s =
     let c9 = c .before .before in
     let c8 = c9 .before .before .before .before in
     let c7 = c8 .before .before .before .before .before in
@@ -137,7 +132,6 @@ put-line-spec =
     array-read-put-field-3
     put-field-requires-4
     put-field-requires-5
-    slice-aggregate-put-wakes
     put-wakes-requires
     put-byte-requires
     same-length

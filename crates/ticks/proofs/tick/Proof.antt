@@ -1,6 +1,7 @@
 -- `ticks::tick`: the time_outs first, then those who are due.
 -- Assumes nothing.
 use borrow.Author.Needs.{needs}
+use Rattle.answers.proofs.Outcomes.{woke-moved}
 use Rattle.scope.specs.Ticks.{tick}
 use Rattle.ticks.proofs.tick.Statement.{statement}
 use Rattle.ticks.proofs.tick.Tie as tie
@@ -11,12 +12,17 @@ times-left-requires c κs = search needs
 wake-due-requires : tie.Need-wake-due-requires
 wake-due-requires c κs = search needs
 
-wakes-with-requires : tie.Need-wakes-with-requires
-wakes-with-requires c κs = search needs
+runner-requires : tie.Need-runner-requires
+runner-requires c κs = search needs
+
+woke-requires : tie.Need-woke-requires
+woke-requires c κs = search needs
 
 returns : tie.Need-returns
 unfolding tick
-returns c = rw (c .wakes-with .ensures, c .before .wake-due .ensures, c .before .before .times-left .ensures)
+returns c = λ s running. woke-moved _ _ _ _ _ _ _ _ _ _ _ (c .woke .ensures) (c .before .runner .ensures) (rw (← c .before .before .before .before .before .before .before .before .times-left .ensures) (c .before .before .before .wake-due .ensures (s .tasks)))
 
 pub tick-spec : {M : Type 1} → statement M
-tick-spec = tie.close (tie.spec times-left-requires wake-due-requires wakes-with-requires returns)
+tick-spec =
+    tie.close
+    (tie.spec times-left-requires wake-due-requires runner-requires woke-requires returns)

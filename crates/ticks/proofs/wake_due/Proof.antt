@@ -1,43 +1,35 @@
--- `ticks::wake_due`: each turn looks at one task more, and wakes it where it is due.
+-- `ticks::wake_due`: nobody is due, or each turn looks at one task more, and wakes it where it is due.
 -- Assumes nothing.
-use Prim.Native.Nat.{_-_}
+use Prim.Native.Nat.{_-_, _≤_}
 use native.Mathlib.Omega.{arith}
-use mathlib.Core.Path.{refl, _∙_}
-use mathlib.Core.Logic.{⊎-elim}
+use mathlib.Core.Path.{_≡_, refl}
 use borrow.Author.Needs.{needs}
-use Rattle.ticks.proofs.Laws.{Looked, due-woken, due-passed, due-done}
+use borrow.Author.Tests.{not-true}
+use denote.Ref.{now}
+use Rattle.answers.specs.Columns.{wakers, wakingOf}
+use Rattle.scope.specs.declared.Tasks.{Tasks}
+use Rattle.ticks.proofs.Laws.{Looked, due-looked, due-done, none-due}
 use Rattle.ticks.proofs.wake_due.Statement.{statement}
 use Rattle.ticks.proofs.wake_due.Tie as tie
 
 abbrev Inv-loop : tie.InvT-loop
-Inv-loop k w₀ t₀ w t = Looked k w₀ w t
+Inv-loop left₀ seat₀ joined₀ serial suspended priority wakes₀ woken₀ t₀ left seat joined wakes woken t =
+    (woken ≤ t) × ((k : Tasks) → Looked (wakers k serial suspended priority) (wakingOf left₀ seat₀ joined₀ wakes₀ 0) (wakingOf left seat joined wakes woken) t)
 
 abbrev μ-loop : tie.MeasureT-loop
-μ-loop k w₀ t₀ w t = 32 - t
+μ-loop left₀ seat₀ joined₀ serial suspended priority wakes₀ woken₀ t₀ left seat joined wakes woken t = 32 - t
 
-none-woken-requires : tie.Need-none-woken-requires Inv-loop μ-loop
-none-woken-requires c κs = search needs
+any-due-requires : tie.Need-any-due-requires Inv-loop μ-loop
+any-due-requires c κs = search needs
+
+returns : tie.Need-returns Inv-loop μ-loop
+returns c = λ k. none-due _ _ 32 0 (λ j l. c .before .any-due .ensures (not-true _ (c .if1 .taken)) (now (c .before .before .before .before .args .joined)) j l)
 
 loop-holds : tie.Need-loop-holds Inv-loop μ-loop
-loop-holds c = (search needs, rw (c .none-woken .ensures) (omega arith), refl)
+loop-holds c = (search needs, λ k. (omega arith, omega arith, refl))
 
-mul-is-due : tie.Need-mul-is-due Inv-loop μ-loop
-mul-is-due c = search needs
-
-element-copy-out-is-due : tie.Need-element-copy-out-is-due Inv-loop μ-loop
-element-copy-out-is-due c = search needs
-
-mul-is-due-2 : tie.Need-mul-is-due-2 Inv-loop μ-loop
-mul-is-due-2 c = search needs
-
-element-copy-out-is-due-2 : tie.Need-element-copy-out-is-due-2 Inv-loop μ-loop
-element-copy-out-is-due-2 c = search needs
-
-is-due-requires : tie.Need-is-due-requires Inv-loop μ-loop
-is-due-requires c κs = search needs
-
-wake-next-requires : tie.Need-wake-next-requires Inv-loop μ-loop
-wake-next-requires c κs = search needs
+wake-if-due-requires : tie.Need-wake-if-due-requires Inv-loop μ-loop
+wake-if-due-requires c κs = search needs
 
 add-t : tie.Need-add-t Inv-loop μ-loop
 add-t c = search needs
@@ -46,10 +38,10 @@ loop-less : tie.Need-loop-less Inv-loop μ-loop
 loop-less c = search needs
 
 loop-again : tie.Need-loop-again Inv-loop μ-loop
-loop-again c = ⊎-elim (λ x. due-woken _ _ _ _ (c .before .before .before .before .before .before .loop .t) _ (c .before .before .before .before .before .before .loop .inv) (c .before .before .before .before .before .loop-test .taken) (c .before .is-due .ensures) (x .0 .taken) (x .1 .ensures) (x .2)) (λ x. due-passed _ _ _ _ (c .before .before .before .before .before .before .loop .t) (c .before .before .before .before .before .before .loop .inv) (c .before .before .before .before .before .loop-test .taken) (c .before .is-due .ensures) (x .0 .left) (x .1)) (c .if1 .came)
+loop-again c = (omega (arith, c .wake-if-due .ensures .0, c .before .before .before .before .before .before .loop .inv .0), λ k. due-looked _ _ _ _ (c .before .before .before .before .before .before .loop .t) (c .before .before .before .before .before .before .loop .inv .1 k) (search needs) (c .wake-if-due .ensures .0) (c .wake-if-due .ensures .1 k))
 
-returns : tie.Need-returns Inv-loop μ-loop
-returns c = due-done _ _ _ (c .before .loop .t) (c .before .loop .inv) (search needs) ∙ rw (c .before .before .none-woken .ensures)
+returns-2 : tie.Need-returns-2 Inv-loop μ-loop
+returns-2 c = λ k. due-done _ _ _ (c .before .loop .t) (c .before .loop .inv .1 k) (search needs)
 
 pub wake-due-spec : {M : Type 1} → statement M
 wake-due-spec =
@@ -57,15 +49,11 @@ wake-due-spec =
     (tie.spec
     Inv-loop
     μ-loop
-    none-woken-requires
+    any-due-requires
+    returns
     loop-holds
-    mul-is-due
-    element-copy-out-is-due
-    mul-is-due-2
-    element-copy-out-is-due-2
-    is-due-requires
-    wake-next-requires
+    wake-if-due-requires
     add-t
     loop-less
     loop-again
-    returns)
+    returns-2)

@@ -1,0 +1,57 @@
+-- What an outcome stands for: the answers of scope's specs/Answers.antt, by the state as the call left it.
+-- Assumes nothing.
+use Prim.Native.Nat.{ℕ}
+use mathlib.Core.Path.{_≡_, refl}
+use mathlib.Core.Bool.{Bool, false}
+use mathlib.Core.List.{List}
+use Rattle.scope.specs.declared.State.{State}
+use Rattle.scope.specs.declared.Line.{Line}
+use Rattle.scope.specs.declared.Tasks.{Tasks}
+use Rattle.scope.specs.declared.Semaphores.{Semaphores}
+use Rattle.scope.specs.declared.Pools.{Pools}
+use Rattle.scope.specs.declared.Waking.{Waking}
+use Rattle.scope.specs.declared.Answer.{Answer}
+use Rattle.scope.specs.Statuses.{OK}
+use Rattle.scope.specs.Seats.{runnerOf}
+use Rattle.scope.specs.Views.{withLine, runningTask}
+use Rattle.scope.specs.Answers.{noWakes, answer, plain, gives, wakesWith}
+use Rattle.answers.specs.declared.Outcome.{Outcome}
+use Rattle.answers.specs.Outcomes.{nowRuns, answerOf, outcome, woke}
+use Rattle.answers.specs.Columns.{stateOf}
+
+-- `n` runs then: whoever ran before, or whoever the seats say
+module _ (s : State) (n : ℕ) (o : Outcome) where
+  pub plain-of : (status : ℕ) → o ≡ outcome status 0 0 0 0 false n → answerOf s noWakes o ≡ plain (nowRuns s n) status
+  unfolding answerOf outcome plain answer
+  plain-of status e = rw e
+
+  pub gives-of : (v : ℕ) → o ≡ outcome 0 v 0 0 0 false n → answerOf s noWakes o ≡ gives (nowRuns s n) v
+  unfolding answerOf outcome gives answer
+  gives-of v e = rw e
+
+  pub tells-of : (v0 v1 v2 v3 : ℕ) (negative : Bool) → o ≡ outcome 0 v0 v1 v2 v3 negative n
+      → answerOf s noWakes o ≡ answer (nowRuns s n) OK v0 v1 v2 v3 negative
+  unfolding answerOf outcome answer
+  tells-of v0 v1 v2 v3 negative e = rw e
+
+-- nobody was woken
+pub none-woken : (s : State) (o : Outcome) {wakes : List ℕ} {a : Answer} → wakes ≡ noWakes → answerOf s noWakes o ≡ a → answerOf s wakes o ≡ a
+none-woken s o e p = rw e p
+
+-- tasks stand elsewhere, and the seats say who runs
+module _ (k : Tasks) (m : Semaphores) (p : Pools) (running n : ℕ) (o : Outcome) where
+  pub plain-moved : (l l' : Line) (status : ℕ) → o ≡ outcome status 0 0 0 0 false n → n ≡ runnerOf (l' .seat) → l' ≡ l
+      → answerOf (stateOf l' k m p running) noWakes o ≡ plain (stateOf l k m p (runnerOf (l .seat))) status
+  unfolding answerOf outcome plain answer
+  plain-moved l l' status e f g = rw (e, f, g)
+
+  pub gives-moved : (l l' : Line) (v : ℕ) → o ≡ outcome 0 v 0 0 0 false n → n ≡ runnerOf (l' .seat) → l' ≡ l
+      → answerOf (stateOf l' k m p running) noWakes o ≡ gives (stateOf l k m p (runnerOf (l .seat))) v
+  unfolding answerOf outcome gives answer
+  gives-moved l l' v e f g = rw (e, f, g)
+
+  -- and tasks were woken, `l` and `before` being where they stood and who ran before
+  pub woke-moved : (l : Line) (before : ℕ) (w w' : Waking) (why : ℕ) → o ≡ woke (w' .woken) why n → n ≡ runnerOf (w' .line .seat) → w' ≡ w
+      → answerOf (stateOf (w' .line) k m p running) (w' .wakes) o ≡ wakesWith (stateOf l k m p before) w why
+  unfolding answerOf woke wakesWith
+  woke-moved l before w w' why e f g = rw (e, f, g)

@@ -1,0 +1,66 @@
+-- The state out of the columns that a call is lent. A call is lent only what it reads or changes: the columns it is not lent are
+-- those of any state s, and stay as they are.
+-- Assumes nothing.
+use Prim.Native.Nat.{ℕ}
+use mathlib.Core.Bool.{Bool}
+use mathlib.Core.List.{List}
+use Rattle.scope.specs.declared.Line.{Line}
+use Rattle.scope.specs.declared.Tasks.{Tasks}
+use Rattle.scope.specs.declared.Semaphores.{Semaphores}
+use Rattle.scope.specs.declared.Pools.{Pools}
+use Rattle.scope.specs.declared.State.{State}
+use Rattle.scope.specs.declared.Waking.{Waking}
+
+abbrev pub lineOf : List ℕ → List ℕ → List ℕ → Line
+lineOf left seat joined = record { left = left; seat = seat; joined = joined }
+
+abbrev pub tasksOf : List ℕ → List ℕ → List Bool → List Bool → List Bool → List ℕ → Tasks
+tasksOf name serial live started suspended priority =
+    record { name = name; serial = serial; live = live; started = started; suspended = suspended; priority = priority }
+
+abbrev pub semaphoresOf : List ℕ → List ℕ → List ℕ → List Bool → List Bool → Semaphores
+semaphoresOf name serial units live fifo = record { name = name; serial = serial; units = units; live = live; fifo = fifo }
+
+abbrev pub poolsOf : List ℕ → List ℕ → List ℕ → List ℕ → List ℕ → List ℕ → List Bool → List Bool → Pools
+poolsOf out name address length size serial live forced =
+    record {
+      out = out;
+      name = name;
+      address = address;
+      length = length;
+      size = size;
+      serial = serial;
+      live = live;
+      forced = forced;
+    }
+
+abbrev pub stateOf : Line → Tasks → Semaphores → Pools → ℕ → State
+stateOf l k m p running = record { line = l; tasks = k; semaphores = m; pools = p; running = running }
+
+-- the tasks k with these columns, which waking a task reads
+abbrev pub wakers : Tasks → List ℕ → List Bool → List ℕ → Tasks
+wakers k serial suspended priority = tasksOf (k .name) serial (k .live) (k .started) suspended priority
+
+-- the tasks woken so far, out of the columns
+abbrev pub wakingOf : List ℕ → List ℕ → List ℕ → List ℕ → ℕ → Waking
+wakingOf left seat joined wakes woken = record { line = lineOf left seat joined; wakes = wakes; woken = woken }
+
+-- what the tick is lent
+abbrev pub lentLine : State → List ℕ → List ℕ → List ℕ → List ℕ → List Bool → List ℕ → ℕ → State
+lentLine s left seat joined serial suspended priority running =
+    stateOf (lineOf left seat joined) (wakers (s .tasks) serial suspended priority) (s .semaphores) (s .pools) running
+
+-- what the task calls are lent
+abbrev pub lentTasks : State → List ℕ → List ℕ → List ℕ → List ℕ → List ℕ → List Bool → List Bool → List Bool → List ℕ → ℕ → State
+lentTasks s left seat joined name serial live started suspended priority running =
+    stateOf (lineOf left seat joined) (tasksOf name serial live started suspended priority) (s .semaphores) (s .pools) running
+
+-- what the semaphore calls are lent; the first serial, suspended and priority are the tasks'
+abbrev pub lentSemaphores : State → List ℕ → List ℕ → List ℕ → List ℕ → List Bool → List ℕ → List ℕ → List ℕ → List ℕ → List Bool → List Bool → ℕ → State
+lentSemaphores s left seat joined waker suspended priority name serial units live fifo running =
+    stateOf (lineOf left seat joined) (wakers (s .tasks) waker suspended priority) (semaphoresOf name serial units live fifo) (s .pools) running
+
+-- what the pool calls are lent
+abbrev pub lentPools : State → List ℕ → List ℕ → List ℕ → List ℕ → List ℕ → List ℕ → List Bool → List Bool → ℕ → State
+lentPools s out name address length size serial live forced running =
+    stateOf (s .line) (s .tasks) (s .semaphores) (poolsOf out name address length size serial live forced) running

@@ -1,0 +1,56 @@
+// Plays a mix by the step that checks the state, for the benchmark, and prints a checksum of the answers.
+use libc::STDIN_FILENO;
+use libc::STDOUT_FILENO;
+use scope::State;
+
+struct Played {
+    state: State,
+    sum: u32,
+}
+
+// Plays records `from` to `to` once.
+fn play(file: &[u8], from: usize, to: usize, p: Played) -> Played {
+    let mut s = p.state;
+    let mut sum = p.sum;
+    let mut i = from;
+    while i < to {
+        let r = mixing::record_at(file, i);
+        let a = kernel::step(s, r.call, r.mark, r.a, r.b, r.c, r.d, r.e);
+        let v = a.values;
+        let w = a.wakes;
+        sum = mixing::summed(sum, a.status, a.running, v[0], v[1], a.woken, w[0]);
+        s = a.state;
+        i += 1;
+    }
+    Played { state: s, sum: sum }
+}
+
+// The first part once, then the rest as often as the head says, each time from the state that the first part left.
+fn rounds(file: &[u8]) -> u32 {
+    let h = mixing::head_of(file);
+    let f = kernel::fresh(5);
+    let s = f.state;
+    let mut p = play(file, 0, h.first, Played { state: s, sum: 0 });
+    let again = p.state;
+    let mut left = h.rounds;
+    while 0 < left {
+        p = play(
+            file,
+            h.first,
+            h.count,
+            Played {
+                state: again,
+                sum: p.sum,
+            },
+        );
+        left -= 1;
+    }
+    p.sum
+}
+
+fn main() {
+    let mut file = io::large_buffer();
+    let n = io::read_full(STDIN_FILENO, &mut file);
+    io::print_decimal(STDOUT_FILENO, rounds(&file[..n]) as u64);
+    io::write_all(STDOUT_FILENO, b"\n");
+}
