@@ -1,0 +1,194 @@
+/*
+ * The statuses of each call row, against those seen.
+ *
+ * "A row says who may call and which statuses can come back". Status 26
+ * needs a broken state, which no script makes; 11 and 13 go to woken tasks
+ * only.
+ */
+#include "coverage.h"
+
+#include <inttypes.h>
+#include <stdio.h>
+#include <string.h>
+
+#define B(status) (UINT32_C(1) << (status))
+#define BY_TASK (B(0) | B(2) | B(24) | B(25))
+#define NAMED (BY_TASK | B(4) | B(5)) /* with an identifier */
+
+static const struct {
+    const char *name;
+    uint32_t row;
+    uint32_t wakes;
+} rows[CALL_ROWS] = {
+    { "tick", B(0) | B(25), B(13) },
+    { "task_create", BY_TASK | B(7) | B(19), 0 },
+    { "task_delete", NAMED, 0 },
+    { "task_ident", BY_TASK | B(8), 0 },
+    { "task_start", NAMED | B(20), 0 },
+    { "task_suspend", NAMED | B(21) | B(22), 0 },
+    { "task_resume", NAMED | B(21) | B(23), 0 },
+    { "task_set_priority", NAMED | B(19), 0 },
+    { "sem_create", BY_TASK | B(6) | B(7) | B(9), 0 },
+    { "sem_delete", NAMED, B(11) },
+    { "sem_ident", BY_TASK | B(8), 0 },
+    { "sem_claim", NAMED | B(1) | B(3) | B(6) | B(10), 0 },
+    { "sem_release", (NAMED & ~B(2)) | B(12), B(0) },
+    { "sem_info", NAMED, 0 },
+    { "pool_create", BY_TASK | B(3) | B(6) | B(7) | B(14) | B(15), 0 },
+    { "pool_delete", NAMED | B(16), 0 },
+    { "pool_ident", BY_TASK | B(8), 0 },
+    { "pool_get_buff", NAMED | B(17), 0 },
+    { "pool_ret_buff", NAMED | B(18), 0 },
+    { "pool_info", NAMED, 0 },
+    { "unknown call", B(25), 0 },
+};
+
+struct reader {
+    const char *at;
+    const char *end;
+};
+
+/* Reads a number, which may have a sign. "no leading zeros" */
+static bool read_number(struct reader *r, int64_t *number)
+{
+    bool negative = r->at < r->end && *r->at == '-';
+    const char *first;
+
+    r->at += negative;
+    first = r->at;
+    *number = 0;
+    for (; r->at < r->end && *r->at >= '0' && *r->at <= '9'; r->at++)
+        *number = *number * 10 + (*r->at - '0');
+    if (r->at == first || r->at - first > 10)
+        return false;
+    if (*first == '0' && (negative || r->at - first > 1))
+        return false;
+    if (negative)
+        *number = -*number;
+    return true;
+}
+
+static bool read_sign(struct reader *r, char sign)
+{
+    if (r->at == r->end || *r->at != sign)
+        return false;
+    r->at++;
+    return true;
+}
+
+static bool read_wakes(struct reader *r, struct coverage *c, uint32_t call)
+{
+    uint32_t wakes = 0;
+
+    for (; read_sign(r, ' '); wakes++) {
+        int64_t task, status;
+
+        if (!read_number(r, &task) || !read_sign(r, ':')
+            || !read_number(r, &status))
+            return false;
+        if (status < 0 || status >= STATUSES)
+            return false;
+        c->told[call][status]++;
+    }
+    c->wakes += wakes;
+    c->lines_with_wakes += wakes > 0;
+    if (wakes > c->most_wakes)
+        c->most_wakes = wakes;
+    return read_sign(r, '\n');
+}
+
+/* Record, status, four values, running, wakes. */
+static bool read_line(struct reader *r, struct coverage *c, uint32_t record,
+                      uint32_t call)
+{
+    const char *start = r->at;
+    int64_t field[NUMBERS];
+
+    for (int i = 0; i < NUMBERS; i++) {
+        if ((i > 0 && !read_sign(r, ' ')) || !read_number(r, &field[i]))
+            return false;
+    }
+    if (field[0] != record || field[1] < 0 || field[1] >= STATUSES)
+        return false;
+    c->given[call][field[1]]++;
+    c->lines_without_runner += field[6] == 0;
+    if (call == SEM_INFO && field[4] > c->most_waiting)
+        c->most_waiting = (uint32_t)field[4];
+    if (!read_wakes(r, c, call))
+        return false;
+    if ((size_t)(r->at - start) > c->longest_line)
+        c->longest_line = (size_t)(r->at - start);
+    return true;
+}
+
+static uint32_t number_at(const uint8_t *bytes)
+{
+    return (uint32_t)bytes[0] | (uint32_t)bytes[1] << 8
+         | (uint32_t)bytes[2] << 16 | (uint32_t)bytes[3] << 24;
+}
+
+bool coverage_add(struct coverage *c, const struct script *s,
+                  const char *listing, size_t length)
+{
+    static const char refusal[] = "script refused\n";
+    struct reader r = { listing, listing + length };
+    uint32_t records;
+    const uint8_t *bytes;
+
+    if (length == sizeof refusal - 1 && memcmp(listing, refusal, length) == 0) {
+        c->refused++;
+        return true;
+    }
+    if (s->length < 16)
+        return false;
+    records = number_at(s->bytes);
+    bytes = s->bytes + number_at(s->bytes + 4);
+    for (uint32_t i = 0; i < records; i++, bytes += 28) {
+        uint32_t call = number_at(bytes);
+
+        if (!read_line(&r, c, i + 1, call < CALLS ? call : UNKNOWN_CALL))
+            return false;
+    }
+    c->records += records;
+    return r.at == r.end;
+}
+
+static void print_counts(const uint64_t *count, uint32_t row, const char *what,
+                         int *missing, int *outside)
+{
+    for (int status = 0; status < STATUSES; status++) {
+        bool expected = (row & B(status)) != 0;
+
+        if (count[status] == 0 && !expected)
+            continue;
+        printf(" %s%d:%" PRIu64, what, status, count[status]);
+        if (!expected)
+            printf("(OUTSIDE)");
+        *missing += expected && count[status] == 0;
+        *outside += !expected;
+    }
+}
+
+int coverage_print(const struct coverage *c)
+{
+    int missing = 0, outside = 0, all = 0;
+
+    printf("answers, by call and status; w: wakes of that status\n");
+    for (int call = 0; call < CALL_ROWS; call++) {
+        printf("  %-17s", rows[call].name);
+        print_counts(c->given[call], rows[call].row, "", &missing, &outside);
+        print_counts(c->told[call], rows[call].wakes, "w", &missing,
+                     &outside);
+        printf("\n");
+        all += __builtin_popcount(rows[call].row)
+             + __builtin_popcount(rows[call].wakes);
+    }
+    printf("rows: %d of %d statuses seen, %d seen outside a row\n",
+           all - missing, all, outside);
+    printf("lines with wakes %" PRIu64 ", wakes %" PRIu64
+           ", most in a line %u; most tasks waiting %u\n",
+           c->lines_with_wakes, c->wakes, c->most_wakes, c->most_waiting);
+    printf("lines where nothing runs %" PRIu64 "; longest line %zu bytes\n",
+           c->lines_without_runner, c->longest_line);
+    return outside;
+}

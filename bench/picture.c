@@ -1,0 +1,313 @@
+/* What the records of a script do to the picture of it. */
+#include "picture.h"
+
+#include <string.h>
+
+enum { MOST_COUNT = 32767, MOST_PRIORITY = 15, MOST_BUFFERS = 64 };
+
+static const uint32_t rooms[KINDS] = { 32, 16, 8 };
+
+uint32_t picture_room(enum kind kind)
+{
+    return rooms[kind];
+}
+
+static uint32_t bit(int slot)
+{
+    return UINT32_C(1) << slot;
+}
+
+static int lowest(uint32_t mask)
+{
+    return mask == 0 ? NOBODY : __builtin_ctz(mask);
+}
+
+int picture_named(const struct picture *p, enum kind kind, uint32_t id)
+{
+    uint32_t slot = id % 64;
+
+    if (kind == A_TASK && id == 0)
+        return p->running;
+    if (slot >= rooms[kind] || (p->live[kind] >> slot & 1) == 0)
+        return NOBODY;
+    return p->serial[kind][slot] == id / 64 ? (int)slot : NOBODY;
+}
+
+/* Takes the lowest slot that is free; NOBODY if there is none. */
+static int taken(struct picture *p, enum kind kind)
+{
+    int slot = lowest(~p->live[kind] & (TOP >> (32 - rooms[kind])));
+
+    if (slot != NOBODY) {
+        p->live[kind] |= bit(slot);
+        p->serial[kind][slot]++;
+    }
+    return slot;
+}
+
+/* Of the tasks in the mask the one of most priority, the first if equal. */
+static int foremost(const struct picture *p, uint32_t mask,
+                    const uint8_t *priority)
+{
+    int best = NOBODY;
+
+    for (; mask != 0; mask &= mask - 1) {
+        int slot = lowest(mask);
+
+        if (best == NOBODY || priority[slot] > priority[best]
+            || (priority[slot] == priority[best]
+                && p->since[slot] < p->since[best]))
+            best = slot;
+    }
+    return best;
+}
+
+static uint32_t waiters(const struct picture *p, int semaphore)
+{
+    uint32_t found = 0;
+
+    for (uint32_t left = p->waiting; left != 0; left &= left - 1) {
+        if (p->waits_on[lowest(left)] == semaphore)
+            found |= bit(lowest(left));
+    }
+    return found;
+}
+
+static int first_waiter(const struct picture *p, int semaphore)
+{
+    static const uint8_t all_equal[SLOTS];
+    bool fifo = (p->fifo & bit(semaphore)) != 0;
+
+    return foremost(p, waiters(p, semaphore), fifo ? all_equal : p->joined);
+}
+
+static void leave_queue(struct picture *p, int task)
+{
+    p->waiting &= ~bit(task);
+    p->since[task] = ++p->moment;
+}
+
+static void tick(struct picture *p, const uint32_t *arg)
+{
+    (void)arg;
+    for (uint32_t m = p->waiting & ~p->suspended; m != 0; m &= m - 1) {
+        int task = lowest(m);
+
+        if (p->left[task] == TOP || --p->left[task] != 0)
+            continue;
+        p->count[p->waits_on[task]]++;
+        leave_queue(p, task);
+    }
+}
+
+static void task_create(struct picture *p, const uint32_t *arg)
+{
+    int task = arg[1] > MOST_PRIORITY ? NOBODY : taken(p, A_TASK);
+
+    if (task != NOBODY)
+        p->priority[task] = (uint8_t)arg[1];
+}
+
+static void task_delete(struct picture *p, const uint32_t *arg)
+{
+    int task = picture_named(p, A_TASK, arg[0]);
+
+    if (task == NOBODY)
+        return;
+    if ((p->waiting & bit(task)) != 0)
+        p->count[p->waits_on[task]]++;
+    p->live[A_TASK] &= ~bit(task);
+    p->started &= ~bit(task);
+    p->suspended &= ~bit(task);
+    p->waiting &= ~bit(task);
+}
+
+static void task_start(struct picture *p, const uint32_t *arg)
+{
+    int task = picture_named(p, A_TASK, arg[0]);
+
+    if (task == NOBODY || (p->started & bit(task)) != 0)
+        return;
+    p->started |= bit(task);
+    p->since[task] = ++p->moment;
+}
+
+static void task_suspend(struct picture *p, const uint32_t *arg)
+{
+    int task = picture_named(p, A_TASK, arg[0]);
+
+    if (task != NOBODY)
+        p->suspended |= bit(task) & p->started;
+}
+
+static void task_resume(struct picture *p, const uint32_t *arg)
+{
+    int task = picture_named(p, A_TASK, arg[0]);
+
+    if (task == NOBODY || (p->suspended & bit(task)) == 0)
+        return;
+    p->suspended &= ~bit(task);
+    if ((p->waiting & bit(task)) == 0)
+        p->since[task] = ++p->moment;
+}
+
+static void task_set_priority(struct picture *p, const uint32_t *arg)
+{
+    int task = picture_named(p, A_TASK, arg[0]);
+
+    if (task == NOBODY || arg[1] > MOST_PRIORITY)
+        return;
+    p->priority[task] = (uint8_t)arg[1];
+    if ((picture_ready(p) & bit(task)) != 0)
+        p->since[task] = ++p->moment;
+}
+
+static void sem_create(struct picture *p, const uint32_t *arg)
+{
+    int sem = arg[1] > MOST_COUNT || arg[2] > 1 ? NOBODY
+            : taken(p, A_SEMAPHORE);
+
+    if (sem == NOBODY)
+        return;
+    p->count[sem] = (int32_t)arg[1];
+    p->fifo = (p->fifo & ~bit(sem)) | arg[2] << sem;
+}
+
+static void sem_delete(struct picture *p, const uint32_t *arg)
+{
+    int sem = picture_named(p, A_SEMAPHORE, arg[0]);
+
+    if (sem == NOBODY)
+        return;
+    for (int task; (task = first_waiter(p, sem)) != NOBODY;)
+        leave_queue(p, task);
+    p->live[A_SEMAPHORE] &= ~bit(sem);
+}
+
+static void sem_claim(struct picture *p, const uint32_t *arg)
+{
+    int sem = picture_named(p, A_SEMAPHORE, arg[0]);
+    bool bad_time = arg[2] != TOP && (arg[2] == 0 || arg[2] > 65535);
+
+    if (sem == NOBODY || arg[1] > 1 || (arg[1] == 0 && bad_time)
+        || (arg[1] == 1 && p->count[sem] <= 0))
+        return;
+    if (--p->count[sem] >= 0)
+        return;
+    p->waiting |= bit(p->running);
+    p->waits_on[p->running] = (uint8_t)sem;
+    p->joined[p->running] = p->priority[p->running];
+    p->left[p->running] = arg[2];
+    p->since[p->running] = ++p->moment;
+}
+
+static void sem_release(struct picture *p, const uint32_t *arg)
+{
+    int sem = picture_named(p, A_SEMAPHORE, arg[0]);
+
+    if (sem == NOBODY || p->count[sem] == MOST_COUNT)
+        return;
+    if (p->count[sem]++ < 0)
+        leave_queue(p, first_waiter(p, sem));
+}
+
+static bool is_free_ground(const struct picture *p, const struct area *a)
+{
+    for (uint32_t left = p->live[A_POOL]; left != 0; left &= left - 1) {
+        const struct area *other = &p->area[lowest(left)];
+
+        if (a->address < (uint64_t)other->address + other->length
+            && other->address < (uint64_t)a->address + a->length)
+            return false;
+    }
+    return true;
+}
+
+static void pool_create(struct picture *p, const uint32_t *arg)
+{
+    struct area a = { arg[1], arg[2], arg[3], 0 };
+    int pool;
+
+    if (a.length == 0 || (uint64_t)a.address + a.length > UINT64_C(1) << 32)
+        return;
+    if (a.size == 0 || a.length < a.size || a.length / a.size > MOST_BUFFERS)
+        return;
+    if (arg[4] > 1 || !is_free_ground(p, &a))
+        return;
+    pool = taken(p, A_POOL);
+    if (pool == NOBODY)
+        return;
+    p->area[pool] = a;
+    p->forced = (p->forced & ~bit(pool)) | arg[4] << pool;
+}
+
+static void pool_delete(struct picture *p, const uint32_t *arg)
+{
+    int pool = picture_named(p, A_POOL, arg[0]);
+
+    if (pool == NOBODY)
+        return;
+    if (p->area[pool].out == 0 || (p->forced & bit(pool)) != 0)
+        p->live[A_POOL] &= ~bit(pool);
+}
+
+static void pool_get_buff(struct picture *p, const uint32_t *arg)
+{
+    int pool = picture_named(p, A_POOL, arg[0]);
+    struct area *a = &p->area[pool == NOBODY ? 0 : pool];
+
+    if (pool == NOBODY || a->out == UINT64_MAX)
+        return;
+    if ((uint32_t)__builtin_ctzll(~a->out) < a->length / a->size)
+        a->out |= a->out + 1;
+}
+
+static void pool_ret_buff(struct picture *p, const uint32_t *arg)
+{
+    int pool = picture_named(p, A_POOL, arg[0]);
+    struct area *a = &p->area[pool == NOBODY ? 0 : pool];
+
+    if (pool == NOBODY || arg[1] < a->address)
+        return;
+    if ((arg[1] - a->address) % a->size == 0
+        && (arg[1] - a->address) / a->size < MOST_BUFFERS)
+        a->out &= ~(UINT64_C(1) << (arg[1] - a->address) / a->size);
+}
+
+static void changes_nothing(struct picture *p, const uint32_t *arg)
+{
+    (void)p;
+    (void)arg;
+}
+
+static void (*const works[CALLS])(struct picture *, const uint32_t *) = {
+    tick, task_create, task_delete, changes_nothing, task_start,
+    task_suspend, task_resume, task_set_priority, sem_create, sem_delete,
+    changes_nothing, sem_claim, sem_release, changes_nothing, pool_create,
+    pool_delete, changes_nothing, pool_get_buff, pool_ret_buff,
+    changes_nothing
+};
+
+static bool caller_is_right(const struct picture *p, uint32_t call,
+                            uint32_t mark)
+{
+    if (mark == 1)
+        return call == TICK || call == SEM_RELEASE;
+    return mark == 0 && call != TICK && p->running != NOBODY;
+}
+
+void picture_start(struct picture *p, uint32_t priority)
+{
+    memset(p, 0, sizeof *p);
+    p->live[A_TASK] = p->started = 1;
+    p->serial[A_TASK][0] = 1;
+    p->priority[0] = (uint8_t)priority;
+}
+
+void picture_follow(struct picture *p, const uint32_t record[NUMBERS])
+{
+    if (record[0] >= CALLS || !caller_is_right(p, record[0], record[1]))
+        return;
+    works[record[0]](p, record + 2);
+    p->running = foremost(p, picture_ready(p), p->priority);
+}
