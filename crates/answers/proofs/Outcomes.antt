@@ -1,7 +1,7 @@
 -- What an outcome stands for: the answers of scope's specs/Answers.antt, by the state as the call left it.
 -- Assumes nothing.
 use Prim.Native.Nat.{ℕ}
-use mathlib.Core.Path.{_≡_, refl}
+use mathlib.Core.Path.{_≡_, refl, ap}
 use mathlib.Core.Bool.{Bool, false}
 use mathlib.Core.List.{List}
 use Rattle.scope.specs.declared.State.{State}
@@ -55,3 +55,15 @@ module _ (k : Tasks) (m : Semaphores) (p : Pools) (running n : ℕ) (o : Outcome
       → answerOf (stateOf (w' .line) k m p running) (w' .wakes) o ≡ wakesWith (stateOf l k m p before) w why
   unfolding answerOf woke wakesWith
   woke-moved l before w w' why e f g = rw (e, f, g)
+
+-- One answer has one outcome: the columns, who runs, the wake list and all that an outcome says are told by the answer they stand for.
+pub outcome-one : (s n : State) (wakes wakes′ : List ℕ) (o p : Outcome) → answerOf s wakes o ≡ answerOf n wakes′ p
+    → (nowRuns s (o .runs) ≡ nowRuns n (p .runs)) × (wakes ≡ wakes′) × (o ≡ p)
+unfolding answerOf
+outcome-one s n wakes wakes′ o p e = (
+  ap (λ (a : Answer). a .state) e,
+  ap (λ (a : Answer). a .wakes) e,
+  ap
+      (λ (a : Answer). record { status = a .status; values = a .values; negative = a .negative; woken = a .woken; why = a .why; runs = a .state .running })
+      e,
+)

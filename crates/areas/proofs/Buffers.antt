@@ -1,5 +1,5 @@
--- The buffers of a pool that creation admits: "laid from the address, no overhead". Each lies inside the pool's area, no two
--- share a byte, and the address of one is found as its number again.
+-- The buffers of a pool that creation admits: "laid from the address, no overhead". No two share a byte, and the address of one
+-- is found as its number again.
 -- Assumes nothing.
 use Prim.Native.Nat.{ℕ, suc, _+_, _-_, _*_, _/_, _%_, _≤_, _<_, min}
 use native.Mathlib.Omega.{arith}
@@ -10,6 +10,7 @@ use mathlib.Core.Bool.{true, false}
 use lib.Dec.{leb, ltb}
 use borrow.Author.Tests.{lt-ltb, le-ltb, leb-true}
 use Rattle.scope.specs.Areas.{isArea, isSize, buffersOf, shareByte, bufferAddress, bufferAt}
+use Rattle.scope.proofs.Buffers.{buffers-in-order}
 use Rattle.laws.proofs.Branches.{both-true, pick-yes, pick-no, picked-yes, lt-or-le, eq-or-not}
 use Rattle.areas.proofs.Sizes.{at-below, at-inside, at-start}
 use Rattle.areas.proofs.Bytes.{share-swap, before-apart}
@@ -43,20 +44,11 @@ module _ (address length size : ℕ) (area : isArea address length ≡ true) (si
   unfolding bufferAddress
   starts k h = mod-eq-of-lt (omega (arith, ends k h, fits, some))
 
-  pub inside : (k : ℕ) → k < buffersOf length size → (address ≤ bufferAddress address size k) × (bufferAddress address size k + size ≤ address + length)
-  inside k h = (omega (arith, starts k h), omega (arith, starts k h, ends k h))
-
-  in-order : (k l : ℕ) → k < l → l < buffersOf length size → bufferAddress address size k + size ≤ bufferAddress address size l
-  in-order k l h b =
-      let m = mul-le-mul-right size h in
-      let s = suc-mul k size in
-      omega (arith, starts k (omega arith), starts l b)
-
   pub buffers-apart : (k l : ℕ) → (k ≡ l → ⊥) → k < buffersOf length size → l < buffersOf length size → shareByte (bufferAddress address size k) size (bufferAddress address size l) size ≡ false
   buffers-apart k l n h b =
       ⊎-elim
-      (λ q. before-apart _ _ _ _ (in-order k l q b))
-      (λ q. share-swap _ _ _ _ ∙ before-apart _ _ _ _ (in-order l k (omega arith) h))
+      (λ q. before-apart _ _ _ _ (buffers-in-order address length size area k l q b))
+      (λ q. share-swap _ _ _ _ ∙ before-apart _ _ _ _ (buffers-in-order address length size area l k (omega arith) h))
       (lt-or-le k l)
 
   module _ (n : ℕ) (most : n ≤ buffersOf length size) where

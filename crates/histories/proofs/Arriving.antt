@@ -19,7 +19,7 @@ use Rattle.scope.specs.Views.{withSeats, withWait}
 use Rattle.scope.specs.Semaphores.{queueKey, waits}
 use Rattle.laws.proofs.Branches.{lt-or-le, eq-or-not}
 use Rattle.seats.specs.Rule.{In, Sorted}
-use Rattle.seats.proofs.Laws.{ahead-from}
+use Rattle.scope.proofs.Seats.{ahead-from}
 use Rattle.seats.proofs.Joining.{joins-is, joins-in, joins-behind, joins-before}
 use Rattle.histories.specs.Order.{Arrivals, arrival, Ahead}
 use Rattle.histories.specs.Sound.{Ready, LineSound}

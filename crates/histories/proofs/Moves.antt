@@ -26,7 +26,7 @@ use Rattle.seats.proofs.Counting.{standing-is, standing-le}
 use Rattle.seats.proofs.Apart.{untouched-sorted}
 use Rattle.seats.proofs.Leaving.{length-leaves, leaves-out, leaves-nowhere, leaves-is, leaves-seated, leaves-sorted, leaves-others, leaves-others-sorted}
 use Rattle.seats.proofs.Joining.{length-joins, joins-is, joins-in, joins-sorted, joins-untouched, joins-others, joins-others-sorted}
-use Rattle.seats.proofs.Laws.{ahead-from}
+use Rattle.scope.proofs.Seats.{ahead-from}
 use Rattle.seats.proofs.Rule.{stands-in, leaves-keeps, joins-queues}
 use Rattle.histories.specs.Sound.{Nowhere, Waits, Ready, Stands, LineSound}
 

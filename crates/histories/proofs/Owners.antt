@@ -10,10 +10,11 @@ use lib.ListN.{length, getD, List·getD-eq-default}
 use Rattle.scope.specs.declared.Pools.{Pools}
 use Rattle.scope.specs.Areas.{isOut, bufferAddress}
 use Rattle.scope.specs.Pools.{poolBuffers}
+use Rattle.scope.proofs.Buffers.{buffer-inside}
 use Rattle.laws.proofs.Branches.{true-false, lt-or-le, eq-or-not}
 use Rattle.areas.proofs.Marks.{out-below}
 use Rattle.areas.proofs.Bytes.{In, InPool, shares, no-byte}
-use Rattle.areas.proofs.Buffers.{inside, buffers-apart}
+use Rattle.areas.proofs.Buffers.{buffers-apart}
 use Rattle.histories.specs.Sound.{PoolsSound}
 use Rattle.histories.proofs.Pools.{row-says}
 
@@ -36,7 +37,7 @@ module _ (p : Pools) (sound : PoolsSound p) where
   in-pool : (i k x : ℕ) → Out p i k → InBuffer p i k x → InPool p x i
   in-pool i k x o m =
       let r = row-says p sound i (slot i (o .alive)) (o .alive) in
-      let b = inside (getD (p .address) i 0) (getD (p .length) i 0) (getD (p .size) i 0) (r .0) (r .1) k (one-of i k o) in
+      let b = buffer-inside (getD (p .address) i 0) (getD (p .length) i 0) (getD (p .size) i 0) (r .0) k (one-of i k o) in
       (omega (arith, b .0, m .0), omega (arith, b .1, m .1))
 
   one-pool : (i k l x : ℕ) → Out p i k → Out p i l → (k ≡ l → ⊥) → InBuffer p i k x → InBuffer p i l x → ⊥

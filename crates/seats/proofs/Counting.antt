@@ -3,7 +3,7 @@
 -- Assumes nothing.
 use Prim.Native.Nat.{ℕ, zero, suc, _+_, _≤_, _<_}
 use native.Mathlib.Omega.{arith}
-use native.Mathlib.Nat.{eq-or-lt-of-le, not-suc-le-zero}
+use native.Mathlib.Nat.{eq-or-lt-of-le}
 use mathlib.Core.Path.{_≡_, refl, sym, subst, ap, _∙_}
 use mathlib.Core.Logic.{_⊎_, inl, inr, ⊎-elim}
 use mathlib.Core.Bool.{Bool, true, false, _&&_}
@@ -11,11 +11,12 @@ use mathlib.Core.List.{List}
 use lib.ListN.{length, getD}
 use lib.Dec.{ltb}
 use borrow.Author.Tests.{lt-ltb, le-ltb}
-use Rattle.laws.proofs.Branches.{picked-yes, picked-no, both, first-fails, second-fails, lt-or-le}
+use Rattle.laws.proofs.Branches.{picked-no, both, first-fails, second-fails, lt-or-le}
 use Rattle.laws.proofs.Searches.{number-hit, number-le}
 use Rattle.laws.proofs.Arrays.{inside}
 use Rattle.scope.specs.Choice.{pick, number}
 use Rattle.scope.specs.Seats.{standsIn, standing}
+use Rattle.scope.proofs.Seats.{number-more}
 use Rattle.seats.specs.Rule.{Seated}
 
 -- nothing passes
@@ -28,28 +29,6 @@ number-same : (p r : ℕ → Bool) (n : ℕ) → ((t : ℕ) → p t ≡ r t) →
 unfolding number
 number-same p r zero h = refl
 number-same p r (suc n) h = omega (arith, ap (λ (b : Bool). pick {A = ℕ} b 1 0) (h n), number-same p r n h)
-
--- two tests that differ at w only
-module _ (p r : ℕ → Bool) (w : ℕ) (same : (t : ℕ) → (t ≡ w → ⊥) → p t ≡ r t) (was : p w ≡ true) (is : r w ≡ false) where
-  number-below : (m : ℕ) → m ≤ w → number p m ≡ number r m
-  unfolding number
-  number-below zero h = refl
-  number-below (suc m) h =
-      omega (arith, number-below m (omega arith), ap (λ (b : Bool). pick {A = ℕ} b 1 0) (same m (λ d. omega arith)))
-
-  pub number-more : (m : ℕ) → w < m → number p m ≡ number r m + 1
-  unfolding number
-  number-more zero h = absurd (not-suc-le-zero h)
-  number-more (suc m) h =
-      ⊎-elim
-      (λ d. omega (
-        arith,
-        number-below m (omega arith),
-        picked-yes {A = ℕ} (p m) 1 0 (subst (λ (v : ℕ). p v ≡ true) d was),
-        picked-no {A = ℕ} (r m) 1 0 (subst (λ (v : ℕ). r v ≡ false) d is),
-      ))
-      (λ l. omega (arith, number-more m l, ap (λ (b : Bool). pick {A = ℕ} b 1 0) (same m (λ d. omega arith))))
-      (eq-or-lt-of-le {n = w} {m = m} (omega arith))
 
 -- one passes, and no other
 pub number-one : (p : ℕ → Bool) (n w : ℕ) → w < n → p w ≡ true → ((t : ℕ) → (t ≡ w → ⊥) → p t ≡ false) → number p n ≡ 1

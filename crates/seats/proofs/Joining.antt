@@ -17,7 +17,7 @@ use Rattle.laws.proofs.Arrays.{inside}
 use Rattle.scope.specs.Choice.{pick}
 use Rattle.scope.specs.Seats.{raise, joins, laterOf, aheadOf, seatBehind}
 use Rattle.seats.specs.Rule.{In, Seated, Sorted}
-use Rattle.seats.proofs.Laws.{later-from, ahead-from}
+use Rattle.scope.proofs.Seats.{later-from, ahead-from}
 use Rattle.seats.proofs.Counting.{seated-le}
 use Rattle.seats.proofs.Apart.{Untouched, Apart, apart, untouched-seated, untouched-sorted, sorted-without}
 

@@ -93,23 +93,6 @@ unfolding aheadOf
 ahead-below q key b e p zero h = h
 ahead-below q key b e p (suc n) h = later-below (aheadOf q key b e p n) (getD q n 0) e (getD key n 0) p (ahead-below q key b e p n h)
 
-pub later-from : (m y e k p : ℕ) → m ≤ laterOf m y e k p
-unfolding laterOf pick
-later-from m y e k p = go (ltb m y) refl (ltb y e) (leb p k)
-  where
-    go : (a : Bool) → ltb m y ≡ a → (b d : Bool) → m ≤ pick a (pick b (pick d y m) m) m
-    go true q true true = let h : m < y = ltb-true m y q in omega arith
-    go true q true false = omega arith
-    go true q false d = omega arith
-    go false q b d = omega arith
-
-pub ahead-from : (q key : List ℕ) (b e p n : ℕ) → b ≤ aheadOf q key b e p n
-unfolding aheadOf
-ahead-from q key b e p zero = omega arith
-ahead-from q key b e p (suc n) =
-    let h : b ≤ aheadOf q key b e p n = ahead-from q key b e p n in
-    omega (arith, later-from (aheadOf q key b e p n) (getD q n 0) e (getD key n 0) p)
-
 -- the last seat ahead, as the code has it, leaves room for one more
 pub small : (q key : List ℕ) (b e p a : ℕ) → b < 65000 → e ≡ b + 63 → a ≡ aheadOf q key b e p 32 → a < 65063
 small q key b e p a h d f = omega (arith, ahead-below q key b e p 32 (omega arith))

@@ -18,7 +18,7 @@ use Rattle.scope.specs.Seats.{isOn, onSeat, standing, leaves, joins, aheadOf}
 use Rattle.scope.specs.Rules.{seatRight, seatsRight}
 use Rattle.seats.specs.Rule.{In, Seated, Queues}
 use Rattle.seats.proofs.Counting.{number-one, number-only, standing-is, standing-le}
-use Rattle.seats.proofs.Laws.{ahead-from}
+use Rattle.scope.proofs.Seats.{ahead-from}
 use Rattle.seats.proofs.First.{on-seat, on-seat-hit}
 use Rattle.seats.proofs.Leaving.{length-leaves, leaves-is, leaves-nowhere, leaves-seated, leaves-others}
 use Rattle.seats.proofs.Joining.{length-joins, joins-is, joins-in, joins-seated, joins-others}
