@@ -1,10 +1,12 @@
 -- The meaning of document 01, in its order. Each definition has the sentence that it says above it.
 pub mod Choice
+pub mod Lists
 pub mod Identifiers
 pub mod Statuses
 pub mod Seats
 pub mod Views
 pub mod Answers
+pub mod Replies
 pub mod Areas
 pub mod Tasks
 pub mod Semaphores
