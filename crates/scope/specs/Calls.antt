@@ -1,5 +1,5 @@
 -- "The call table has twenty rows, one for each call": who may make it, which statuses can come back, and what it does.
--- "unused arguments are ignored": a row takes five and names those that it has.
+-- "five arguments (unused ones ignored)": a row takes five and names those that it has.
 -- Assumes nothing.
 use Prim.Native.Nat.{ℕ, _/_, _%_, _^_}
 use mathlib.Core.Bool.{Bool, true, false}

@@ -29,6 +29,6 @@ answered s call mark a b c d e =
       | false ↦ plain s (callerRefusal call mark (s .running))
     ]
 
--- "A state that breaks a listed rule gets BAD_STATE"
+-- 26: "state breaks a rule below"
 unfoldable pub stepped : State → ℕ → ℕ → ℕ → ℕ → ℕ → ℕ → ℕ → Answer
 stepped s call mark a b c d e = elim (sound s) [ true ↦ answered s call mark a b c d e | false ↦ badState s ]
