@@ -4,7 +4,7 @@ use lib.Dec.{T}
 use Rattle.scope.specs.Choice.{pick, least, every, number}
 use Rattle.scope.specs.Identifiers.{found, usable, lowestUsable, named, byName}
 use Rattle.scope.specs.Seats.{waitsOn, onSeat, standsIn, standing, lower, leaves, raise, laterOf, aheadOf, joins, greater, topOf, runnerOf}
-use Rattle.scope.specs.Views.{readyWith, countNegative, countSize, runningTask}
+use Rattle.scope.specs.Views.{readyWith, less, runningTask}
 use Rattle.scope.specs.Answers.{bitOf, answer, plain, gives, badState, wakesWith, onFound}
 use Rattle.scope.specs.Areas.{isArea, isSize, buffersOf, shareByte, isOut, isFree, lowestFree, freeOf, bufferAddress, bufferAt}
 use Rattle.scope.specs.Tasks.{taskFound, taskCreateAt, taskCreate, taskDeleteAt, taskIdentAt, taskIdent, taskStartAt, taskSuspendAt, taskResumeAt, taskSetPriorityAt}
@@ -20,5 +20,5 @@ use Rattle.scope.specs.Listing.{decimal, signed, wakeFields, lineOf, linesFrom,
 use Rattle.cases.specs.Cases.{cases, allPass}
 
 pub every-case : T (allPass cases)
-unfolding pick least every number found usable lowestUsable named byName waitsOn onSeat standsIn standing lower leaves raise laterOf aheadOf joins greater topOf runnerOf readyWith countNegative countSize runningTask answer plain gives badState wakesWith onFound isArea isSize buffersOf shareByte isOut isFree lowestFree freeOf bufferAddress bufferAt taskFound taskCreateAt taskCreate taskDeleteAt taskIdentAt taskIdent taskStartAt taskSuspendAt taskResumeAt taskSetPriorityAt bitOf semCreateAt semCreate wokenSeats wake wakeNext wakeAll semDeleteAt semIdentAt semIdent isTimeOut queueKey waits semWaitAt semClaimAt semReleaseAt semInfoAt overlaps overlapped poolCreateAt poolCreate poolDeleteAt poolIdentAt poolIdent poolGetBuffer poolGetBuffAt poolRetBuffer poolRetBuffAt poolInfoAt timeLeft timesLeft isDue wakeDue tick seatRight seatsRight readyRight readyOrderRight waitRight waitsRight joinedRight queuesSorted countRight countsRight startRight startsRight taskRight tasksRight semRight semsRight admitted poolRight poolsRight pairShares poolsApart runningRight sound freshState mayCall callerRefusal answered stepped number32 isScript stepAt decimal signed wakeFields lineOf linesFrom refusedLine listing
+unfolding pick least every number found usable lowestUsable named byName waitsOn onSeat standsIn standing lower leaves raise laterOf aheadOf joins greater topOf runnerOf readyWith less runningTask answer plain gives badState wakesWith onFound isArea isSize buffersOf shareByte isOut isFree lowestFree freeOf bufferAddress bufferAt taskFound taskCreateAt taskCreate taskDeleteAt taskIdentAt taskIdent taskStartAt taskSuspendAt taskResumeAt taskSetPriorityAt bitOf semCreateAt semCreate wokenSeats wake wakeNext wakeAll semDeleteAt semIdentAt semIdent isTimeOut queueKey waits semWaitAt semClaimAt semReleaseAt semInfoAt overlaps overlapped poolCreateAt poolCreate poolDeleteAt poolIdentAt poolIdent poolGetBuffer poolGetBuffAt poolRetBuffer poolRetBuffAt poolInfoAt timeLeft timesLeft isDue wakeDue tick seatRight seatsRight readyRight readyOrderRight waitRight waitsRight joinedRight queuesSorted countRight countsRight startRight startsRight taskRight tasksRight semRight semsRight admitted poolRight poolsRight pairShares poolsApart runningRight sound freshState mayCall callerRefusal answered stepped number32 isScript stepAt decimal signed wakeFields lineOf linesFrom refusedLine listing
 every-case = tt

@@ -3,28 +3,30 @@
 -- Assumes nothing.
 use Prim.Native.Nat.{ℕ, _+_, _≤_, _<_}
 use native.Mathlib.Omega.{arith}
-use mathlib.Core.Path.{_≡_}
+use native.Mathlib.Nat.{add-comm, eq-zero-or-pos}
+use mathlib.Core.Path.{_≡_, sym, ap, _∙_}
+use mathlib.Core.Logic.{⊎-elim}
 use mathlib.Core.Bool.{Bool, true, false}
 use mathlib.Core.List.{List}
 use lib.ListN.{getD, getD-replicate}
-use borrow.Author.Tests.{ltb-true, ltb-false, lt-ltb}
 use Rattle.scope.specs.declared.State.{State}
 use Rattle.scope.specs.declared.Found.the-variants.{Deleted}
 use Rattle.scope.specs.Statuses.{OK}
 use Rattle.scope.specs.Identifiers.{found}
-use Rattle.scope.specs.Views.{waitersOf, countNegative, countSize}
+use Rattle.scope.specs.Views.{Signed, waitersOf, less, count}
 use Rattle.scope.specs.Fresh.{freshState}
-use Rattle.laws.proofs.Branches.{true-false, picked-yes, picked-no}
+use Rattle.scope.proofs.Counts.{less-below, less-negative, less-not-negative, less-more}
+use Rattle.laws.proofs.Branches.{true-false}
 use Rattle.tables.proofs.Laws.{found-below, found-live}
 use Rattle.histories.specs.Sound.{Sound}
 use Rattle.histories.specs.History.{Event, answerTo, after, total, SemaphoreAt, PoolAt}
-use Rattle.histories.specs.Books.{releases, grants, gets, returns, CountPlus, buffersOut}
+use Rattle.histories.specs.Books.{releases, grants, gets, returns, Counted, buffersOut}
 use Rattle.histories.proofs.Fresh.{fresh-sound}
 use Rattle.histories.proofs.Tables.{stays-deleted}
 use Rattle.histories.proofs.Answered.{Creates}
 use Rattle.histories.proofs.Units.{semaphores-booked}
 use Rattle.histories.proofs.Marks.{pools-booked}
-use Rattle.histories.proofs.Ledger.{Creation, event-keeps, history-keeps, later-after, books-since, books-whole}
+use Rattle.histories.proofs.Ledger.{Creation, history-keeps, later-after, books-since, books-whole}
 use Rattle.histories.proofs.Created.{semaphore-created, pool-created}
 use Rattle.histories.proofs.Owners.{Out, InBuffer, buffers-out-apart}
 
@@ -47,39 +49,51 @@ poolLive s = s .pools .live
 abbrev poolOut : State → ℕ → ℕ
 poolOut s = buffersOut (s .pools)
 
+-- the count of semaphore i of a state
+abbrev countIn : State → ℕ → Signed
+countIn s i = count (s .line) (s .semaphores) i
+
 -- semaphore i's count is negative exactly where tasks wait; its size is then their number, and no unit is free
 pub record WaitingNegative (s : State) (i : ℕ) : Type 0 where
-  pub waiting : 0 < waitersOf (s .line) i → countNegative (s .line) i ≡ true
-  pub some : countNegative (s .line) i ≡ true → 0 < waitersOf (s .line) i
-  pub size : countNegative (s .line) i ≡ true → countSize (s .line) (s .semaphores) i ≡ waitersOf (s .line) i
-  pub units : countNegative (s .line) i ≡ true → getD (s .semaphores .units) i 0 ≡ 0
-  pub free : countNegative (s .line) i ≡ false → countSize (s .line) (s .semaphores) i ≡ getD (s .semaphores .units) i 0
+  pub waiting : 0 < waitersOf (s .line) i → countIn s i .negative ≡ true
+  pub some : countIn s i .negative ≡ true → 0 < waitersOf (s .line) i
+  pub size : countIn s i .negative ≡ true → countIn s i .size ≡ waitersOf (s .line) i
+  pub units : countIn s i .negative ≡ true → semUnits s i ≡ 0
+  pub free : countIn s i .negative ≡ false → countIn s i .size ≡ semUnits s i
+
+-- n tasks wait, u units are free
+module _ (u n : ℕ) (none : 0 < n → u ≡ 0) where
+  waiting-below : 0 < n → less u n .negative ≡ true
+  waiting-below h = rw (less-below u n n (omega (arith, none h)) (omega (arith, none h)))
+
+  below-waiting : less u n .negative ≡ true → (0 < n) × (u ≡ 0) × (less u n .size ≡ n)
+  below-waiting e =
+      let l = less-negative u n e in
+      let h : 0 < n = omega arith in
+      (h, none h, omega (arith, none h))
+
+  above-free : less u n .negative ≡ false → less u n .size ≡ u
+  above-free e = ⊎-elim (λ z. omega (arith, less-not-negative u n e)) (λ h. absurd (true-false (waiting-below h) e)) (eq-zero-or-pos n)
+
+-- the count, by the units
+counted : (s : State) (i initial released granted : ℕ) → semUnits s i + granted ≡ initial + released → Counted s i initial released granted
+counted s i initial released granted e =
+    sym (less-more (semUnits s i) (waitersOf (s .line) i) granted)
+    ∙ ap (λ (x : ℕ). less x (waitersOf (s .line) i + granted)) e
+    ∙ ap (λ (y : ℕ). less (initial + released) y) (add-comm (waitersOf (s .line) i) granted)
 
 module _ (s : State) (ok : Sound s) where
   -- "tasks wait only when the count is negative, and then its size is their number"
   pub waiting-negative : (i : ℕ) → i < 16 → WaitingNegative s i
-  unfolding countNegative countSize
   waiting-negative i h =
+      let z = ok .line .counts i h in
       record {
-        waiting = λ w. lt-ltb 0 _ w;
-        some = λ e. ltb-true 0 _ e;
-        size = λ e. picked-yes _ _ _ e;
-        units = λ e. ok .line .counts i h (ltb-true 0 _ e);
-        free = λ e. picked-no _ _ _ e;
+        waiting = waiting-below _ _ z;
+        some = λ e. below-waiting _ _ z e .0;
+        size = λ e. below-waiting _ _ z e .2;
+        units = λ e. below-waiting _ _ z e .1;
+        free = above-free _ _ z;
       }
-
-  -- the count, by the units
-  count-plus : (i : ℕ) → i < 16 → (granted all : ℕ) → semUnits s i + granted ≡ all → CountPlus s i (granted + waitersOf (s .line) i) all
-  unfolding countNegative
-  count-plus i h granted all e =
-      let w = waiting-negative i h in
-      record {
-        below = λ d. omega (arith, e, w .size d, w .units d);
-        above = λ d. omega (arith, e, w .free d, ltb-false 0 (waitersOf (s .line) i) d);
-      }
-
-  count-at : (id i : ℕ) → SemaphoreAt s id i → (granted all : ℕ) → semUnits s i + granted ≡ all → CountPlus s i (granted + waitersOf (s .line) i) all
-  count-at id i a = count-plus i (omega (arith, found-below (semSerial s) (semLive s) id a, ok .semaphores .serials))
 
   -- "no two buffers out share a byte"
   pub no-two-owners : (i j k l byte : ℕ) → Out (s .pools) i k → Out (s .pools) j l → (i ≡ j → k ≡ l → ⊥)
@@ -102,10 +116,10 @@ module _ (s : State) (ok : Sound s) where
     pub count-books : Creates 8 id x (answerTo s x)
         → (let t : State = answerTo s x .state in
         SemaphoreAt (after t xs) id i
-        → CountPlus (after t xs) i (total (grants id) t xs + waitersOf (after t xs .line) i) (x .b + total (releases id) t xs))
+        → Counted (after t xs) i (x .b) (total (releases id) t xs) (total (grants id) t xs))
     count-books c e =
         let t : State = answerTo s x .state in
-        count-at (after t xs) (history-keeps t (event-keeps s ok x) xs) id i e _ _
+        counted (after t xs) i _ _ _
         (books-since semSerial semLive semUnits releases grants 8 semaphores-booked (λ y. y .b) semaphore-created s ok x xs id i c e)
 
     -- "In live pools, buffers out = gets - returns answered OK"
@@ -137,13 +151,11 @@ module _ (p : ℕ) (h : p ≤ 15) (xs : List Event) where
   -- has the event that created it, whose second argument is the initial count
   pub count-of-history : (id i : ℕ) → SemaphoreAt (after (freshState p) xs) id i
       → (c : Creation 8 (freshState p) xs id)
-      × CountPlus (after (freshState p) xs) i
-      (total (grants id) (freshState p) xs + waitersOf (after (freshState p) xs .line) i)
-      (c .event .b + total (releases id) (freshState p) xs)
+      × Counted (after (freshState p) xs) i (c .event .b) (total (releases id) (freshState p) xs) (total (grants id) (freshState p) xs)
   count-of-history id i e =
       let s : State = freshState p in
       let r = books-whole semSerial semLive semUnits releases grants 8 semaphores-booked (λ y. y .b) semaphore-created s (fresh-sound p h) xs id i (no-semaphore p id) e in
-      (r .0, count-at (after s xs) end-sound id i e _ _ (r .1))
+      (r .0, counted (after s xs) i _ _ _ (r .1))
 
   -- "tasks wait only when the count is negative, and then its size is their number"
   pub waiting-of-history : (i : ℕ) → i < 16 → WaitingNegative (after (freshState p) xs) i

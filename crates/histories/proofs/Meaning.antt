@@ -15,9 +15,10 @@ use Rattle.scope.specs.declared.Tasks.{Tasks}
 use Rattle.scope.specs.declared.Semaphores.{Semaphores}
 use Rattle.scope.specs.Choice.{pick}
 use Rattle.scope.specs.Seats.{queueSeats, ringSeats, waitsOn, queueOf, onSeat, standing}
-use Rattle.scope.specs.Views.{readyWith}
+use Rattle.scope.specs.Views.{readyWith, waitersOf, count}
 use Rattle.scope.specs.Semaphores.{isTimeOut}
 use Rattle.scope.specs.Rules.{seatsRight, readyRight, readyOrderRight, waitRight, waitsRight, joinedRight, queuesSorted, countRight, countsRight, startRight, startsRight, taskRight, tasksRight, semRight, semsRight, poolRight, poolsRight, poolsApart, runningRight, sound}
+use Rattle.scope.proofs.Counts.{right-says, says-right}
 use Rattle.laws.proofs.Branches.{picked-yes, picked-no, both, both-true, first-fails, second-fails, not-of-true, not-of-false, true-false, true-or-false, lt-or-le}
 use Rattle.laws.proofs.Searches.{every-yes, every-at}
 use Rattle.laws.proofs.Arrays.{past, inside}
@@ -294,25 +295,6 @@ module _ (l : Line) (k : Tasks) (m : Semaphores) (queues : Queues (l .seat)) whe
           h)
           h))
 
--- the count of a semaphore
-module _ (q : List ℕ) (i units : ℕ) where
-  count-says : countRight q i units ≡ true → (units ≤ 32767) × (0 < standing q (queueSeats i) → units ≡ 0)
-  unfolding countRight
-  count-says e = (
-    ⊎-elim
-        (λ h. omega (arith, zero-units h))
-        (λ h. leb-true _ _ (chosen-no (ltb 0 (standing q (queueSeats i))) _ _ e (le-ltb _ _ h)))
-        (lt-or-le 0 (standing q (queueSeats i))),
-    zero-units,
-  )
-    where
-      zero-units : 0 < standing q (queueSeats i) → units ≡ 0
-      zero-units h = eqb-true _ _ (chosen-yes (ltb 0 (standing q (queueSeats i))) _ _ e (lt-ltb _ _ h))
-
-  count-right : units ≤ 32767 → (0 < standing q (queueSeats i) → units ≡ 0) → countRight q i units ≡ true
-  unfolding countRight
-  count-right h f = choose (ltb 0 (standing q (queueSeats i))) (λ e. eq-eqb _ _ (f (ltb-true _ _ e))) (λ e. le-leb _ _ h)
-
 -- a slot of the tasks and one of the semaphores
 module _ (k : Tasks) (t : ℕ) where
   task-says : taskRight k t ≡ true → (getD (k .started) t false ≡ false → getD (k .suspended) t false ≡ false) → TaskSound k t
@@ -450,8 +432,8 @@ module _ (s : State) (sized : Sized s) (held : Held s) where
       × (0 < standing (s .line .seat) (queueSeats i) → getD (s .semaphores .units) i 0 ≡ 0)
   unfolding countsRight
   count-at i h =
-      count-says (s .line .seat) i (getD (s .semaphores .units) i 0)
-      (every-at (λ j. countRight (s .line .seat) j (getD (s .semaphores .units) j 0)) 16 (held .counts) i h)
+      right-says (waitersOf (s .line) i) (getD (s .semaphores .units) i 0)
+      (every-at (λ j. countRight (waitersOf (s .line) j) (count (s .line) (s .semaphores) j)) 16 (held .counts) i h)
 
   says-line : LineSound (s .line) (s .tasks) (s .semaphores)
   says-line =
@@ -532,7 +514,7 @@ sound-right s h =
       order = every-yes _ 32 (λ t l. stands-ready (s .line) (s .tasks) (s .semaphores) t (h .line .stands t l));
       waits = every-yes _ 32 (λ t l. stands-wait (s .line) (s .tasks) (s .semaphores) t (h .line .stands t l));
       sorted = every-yes _ 32 (λ t l. joined-right (s .line) (s .tasks) (s .semaphores) (h .line .queues) t (h .line .stands t l) (h .line .sorted));
-      counts = every-yes _ 16 (λ i l. count-right (s .line .seat) i _ (h .semaphores .each i l .units) (h .line .counts i l));
+      counts = every-yes _ 16 (λ i l. says-right (waitersOf (s .line) i) _ (h .semaphores .each i l .units) (h .line .counts i l));
       starts = every-yes _ 32
           (λ t l. stands-start (s .line) (s .tasks) (s .semaphores) t (h .tasks .each t l .suspended) (h .line .stands t l));
       tasks = every-yes _ 32 (λ t l. task-right (s .tasks) t (h .tasks .each t l));

@@ -3,8 +3,7 @@
 -- Assumes nothing.
 use Prim.Native.Nat.{ℕ, _+_}
 use mathlib.Core.Path.{_≡_}
-use mathlib.Core.Bool.{Bool, true, false, _&&_}
-use mathlib.Core.List.{List}
+use mathlib.Core.Bool.{Bool, _&&_}
 use lib.ListN.{getD}
 use lib.Dec.{eqb}
 use Rattle.scope.specs.declared.State.{State}
@@ -12,7 +11,7 @@ use Rattle.scope.specs.declared.Answer.{Answer}
 use Rattle.scope.specs.declared.Pools.{Pools}
 use Rattle.scope.specs.Choice.{pick, number}
 use Rattle.scope.specs.Statuses.{OK}
-use Rattle.scope.specs.Views.{waitersOf, countNegative, countSize}
+use Rattle.scope.specs.Views.{waitersOf, less, count}
 use Rattle.scope.specs.Areas.{isOut}
 use Rattle.scope.specs.Pools.{poolBuffers}
 use Rattle.histories.specs.History.{Event}
@@ -36,10 +35,10 @@ gets id x a = pick (answeredOK 17 id x a) 1 0
 unfoldable pub returns : ℕ → Event → Answer → ℕ
 returns id x a = pick (answeredOK 18 id x a) 1 0
 
--- The count of semaphore i, which may be negative, plus x is y.
-pub record CountPlus (s : State) (i x y : ℕ) : Type 0 where
-  pub below : countNegative (s .line) i ≡ true → x ≡ y + countSize (s .line) (s .semaphores) i
-  pub above : countNegative (s .line) i ≡ false → countSize (s .line) (s .semaphores) i + x ≡ y
+-- "while a semaphore lives, its count = initial count + releases answered OK - claims granted - tasks now waiting"
+abbrev pub Counted : State → ℕ → ℕ → ℕ → ℕ → Type 0
+Counted s i initial released granted =
+    count (s .line) (s .semaphores) i ≡ less (initial + released) (granted + waitersOf (s .line) i)
 
 -- buffers out of pool i
 unfoldable pub buffersOut : Pools → ℕ → ℕ

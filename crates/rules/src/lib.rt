@@ -13,7 +13,7 @@ ghost use lib.ListN.{getD};
 ghost use lib.Dec.{eqb, ltb, leb};
 ghost use Rattle.scope.specs.Choice.{pick, number};
 ghost use Rattle.scope.specs.Seats.{isOn, queueOf, onSeat};
-ghost use Rattle.scope.specs.Views.{readyWith};
+ghost use Rattle.scope.specs.Views.{readyWith, less};
 ghost use Rattle.scope.specs.Rules.{seatRight, seatsRight, readyRight, readyOrderRight, waitRight, waitsRight, joinedRight, queuesSorted, countRight, countsRight, startRight, startsRight, tasksRight, semsRight, admitted, poolsRight, runningRight, sound};
 
 // 1 where the two are equal, else 0.
@@ -196,11 +196,11 @@ fn queues_sorted(l: Line, fifo: [bool; 16]) -> bool
 }
 
 // "A queue with n tasks, n above 0, has count −n; an empty queue has count 0 to 32,767."
-fn count_right(q: [u16; 32], i: usize, units: u16) -> bool
-    requires { ⌜ i < 16 ⌝ }
-    ensures { λ r. ⌜ r ≡ countRight q i units ⌝ }
+// The count is the units less the tasks waiting.
+fn count_right(waiting: usize, units: u16) -> bool
+    ensures { λ r. ⌜ r ≡ countRight waiting (less units waiting) ⌝ }
 {
-    if 0 < seats::waiters(q, i) {
+    if 0 < waiting {
         return units == 0;
     }
     units <= 32767
@@ -214,7 +214,8 @@ fn counts_right(l: Line, m: Semaphores) -> bool
     let mut ok = true;
     let mut i: usize = 0;
     while i < 16 {
-        let right = count_right(seat, i, units[i]);
+        let waiting = seats::waiters(seat, i);
+        let right = count_right(waiting, units[i]);
         ok = right & ok;
         i += 1;
     }

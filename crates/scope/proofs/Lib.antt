@@ -1,3 +1,4 @@
+pub mod Counts
 pub mod Seats
 pub mod Waiters
 pub mod Slots

@@ -11,8 +11,8 @@ use Rattle.scope.specs.declared.Tasks.{Tasks}
 use Rattle.scope.specs.declared.Semaphores.{Semaphores}
 use Rattle.scope.specs.declared.Pools.{Pools}
 use Rattle.scope.specs.Choice.{pick, every, number}
-use Rattle.scope.specs.Seats.{queueSeats, ringSeats, firstRing, waitsOn, queueOf, isOn, onSeat, standing, runnerOf}
-use Rattle.scope.specs.Views.{readyWith}
+use Rattle.scope.specs.Seats.{ringSeats, firstRing, waitsOn, queueOf, isOn, onSeat, runnerOf}
+use Rattle.scope.specs.Views.{readyWith, waitersOf, Signed, count}
 use Rattle.scope.specs.Areas.{isArea, isSize, buffersOf, shareByte}
 use Rattle.scope.specs.Tasks.{lastPriority}
 use Rattle.scope.specs.Semaphores.{lastCount, isTimeOut}
@@ -61,11 +61,11 @@ unfoldable pub queuesSorted : Line → List Bool → Bool
 queuesSorted l fifo = every (λ t. joinedRight (l .seat) (l .joined) fifo (getD (l .seat) t 0) (getD (l .joined) t 0)) 32
 
 -- "A queue with n tasks, n above 0, has count −n; an empty queue has count 0 to 32,767."
-unfoldable pub countRight : List ℕ → ℕ → ℕ → Bool
-countRight q i units = pick (ltb 0 (standing q (queueSeats i))) (eqb units 0) (leb units lastCount)
+unfoldable pub countRight : ℕ → Signed → Bool
+countRight n c = pick (ltb 0 n) (c .negative && eqb (c .size) n) (not (c .negative) && leb (c .size) lastCount)
 
 unfoldable pub countsRight : Line → Semaphores → Bool
-countsRight l m = every (λ i. countRight (l .seat) i (getD (m .units) i 0)) 16
+countsRight l m = every (λ i. countRight (waitersOf l i) (count l m i)) 16
 
 -- "Tasks not started neither wait nor are suspended."
 unfoldable pub startRight : Bool → Bool → ℕ → Bool

@@ -16,7 +16,7 @@ use Rattle.scope.specs.Choice.{pick}
 use Rattle.scope.specs.Identifiers.{identifier, found, lowestUsable, byName}
 use Rattle.scope.specs.Statuses.{OK, PENDING, INVALID-PARAMETER, INVALID-OPTIONS, TOO-MANY-OBJECTS, NAME-NOT-FOUND, INVALID-COUNT, SEMAPHORE-NOT-AVAILABLE, SEMAPHORE-DELETED, SEMAPHORE-OVERFLOW, NO-CALLER}
 use Rattle.scope.specs.Seats.{queueSeats, firstOf, leaves, joins, becomesReady}
-use Rattle.scope.specs.Views.{withLine, withSemaphores, withWait, waitersOf, countNegative, countSize}
+use Rattle.scope.specs.Views.{withLine, withSemaphores, withWait, waitersOf, count}
 use Rattle.scope.specs.Answers.{noWakes, bitOf, answer, plain, gives, wakesWith, onFound}
 
 -- the greatest count
@@ -158,8 +158,8 @@ semReleaseAt s i =
 -- "sem_info gives options, count, tasks waiting"
 unfoldable pub semInfoAt : State → ℕ → Answer
 semInfoAt s i =
-    answer s OK (bitOf (getD (s .semaphores .fifo) i false)) (countSize (s .line) (s .semaphores) i) (waitersOf (s .line) i) 0
-    (countNegative (s .line) i)
+    answer s OK (bitOf (getD (s .semaphores .fifo) i false)) (count (s .line) (s .semaphores) i .size) (waitersOf (s .line) i) 0
+    (count (s .line) (s .semaphores) i .negative)
 
 -- the calls with a semaphore's identifier
 abbrev pub semDelete : State → ℕ → Answer

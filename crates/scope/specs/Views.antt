@@ -46,13 +46,19 @@ isReady l k t = readyWith (getD (k .started) t false) (getD (k .suspended) t fal
 abbrev pub waitersOf : Line → ℕ → ℕ
 waitersOf l i = standing (l .seat) (queueSeats i)
 
--- The count of semaphore i is its free units less its waiting tasks. It is negative where tasks wait, and then its size is
--- their number; else it is the units.
-unfoldable pub countNegative : Line → ℕ → Bool
-countNegative l i = ltb 0 (waitersOf l i)
+-- a number with a sign
+pub record Signed : Type 0 where
+  pub negative : Bool
+  pub size : ℕ
 
-unfoldable pub countSize : Line → Semaphores → ℕ → ℕ
-countSize l m i = pick (countNegative l i) (waitersOf l i) (getD (m .units) i 0)
+-- x less y, with a sign
+unfoldable pub less : ℕ → ℕ → Signed
+less x y = record { negative = ltb x y; size = pick (ltb x y) (y - x) (x - y) }
+
+-- The count of semaphore i: the units less the tasks waiting, with a sign. It stands here once: sem_info tells it, the rule tests
+-- it and the books sum it up.
+abbrev pub count : Line → Semaphores → ℕ → Signed
+count l m i = less (getD (m .units) i 0) (waitersOf l i)
 
 -- "the running task after it, 0 if none"
 unfoldable pub runningTask : State → ℕ

@@ -1,30 +1,25 @@
 -- What the semaphore calls lean on. A call with an identifier answers by what the identifier names; a creation's slot has a
--- serial left; waking all waiters goes one waiter at a time; an info's count follows from whether anybody waits.
+-- serial left; waking all waiters goes one waiter at a time; an info's count follows from whether more wait than are free.
 -- Assumes nothing.
 use Prim.Native.Nat.{ℕ, suc, _+_, _-_, _≤_, _<_}
 use native.Mathlib.Omega.{arith}
-use mathlib.Core.Path.{_≡_, refl, sym, _∙_}
-use mathlib.Core.Bool.{Bool, true, false}
+use mathlib.Core.Path.{_≡_, _∙_}
+use mathlib.Core.Bool.{true, false}
 use mathlib.Core.List.{List}
-use lib.ListN.{length, getD}
-use lib.Dec.{ltb, leb}
-use borrow.Author.Tests.{lt-ltb, le-ltb, le-leb, lt-leb}
+use lib.ListN.{getD}
+use lib.Dec.{ltb}
+use borrow.Author.Tests.{lt-ltb, le-ltb}
 use Rattle.scope.specs.declared.State.{State}
 use Rattle.scope.specs.declared.Tasks.{Tasks}
 use Rattle.scope.specs.declared.Waking.{Waking}
 use Rattle.scope.specs.declared.Answer.{Answer}
-use Rattle.scope.specs.declared.Found.{Found}
-use Rattle.scope.specs.declared.Found.the-variants.{At, Deleted, Invalid}
-use Rattle.scope.specs.Choice.{pick}
-use Rattle.scope.specs.Identifiers.{found, lowestUsable}
-use Rattle.scope.specs.Statuses.{INVALID-ID, OBJECT-DELETED, OK}
+use Rattle.scope.specs.Statuses.{OK}
 use Rattle.scope.specs.Seats.{queueSeats, firstOf, standing, standsIn}
-use Rattle.scope.specs.Views.{waitersOf, countNegative, countSize}
-use Rattle.scope.specs.Answers.{bitOf, answer, plain, onFound}
+use Rattle.scope.specs.Views.{waitersOf}
+use Rattle.scope.specs.Answers.{bitOf, answer}
 use Rattle.scope.specs.Semaphores.{wakeNext, wakeAll, semInfoAt}
-use Rattle.laws.proofs.Branches.{pick-yes, pick-no, picked-yes, picked-no}
+use Rattle.scope.proofs.Counts.{less-below, less-above}
 use Rattle.laws.proofs.Searches.{number-le}
-use Rattle.tables.proofs.Laws.{found-below, usable-at, usable-serial}
 
 -- all waiters woken: one more, and no more
 module _ (k : Tasks) (i : ℕ) where
@@ -57,16 +52,12 @@ pub few : (q : List ℕ) (base : ℕ) → standing q base ≤ 32
 unfolding standing
 few q base = number-le (standsIn q base) 32
 
--- the count, where tasks wait and where none does
-module _ (s : State) (i n b : ℕ) (a : Answer) (waiting : n ≡ waitersOf (s .line) i) (option : b ≡ bitOf (getD (s .semaphores .fifo) i false)) where
-  pub info-waiting : 0 < n → a ≡ answer s OK b n n 0 true → a ≡ semInfoAt s i
-  unfolding semInfoAt countNegative countSize
-  info-waiting h e =
-      let d : ltb 0 (waitersOf (s .line) i) ≡ true = rw (← waiting) (lt-ltb 0 n h) in
-      rw (e, option, d, picked-yes {A = ℕ} true _ _ refl, waiting)
+-- the count, where fewer units are free than tasks wait and where not
+module _ (s : State) (i n b u : ℕ) (a : Answer) (waiting : n ≡ waitersOf (s .line) i) (option : b ≡ bitOf (getD (s .semaphores .fifo) i false)) (free : u ≡ getD (s .semaphores .units) i 0) where
+  pub info-below : u < n → a ≡ answer s OK b (n - u) n 0 true → a ≡ semInfoAt s i
+  unfolding semInfoAt
+  info-below h e = rw (less-below (getD (s .semaphores .units) i 0) (waitersOf (s .line) i) (n - u) (omega arith) (omega arith), ← waiting, ← option) e
 
-  pub info-free : n ≤ 0 → a ≡ answer s OK b (getD (s .semaphores .units) i 0) n 0 false → a ≡ semInfoAt s i
-  unfolding semInfoAt countNegative countSize
-  info-free h e =
-      let d : ltb 0 (waitersOf (s .line) i) ≡ false = rw (← waiting) (le-ltb 0 n h) in
-      rw (e, option, d, picked-no {A = ℕ} false _ _ refl, waiting)
+  pub info-above : n ≤ u → a ≡ answer s OK b (u - n) n 0 false → a ≡ semInfoAt s i
+  unfolding semInfoAt
+  info-above h e = rw (less-above (getD (s .semaphores .units) i 0) (waitersOf (s .line) i) (u - n) (omega arith), ← waiting, ← option) e

@@ -428,7 +428,7 @@ fn wide(x: u16) -> u32
     x as u32
 }
 
-// "sem_info gives options, count, tasks waiting". The count is negative where tasks wait, and then its size is their number.
+// "sem_info gives options, count, tasks waiting". The count is the units less the tasks waiting, with a sign.
 fn info_at(
     seat: &[u16; 32],
     units: &[u16; 16],
@@ -441,10 +441,11 @@ fn info_at(
 {
     let waiting = seats::waiters(*seat, i) as u32;
     let options = answers::bit(fifo[i]);
-    if 0 < waiting {
-        return answers::tells(options, waiting, waiting, 0, true, running);
+    let free = wide(units[i]);
+    if free < waiting {
+        return answers::tells(options, waiting - free, waiting, 0, true, running);
     }
-    answers::tells(options, wide(units[i]), waiting, 0, false, running)
+    answers::tells(options, free - waiting, waiting, 0, false, running)
 }
 
 pub fn sem_info<'a>(

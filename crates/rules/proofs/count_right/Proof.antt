@@ -1,23 +1,14 @@
--- `rules::count_right`: a branch for each choice.
+-- `rules::count_right`: the units by whether any task waits.
 -- Assumes nothing.
-use mathlib.Core.Path.{refl}
-use borrow.Author.Needs.{needs}
-use borrow.Author.Tests.{lt-ltb, le-ltb}
-use Rattle.scope.specs.Rules.{countRight}
-use Rattle.laws.proofs.Branches.{pick-yes, pick-no}
+use Rattle.scope.proofs.Counts.{right-waiting, right-free}
 use Rattle.rules.proofs.count_right.Statement.{statement}
 use Rattle.rules.proofs.count_right.Tie as tie
 
-waiters-requires : tie.Need-waiters-requires
-waiters-requires c κs = search needs
-
 returns : tie.Need-returns
-unfolding countRight
-returns c = pick-yes _ _ _ (rw (← c .before .waiters .ensures) (lt-ltb _ _ (c .if1 .taken))) refl
+returns c = right-waiting _ _ (c .if1 .taken)
 
 returns-2 : tie.Need-returns-2
-unfolding countRight
-returns-2 c = pick-no _ _ _ (rw (← c .before .waiters .ensures) (le-ltb _ _ (c .if1 .left))) refl
+returns-2 c = right-free _ _ (c .if1 .left)
 
 pub count-right-spec : {M : Type 1} → statement M
-count-right-spec = tie.close (tie.spec waiters-requires returns returns-2)
+count-right-spec = tie.close (tie.spec returns returns-2)

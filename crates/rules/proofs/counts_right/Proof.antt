@@ -3,19 +3,24 @@
 use Prim.Native.Nat.{_-_}
 use borrow.Author.Needs.{needs}
 use lib.ListN.{getD}
+use Rattle.scope.specs.Seats.{queueSeats, standing}
+use Rattle.scope.specs.Views.{less}
 use Rattle.scope.specs.Rules.{countsRight, countRight}
 use Rattle.rules.proofs.Laws.{Testing, testing-start, testing-more, testing-done}
 use Rattle.rules.proofs.counts_right.Statement.{statement}
 use Rattle.rules.proofs.counts_right.Tie as tie
 
 abbrev Inv-loop : tie.InvT-loop
-Inv-loop seat units ok₀ i₀ ok i = Testing 16 (λ j. countRight seat j (getD units j 0)) ok i
+Inv-loop seat units ok₀ i₀ ok i = Testing 16 (λ j. countRight (standing seat (queueSeats j)) (less (getD units j 0) (standing seat (queueSeats j)))) ok i
 
 abbrev μ-loop : tie.MeasureT-loop
 μ-loop seat units ok₀ i₀ ok i = 16 - i
 
 loop-holds : tie.Need-loop-holds Inv-loop μ-loop
 loop-holds c = testing-start _ _
+
+waiters-requires : tie.Need-waiters-requires Inv-loop μ-loop
+waiters-requires c κs = search needs
 
 mul-count-right : tie.Need-mul-count-right Inv-loop μ-loop
 mul-count-right c = search needs
@@ -33,7 +38,9 @@ loop-less : tie.Need-loop-less Inv-loop μ-loop
 loop-less c = search needs
 
 loop-again : tie.Need-loop-again Inv-loop μ-loop
-loop-again c = testing-more (c .before .before .loop .inv) (search needs) (c .count-right .ensures)
+loop-again c =
+    testing-more (c .before .before .before .loop .inv) (search needs)
+    (rw (c .before .waiters .ensures) at (c .count-right .ensures))
 
 returns : tie.Need-returns Inv-loop μ-loop
 unfolding countsRight
@@ -46,6 +53,7 @@ counts-right-spec =
     Inv-loop
     μ-loop
     loop-holds
+    waiters-requires
     mul-count-right
     array-read-count-right
     count-right-requires

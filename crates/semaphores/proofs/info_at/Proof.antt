@@ -1,11 +1,11 @@
--- `semaphores::info_at`: the count by whether anybody waits.
+-- `semaphores::info_at`: the count by whether more wait than are free.
 -- Assumes nothing.
 use Prim.Native.Nat.{_+_, _*_}
 use native.Mathlib.Omega.{arith}
 use borrow.Author.Needs.{needs}
 use denote.Ref.{now}
 use Rattle.answers.proofs.Outcomes.{tells-of}
-use Rattle.semaphores.proofs.Laws.{few, info-waiting, info-free}
+use Rattle.semaphores.proofs.Laws.{few, info-below, info-above}
 use Rattle.semaphores.proofs.info_at.Statement.{statement}
 use Rattle.semaphores.proofs.info_at.Tie as tie
 
@@ -21,12 +21,6 @@ element-copy-out-bit c = search needs
 bit-requires : tie.Need-bit-requires
 bit-requires c κs = search needs
 
-tells-requires : tie.Need-tells-requires
-tells-requires c κs = search needs
-
-returns : tie.Need-returns
-returns c = λ s serial live. info-waiting _ (c .before .before .before .before .before .before .args .i) _ _ _ (c .before .before .before .before .waiters .ensures) (c .before .before .bit .ensures) (search needs) (tells-of _ _ _ _ _ _ _ _ (c .tells .ensures))
-
 mul-wide : tie.Need-mul-wide
 mul-wide c = search needs
 
@@ -36,11 +30,20 @@ element-copy-out-wide c = search needs
 wide-requires : tie.Need-wide-requires
 wide-requires c κs = search needs
 
+sub-tells : tie.Need-sub-tells
+sub-tells c = search needs
+
+tells-requires : tie.Need-tells-requires
+tells-requires c κs = search needs
+
+returns : tie.Need-returns
+returns c = λ s serial live. info-below _ (c .before .before .before .before .before .before .before .before .args .i) _ _ _ _ (c .before .before .before .before .before .before .waiters .ensures) (c .before .before .before .before .bit .ensures) (c .before .before .wide .ensures) (search needs) (tells-of _ _ _ _ _ _ _ _ (c .tells .ensures))
+
 tells-requires-2 : tie.Need-tells-requires-2
 tells-requires-2 c κs = search needs
 
 returns-2 : tie.Need-returns-2
-returns-2 c = λ s serial live. info-free _ (c .before .before .before .before .before .before .before .before .args .i) _ _ _ (c .before .before .before .before .before .before .waiters .ensures) (c .before .before .before .before .bit .ensures) (search needs) (tells-of _ _ _ _ _ _ _ _ (rw (← c .before .wide .ensures) (c .tells2 .ensures)))
+returns-2 c = λ s serial live. info-above _ (c .before .before .before .before .before .before .before .before .args .i) _ _ _ _ (c .before .before .before .before .before .before .waiters .ensures) (c .before .before .before .before .bit .ensures) (c .before .before .wide .ensures) (search needs) (tells-of _ _ _ _ _ _ _ _ (c .tells2 .ensures))
 
 pub info-at-spec : {M : Type 1} → statement M
 info-at-spec =
@@ -50,10 +53,11 @@ info-at-spec =
     cast-waiting
     element-copy-out-bit
     bit-requires
-    tells-requires
-    returns
     mul-wide
     element-copy-out-wide
     wide-requires
+    sub-tells
+    tells-requires
+    returns
     tells-requires-2
     returns-2)
