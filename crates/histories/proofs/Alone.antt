@@ -70,17 +70,13 @@ module _ (s : State) where
   unfolding taskSuspendAt plain answer
   task-suspend-both id =
       both-named _ _
-      (λ t. either SameBoth _
-      (either SameBoth _ (refl, refl) (either SameBoth _ (refl, refl) (refl, refl)))
-      (refl, refl))
+      (λ t. either SameBoth _ (refl, refl) (either SameBoth _ (refl, refl) (either SameBoth _ (refl, refl) (refl, refl))))
 
   task-resume-both : (id : ℕ) → SameBoth (taskResume s id)
   unfolding taskResumeAt plain answer
   task-resume-both id =
       both-named _ _
-      (λ t. either SameBoth _
-      (either SameBoth _ (either SameBoth _ (refl, refl) (refl, refl)) (refl, refl))
-      (refl, refl))
+      (λ t. either SameBoth _ (refl, refl) (either SameBoth _ (refl, refl) (either SameBoth _ (refl, refl) (refl, refl))))
 
   task-set-priority-both : (id priority : ℕ) → SameBoth (taskSetPriority s id priority)
   unfolding taskSetPriorityAt plain gives answer
@@ -126,11 +122,9 @@ module _ (s : State) where
   pool-create-sems : (name address length size options : ℕ) → SameSemaphores (poolCreate s name address length size options)
   unfolding poolCreate poolCreateAt plain gives answer
   pool-create-sems name address length size options =
-      either SameSemaphores _
-      (either SameSemaphores _
-      (either SameSemaphores _ refl (either SameSemaphores _ refl (either SameSemaphores _ refl refl)))
-      refl)
-      refl
+      either SameSemaphores _ refl
+      (either SameSemaphores _ refl
+      (either SameSemaphores _ refl (either SameSemaphores _ refl (either SameSemaphores _ refl refl))))
 
   pool-delete-sems : (id : ℕ) → SameSemaphores (poolDelete s id)
   unfolding poolDeleteAt plain answer

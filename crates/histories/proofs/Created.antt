@@ -107,11 +107,9 @@ module _ (s : State) (ok : Sound s) where
     pool-create : (options : ℕ) → NewPool (poolCreate s name address n size options)
     unfolding poolCreate
     pool-create options =
-        by-choice NewPool _
-        (λ e. by-choice NewPool _
-        (λ f. by-choice NewPool _ (λ g. pool-refusal _ refl) (λ g. pool-create-at options _))
-        (λ f. pool-refusal _ refl))
-        (λ e. pool-refusal _ refl)
+        by-choice NewPool _ (λ e. pool-refusal _ refl)
+        (λ e. by-choice NewPool _ (λ f. pool-refusal _ refl)
+        (λ f. by-choice NewPool _ (λ g. pool-refusal _ refl) (λ g. pool-create-at options _)))
 
   pub pool-created : (x : Event) (id : ℕ) → Creates 14 id x (answerTo s x)
       → (i : ℕ) × PoolAt (answerTo s x .state) id i × (buffersOut (answerTo s x .state .pools) i ≡ 0)

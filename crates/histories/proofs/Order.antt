@@ -4,7 +4,7 @@
 use Prim.Native.Nat.{ℕ, suc, _+_, _<_}
 use native.Mathlib.Omega.{arith}
 use native.Mathlib.Nat.{eq-or-lt-of-le}
-use mathlib.Core.Path.{_≡_, refl, sym, subst, ap}
+use mathlib.Core.Path.{_≡_, refl, sym, subst, ap, _∙_}
 use mathlib.Core.Logic.{⊎-elim}
 use mathlib.Core.Bool.{Bool, true, false}
 use mathlib.Core.List.{List, [], _∷_}
@@ -22,7 +22,7 @@ use Rattle.scope.specs.Answers.{answer, plain, badState, wakesWith, onFound}
 use Rattle.scope.specs.Semaphores.{wakeNext, semReleaseAt, semRelease}
 use Rattle.scope.specs.Step.{callerRefusal, answered, stepped}
 use Rattle.scope.specs.Fresh.{freshState, fresh}
-use Rattle.laws.proofs.Branches.{lt-or-le, true-false, picked-yes}
+use Rattle.laws.proofs.Branches.{lt-or-le, true-false, picked-yes, picked-no, first-fails, not-of-true}
 use Rattle.tables.proofs.Laws.{found-below}
 use Rattle.seats.proofs.First.{first-is}
 use Rattle.histories.specs.Sound.{Sound}
@@ -120,7 +120,7 @@ module _ (s : State) (told : Arrivals) (n : ℕ) (ok : Sound s) (h : OrderedIn s
   release-at : Grant s told i (semReleaseAt s i)
   unfolding semReleaseAt wakesWith wakeNext
   release-at =
-      subst (Grant s told i) (sym (picked-yes _ _ _ (lt-ltb t 32 (first .0))))
+      subst (Grant s told i) (sym (picked-no _ _ _ (first-fails _ _ (not-of-true (ltb t 32) (lt-ltb t 32 (first .0)))) ∙ picked-yes _ _ _ (lt-ltb t 32 (first .0))))
       (record { task = t; waited = first-waits; woken = refl; why = refl; named = refl; first = first-precedes })
 
   release-grants : (mark a b c d e : ℕ) → SemaphoreAt s a i → stepped s 12 mark a b c d e .status ≡ OK → Grant s told i (stepped s 12 mark a b c d e)

@@ -88,13 +88,13 @@ module _ (s : State) where
   unfolding taskSuspendAt plain answer
   task-suspend id =
       by-name _ (taskSuspendAt s) refl refl
-      (λ t. or _ (or _ (refused _ refl) (or _ (done refl refl) (done refl refl))) (refused _ refl))
+      (λ t. or _ (refused _ refl) (or _ (refused _ refl) (or _ (done refl refl) (done refl refl))))
 
   task-resume : (id : ℕ) → Outcome s (callAt 6 .statuses) (taskResume s id)
   unfolding taskResumeAt plain answer
   task-resume id =
       by-name _ (taskResumeAt s) refl refl
-      (λ t. or _ (or _ (or _ (done refl refl) (done refl refl)) (refused _ refl)) (refused _ refl))
+      (λ t. or _ (refused _ refl) (or _ (refused _ refl) (or _ (done refl refl) (done refl refl))))
 
   task-set-priority : (id priority : ℕ) → Outcome s (callAt 7 .statuses) (taskSetPriority s id priority)
   unfolding taskSetPriorityAt gives answer
@@ -119,12 +119,12 @@ module _ (s : State) where
       by-name _ (semClaimAt s options ticks) refl refl
       (λ i. or _ (refused _ refl)
       (or _ (refused _ refl)
-      (or _ (done refl refl)
-      (or _ (refused _ refl) (or _ (record { listed = refl; kind = inr (inl refl) }) (refused _ refl))))))
+      (or _ (refused _ refl)
+      (or _ (done refl refl) (or _ (refused _ refl) (record { listed = refl; kind = inr (inl refl) }))))))
 
   sem-release : (id : ℕ) → Outcome s (callAt 12 .statuses) (semRelease s id)
   unfolding semReleaseAt wakesWith plain answer
-  sem-release id = by-name _ (semReleaseAt s) refl refl (λ i. or _ (done refl refl) (or _ (refused _ refl) (done refl refl)))
+  sem-release id = by-name _ (semReleaseAt s) refl refl (λ i. or _ (refused _ refl) (or _ (done refl refl) (done refl refl)))
 
   sem-info : (id : ℕ) → Outcome s (callAt 13 .statuses) (semInfo s id)
   unfolding semInfoAt answer
@@ -133,7 +133,7 @@ module _ (s : State) where
   pool-create : (name address n size options : ℕ) → Outcome s (callAt 14 .statuses) (poolCreate s name address n size options)
   unfolding poolCreate poolCreateAt gives answer
   pool-create name address n size options =
-      or _ (or _ (or _ (refused _ refl) (or _ (refused _ refl) (or _ (refused _ refl) (done refl refl)))) (refused _ refl)) (refused _ refl)
+      or _ (refused _ refl) (or _ (refused _ refl) (or _ (refused _ refl) (or _ (refused _ refl) (or _ (refused _ refl) (done refl refl)))))
 
   pool-delete : (id : ℕ) → Outcome s (callAt 15 .statuses) (poolDelete s id)
   unfolding poolDeleteAt plain answer
@@ -149,7 +149,7 @@ module _ (s : State) where
 
   pool-return : (id x : ℕ) → Outcome s (callAt 18 .statuses) (poolRetBuff s id x)
   unfolding poolRetBuffAt poolRetBuffer plain answer
-  pool-return id x = by-name _ (poolRetBuffAt s x) refl refl (λ i. or _ (done refl refl) (refused _ refl))
+  pool-return id x = by-name _ (poolRetBuffAt s x) refl refl (λ i. or _ (refused _ refl) (done refl refl))
 
   pool-info : (id : ℕ) → Outcome s (callAt 19 .statuses) (poolInfo s id)
   unfolding poolInfoAt answer

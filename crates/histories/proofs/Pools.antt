@@ -10,7 +10,7 @@ use lib.ListN.{length, getD, set, length-set}
 use lib.Seq.{getD-set-same, getD-set-other, set-getD}
 use lib.Dec.{leb, eqb}
 use lib.Pow.{pow-pos}
-use borrow.Author.Tests.{lt-ltb, le-leb, ltb-true, ltb-false, leb-true, leb-false}
+use borrow.Author.Tests.{lt-ltb, le-leb, ltb-true, ltb-false, leb-true, leb-false, not-false}
 use Rattle.scope.specs.declared.State.{State}
 use Rattle.scope.specs.declared.Pools.{Pools}
 use Rattle.scope.specs.Choice.{pick}
@@ -293,11 +293,10 @@ module _ (s : State) (sound : Sound s) where
   pub poolCreate-sound : (name address n size options : ℕ) → Kept (poolCreate s name address n size options)
   unfolding poolCreate
   poolCreate-sound name address n size options =
-      by-choice Kept _
-      (λ area. by-choice Kept _
-      (λ sized. by-choice Kept _ (λ e. plain-kept _ sound) (λ e. poolCreateAt-sound name address n size options _ area sized))
-      (λ e. plain-kept _ sound))
-      (λ e. plain-kept _ sound)
+      by-choice Kept _ (λ e. plain-kept _ sound)
+      (λ area. by-choice Kept _ (λ e. plain-kept _ sound)
+      (λ sized. by-choice Kept _ (λ e. plain-kept _ sound)
+      (λ e. poolCreateAt-sound name address n size options _ (not-false (isArea address n) area) (not-false (isSize n size) sized))))
 
   pub poolIdentAt-sound : (i : ℕ) → Kept (poolIdentAt s i)
   unfolding poolIdentAt
@@ -334,7 +333,7 @@ module _ (s : State) (sound : Sound s) where
       pub poolRetBuffAt-sound : (x : ℕ) → Kept (poolRetBuffAt s x i)
       unfolding poolRetBuffAt poolRetBuffer
       poolRetBuffAt-sound x =
-          by-choice Kept _ (λ e. plain-kept _ (other-marks _ (back-below _ _ _ marks))) (λ e. plain-kept _ sound)
+          by-choice Kept _ (λ e. plain-kept _ sound) (λ e. plain-kept _ (other-marks _ (back-below _ _ _ marks)))
 
   -- the calls with a pool's identifier: it names a live pool of the eight
   module _ (id : ℕ) where

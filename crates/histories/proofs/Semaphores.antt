@@ -9,7 +9,7 @@ use mathlib.Core.Bool.{Bool, true, false, not, _&&_}
 use mathlib.Core.List.{List}
 use lib.ListN.{length, getD, length-set}
 use lib.Seq.{getD-set-same, getD-set-other}
-use lib.Dec.{ltb, eqb}
+use lib.Dec.{ltb, leb, eqb}
 use borrow.Author.Tests.{ltb-true, ltb-false, leb-false, eqb-false, eq-eqb}
 use Rattle.scope.specs.declared.State.{State}
 use Rattle.scope.specs.declared.Line.{Line}
@@ -22,7 +22,7 @@ use Rattle.scope.specs.Seats.{queueSeats, firstOf, standing, runnerOf}
 use Rattle.scope.specs.Views.{withSemaphores}
 use Rattle.scope.specs.Answers.{answer, plain, gives, wakesWith}
 use Rattle.scope.specs.Semaphores.{isTimeOut, lastCount, semBorn, semGone, withUnits, semFound, semCreateAt, semCreate, wakeNext, noneWoken, wakeAll, semDeleteAt, semIdentAt, semIdent, semWaitAt, semClaimAt, semReleaseAt, semInfoAt, semDelete, semClaim, semRelease, semInfo}
-use Rattle.laws.proofs.Branches.{lt-or-le, eq-or-not, true-false, true-or-false, both, not-of-false}
+use Rattle.laws.proofs.Branches.{lt-or-le, eq-or-not, true-false, true-or-false, both, first-decides, second-decides, not-of-false}
 use Rattle.tables.proofs.Laws.{found-below, found-live, usable-at, usable-free}
 use Rattle.seats.specs.Rule.{In, Sorted, Queues, Runs}
 use Rattle.seats.proofs.Counting.{standing-le}
@@ -318,13 +318,12 @@ module _ (s : State) (ok : Sound s) where
     sem-wait-at : (ticks : ℕ) → isTimeOut ticks ≡ true → getD (s .semaphores .units) i 0 ≡ 0 → Sound (semWaitAt s ticks i .state)
     unfolding semWaitAt plain answer
     sem-wait-at ticks time none =
-        by-choice Kept _
-        (λ e. let h : s .running < 32 = ltb-true (s .running) 32 e in
+        by-choice Kept _ (λ e. ok)
+        (λ e. let h : s .running < 32 = leb-false 32 (s .running) e in
         let r : Ready (s .line) (s .tasks) (s .running) = runs-ready s ok h in
         line-sound s ok _
         (waits-sound (s .line) (s .tasks) (s .semaphores) (ok .line) (s .running) h i (getD (s .tasks .priority) (s .running) 0) ticks r hi alive none time
         (started-priority (s .tasks) (s .running) (ok .tasks) h (r .started))))
-        (λ e. ok)
 
     pub sem-claim-at : (options ticks : ℕ) → Sound (semClaimAt s options ticks i .state)
     unfolding semClaimAt plain answer
@@ -332,14 +331,15 @@ module _ (s : State) (ok : Sound s) where
         let n : ℕ = getD (s .semaphores .units) i 0 in
         by-choice Kept _ (λ e. ok)
         (λ e. by-choice Kept _ (λ f. ok)
-        (λ f. by-choice Kept _
-        (λ g. let h : 0 < n = ltb-true 0 n g in
+        (λ f. by-choice Kept _ (λ g. ok)
+        (λ g. by-choice Kept _
+        (λ z. let h : 0 < n = ltb-true 0 n z in
         units-sound (n - 1) (omega (arith, ok .semaphores .each i hi .units))
         (⊎-elim (λ c. absurd (omega (arith, h, ok .line .counts i hi c))) (λ c. omega arith) (lt-or-le 0 (standing (s .line .seat) (queueSeats i)))))
-        (λ g. by-choice Kept _ (λ h. ok)
-        (λ h. sem-wait-at ticks
+        (λ z. let h : eqb options 1 ≡ false = sym (first-decides (eqb options 1) (not (ltb 0 n)) (not-of-false (ltb 0 n) z)) ∙ g in
+        sem-wait-at ticks
         (timed options ticks (omega (arith, ltb-false 1 options e, eqb-false options 1 h)) f)
-        (omega (arith, ltb-false 0 n g))))))
+        (omega (arith, ltb-false 0 n z))))))
       where
         timed : (options ticks : ℕ) → options ≡ 0 → (eqb options 0 && not (isTimeOut ticks)) ≡ false → isTimeOut ticks ≡ true
         timed options ticks z f =
@@ -350,14 +350,15 @@ module _ (s : State) (ok : Sound s) where
     sem-release-at =
         let t : ℕ = firstOf (s .line .seat) (queueSeats i) in
         let n : ℕ = getD (s .semaphores .units) i 0 in
-        by-choice Kept _
+        by-choice Kept _ (λ f. ok)
+        (λ f. by-choice Kept _
         (λ e. let h : t < 32 = ltb-true t 32 e in
         line-sound s ok _
         (next-sound (s .tasks) (s .semaphores) (noneWoken (s .line)) t h (ok .line)
         (queue-waits (s .line) (s .tasks) (s .semaphores) (ok .line) t h i hi
         (first-in (s .line) (s .tasks) (s .semaphores) (ok .line) i hi h) .0)))
-        (λ e. by-choice Kept _ (λ f. ok)
-        (λ f. units-sound (n + 1) (omega (arith, leb-false 32767 n f))
+        (λ e. let g : leb 32767 n ≡ false = sym (second-decides (not (ltb t 32)) (leb 32767 n) (not-of-false (ltb t 32) e)) ∙ f in
+        units-sound (n + 1) (omega (arith, leb-false 32767 n g))
         (first-empty (s .line) (s .tasks) (s .semaphores) (ok .line) i hi (ltb-false t 32 e))))
 
     pub sem-info-at : Sound (semInfoAt s i .state)

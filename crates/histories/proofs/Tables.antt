@@ -5,15 +5,15 @@ use Prim.Native.Nat.{ℕ, _+_, _/_, _%_, _≤_, _<_}
 use native.Mathlib.Omega.{arith}
 use mathlib.Core.Path.{_≡_, refl, sym, subst, ap, _∙_}
 use mathlib.Core.Logic.{_⊎_, inl, inr, ⊎-elim}
-use mathlib.Core.Bool.{Bool, true, false}
+use mathlib.Core.Bool.{Bool, true, false, not}
 use mathlib.Core.List.{List}
 use lib.ListN.{length, getD, set, length-set}
 use lib.Seq.{getD-set-same, getD-set-other}
 use lib.Dec.{ltb, leb, eqb}
-use borrow.Author.Tests.{ltb-false}
+use borrow.Author.Tests.{leb-true, not-false}
 use Rattle.scope.specs.declared.Found.the-variants.{At, Deleted, Invalid}
 use Rattle.scope.specs.Choice.{pick}
-use Rattle.scope.specs.Identifiers.{identifier, found, isLive}
+use Rattle.scope.specs.Identifiers.{identifier, found, issued, isLive}
 use Rattle.laws.proofs.Branches.{true-false, eq-or-not}
 use Rattle.tables.proofs.Laws.{Names, found-names, found-current, found-identifier, identifier-found}
 
@@ -106,14 +106,14 @@ live-issued serial live id {i} e =
 pub deleted-issued : (serial : List ℕ) (live : List Bool) (id : ℕ) → found serial live id ≡ Deleted → id / 64 ≤ getD serial (id % 64) 0
 unfolding found pick
 deleted-issued serial live id e =
-    go (leb (length serial) (id % 64)) (eqb (id / 64) 0) (ltb (getD serial (id % 64) 0) (id / 64)) (isLive serial live id) refl e
+    go (leb (length serial) (id % 64)) (eqb (id / 64) 0) (not (issued serial id)) (isLive serial live id) refl e
   where
-    go : (a b c d : Bool) → ltb (getD serial (id % 64) 0) (id / 64) ≡ c
+    go : (a b c d : Bool) → not (issued serial id) ≡ c
         → pick a Invalid (pick b Invalid (pick c Invalid (pick d (At (id % 64)) Deleted))) ≡ Deleted → id / 64 ≤ getD serial (id % 64) 0
     go true b c d p f = let z : _≡_ {A = ℕ} 0 1 = cc in absurd (omega arith)
     go false true c d p f = let z : _≡_ {A = ℕ} 0 1 = cc in absurd (omega arith)
     go false false true d p f = let z : _≡_ {A = ℕ} 0 1 = cc in absurd (omega arith)
-    go false false false d p f = ltb-false _ _ p
+    go false false false d p f = leb-true (id / 64) (getD serial (id % 64) 0) (not-false (issued serial id) p)
 
 -- once deleted, never live again
 pub stays-deleted : {serial serial2 : List ℕ} {live live2 : List Bool} → Later serial live serial2 live2 → (id i : ℕ)

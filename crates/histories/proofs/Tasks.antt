@@ -10,7 +10,7 @@ use mathlib.Core.List.{List}
 use lib.ListN.{length, getD, set, length-set}
 use lib.Seq.{getD-set-same, getD-set-other, set-getD}
 use lib.Dec.{ltb, eqb}
-use borrow.Author.Tests.{le-ltb, ltb-true, ltb-false, leb-false, not-true}
+use borrow.Author.Tests.{le-ltb, ltb-true, ltb-false, leb-false, not-true, not-false}
 use Rattle.scope.specs.declared.State.{State}
 use Rattle.scope.specs.declared.Line.{Line}
 use Rattle.scope.specs.declared.Tasks.{Tasks}
@@ -326,8 +326,9 @@ module _ (s : State) (ok : Sound s) where
       pub taskSuspendAt-sound : Kept (taskSuspendAt s t)
       unfolding taskSuspendAt
       taskSuspendAt-sound =
-          by-choice Kept _
-          (λ started. let w = writes-suspended (s .tasks) (ok .tasks) t room alive true started in
+          by-choice Kept _ (λ e. plain-kept _ ok)
+          (λ e. let started = not-false (getD (s .tasks .started) t false) e in
+          let w = writes-suspended (s .tasks) (ok .tasks) t room alive true started in
           by-choice Kept _ (λ e. plain-kept _ ok)
           (λ awake. by-choice Kept _
           (λ e. plain-kept _
@@ -337,24 +338,23 @@ module _ (s : State) (ok : Sound s) where
           (ready-gone (s .line) (s .tasks) (s .semaphores) (ok .line) (withSuspended (s .tasks) t true) t (w .agree)
           (off-ready (s .line) (s .tasks) (s .semaphores) (ok .line) t room e started awake))
           (inr refl)))))
-          (λ e. plain-kept _ ok)
 
       pub taskResumeAt-sound : Kept (taskResumeAt s t)
       unfolding taskResumeAt
       taskResumeAt-sound =
+          by-choice Kept _ (λ e. plain-kept _ ok)
+          (λ e. let started = not-false (getD (s .tasks .started) t false) e in
+          let w = writes-suspended (s .tasks) (ok .tasks) t room alive false started in
+          by-choice Kept _ (λ e. plain-kept _ ok)
+          (λ e. let suspended = not-false (getD (s .tasks .suspended) t false) e in
           by-choice Kept _
-          (λ started. let w = writes-suspended (s .tasks) (ok .tasks) t room alive false started in
-          by-choice Kept _
-          (λ suspended. by-choice Kept _
           (λ e. plain-kept _
           (stays-waiting s ok t room w (on-waits (s .line) (s .tasks) (s .semaphores) (ok .line) t room e) started))
           (λ e. plain-kept _
           (turns-ready s ok t room w (s .line)
           (nowhere-gone s ok t room w
           (off-nowhere (s .line) (s .tasks) (s .semaphores) (ok .line) t room e suspended))
-          (s .line .joined) started refl)))
-          (λ e. plain-kept _ ok))
-          (λ e. plain-kept _ ok)
+          (s .line .joined) started refl))))
 
       pub taskSetPriorityAt-sound : (p : ℕ) → Kept (taskSetPriorityAt s p t)
       unfolding taskSetPriorityAt

@@ -10,7 +10,7 @@ use mathlib.Core.List.{List}
 use lib.ListN.{length, getD, set}
 use lib.Seq.{getD-set-same, getD-set-other}
 use lib.Dec.{ltb, eqb}
-use borrow.Author.Tests.{ltb-true, leb-false}
+use borrow.Author.Tests.{ltb-true, leb-false, not-false}
 use Rattle.scope.specs.declared.State.{State}
 use Rattle.scope.specs.declared.Line.{Line}
 use Rattle.scope.specs.declared.Tasks.{Tasks}
@@ -158,23 +158,20 @@ module _ (s : State) (ok : Sound s) where
   unfolding taskSuspendAt plain answer
   task-suspend id =
       by-name _ (taskSuspendAt s)
-      (λ t e. by-choice (Goes s) _
+      (λ t e. by-choice (Goes s) _ (λ f. stay _ refl)
       (λ f. by-choice (Goes s) _ (λ g. stay _ refl)
       (λ g. by-choice (Goes s) _ (λ h. passes refl same)
-      (λ h. passes refl (moved (record { seats = leaves-stays (l .seat) good t; joined = λ o a b u i. refl })))))
-      (λ f. stay _ refl))
+      (λ h. passes refl (moved (record { seats = leaves-stays (l .seat) good t; joined = λ o a b u i. refl }))))))
 
   task-resume : (id : ℕ) → Goes s (taskResume s id)
   unfolding taskResumeAt plain answer
   task-resume id =
       by-name _ (taskResumeAt s)
-      (λ t e. by-choice (Goes s) _
-      (λ f. by-choice (Goes s) _
+      (λ t e. by-choice (Goes s) _ (λ f. stay _ refl)
+      (λ f. by-choice (Goes s) _ (λ g. stay _ refl)
       (λ g. by-choice (Goes s) _ (λ h. passes refl same)
       (λ h. let room : t < 32 = task-room id t e in
-      passes refl (moved (readied-goes t _ room (off-nowhere l k m (ok .line) t room h g .seat)))))
-      (λ g. stay _ refl))
-      (λ f. stay _ refl))
+      passes refl (moved (readied-goes t _ room (off-nowhere l k m (ok .line) t room h (not-false (getD (k .suspended) t false) g) .seat)))))))
 
   task-set-priority : (id priority : ℕ) → Goes s (taskSetPriority s id priority)
   unfolding taskSetPriorityAt gives answer
@@ -234,10 +231,9 @@ module _ (s : State) (ok : Sound s) where
   sem-wait : (ticks i : ℕ) → i < 16 → Goes s (semWaitAt s ticks i)
   unfolding semWaitAt plain answer
   sem-wait ticks i hi =
-      by-choice (Goes s) _
-      (λ e. let h : s .running < 32 = ltb-true (s .running) 32 e in
+      by-choice (Goes s) _ (λ e. stay _ refl)
+      (λ e. let h : s .running < 32 = leb-false 32 (s .running) e in
       arrived-goes refl (waits-ordered l k m (ok .line) (s .running) h (runs-ready s ok h) i _ ticks hi))
-      (λ e. stay _ refl)
 
   sem-claim : (id options ticks : ℕ) → Goes s (semClaim s id options ticks)
   unfolding semClaimAt plain answer
@@ -245,16 +241,17 @@ module _ (s : State) (ok : Sound s) where
       by-name _ (semClaimAt s options ticks)
       (λ i e. by-choice (Goes s) _ (λ f. stay _ refl)
       (λ f. by-choice (Goes s) _ (λ g. stay _ refl)
-      (λ g. by-choice (Goes s) _ (λ h. passes refl same)
-      (λ h. by-choice (Goes s) _ (λ j. stay _ refl) (λ j. sem-wait ticks i (slot-room id i e))))))
+      (λ g. by-choice (Goes s) _ (λ h. stay _ refl)
+      (λ h. by-choice (Goes s) _ (λ j. passes refl same) (λ j. sem-wait ticks i (slot-room id i e))))))
 
   sem-release : (id : ℕ) → Goes s (semRelease s id)
   unfolding semReleaseAt wakesWith plain answer
   sem-release id =
       by-name _ (semReleaseAt s)
-      (λ i e. by-choice (Goes s) _
-      (λ f. passes refl (moved (next-fewer k (noneWoken l) (firstOf (l .seat) (queueSeats i)) (ltb-true _ 32 f) good)))
-      (λ f. by-choice (Goes s) _ (λ g. stay _ refl) (λ g. passes refl same)))
+      (λ i e. by-choice (Goes s) _ (λ f. stay _ refl)
+      (λ f. by-choice (Goes s) _
+      (λ g. passes refl (moved (next-fewer k (noneWoken l) (firstOf (l .seat) (queueSeats i)) (ltb-true _ 32 g) good)))
+      (λ g. passes refl same)))
 
   sem-info : (id : ℕ) → Goes s (semInfo s id)
   unfolding semInfoAt answer
@@ -264,12 +261,10 @@ module _ (s : State) (ok : Sound s) where
   pool-create : (name address n size options : ℕ) → Goes s (poolCreate s name address n size options)
   unfolding poolCreate poolCreateAt gives answer
   pool-create name address n size options =
-      by-choice (Goes s) _
-      (λ a. by-choice (Goes s) _
+      by-choice (Goes s) _ (λ a. stay _ refl)
+      (λ a. by-choice (Goes s) _ (λ b. stay _ refl)
       (λ b. by-choice (Goes s) _ (λ c. stay _ refl)
-      (λ c. by-choice (Goes s) _ (λ d. stay _ refl) (λ d. by-choice (Goes s) _ (λ e. stay _ refl) (λ e. passes refl same))))
-      (λ b. stay _ refl))
-      (λ a. stay _ refl)
+      (λ c. by-choice (Goes s) _ (λ d. stay _ refl) (λ d. by-choice (Goes s) _ (λ e. stay _ refl) (λ e. passes refl same)))))
 
   pool-delete : (id : ℕ) → Goes s (poolDelete s id)
   unfolding poolDeleteAt plain answer
@@ -285,7 +280,7 @@ module _ (s : State) (ok : Sound s) where
 
   pool-return : (id x : ℕ) → Goes s (poolRetBuff s id x)
   unfolding poolRetBuffAt poolRetBuffer plain answer
-  pool-return id x = by-name _ (poolRetBuffAt s x) (λ i e. by-choice (Goes s) _ (λ f. passes refl same) (λ f. stay _ refl))
+  pool-return id x = by-name _ (poolRetBuffAt s x) (λ i e. by-choice (Goes s) _ (λ f. stay _ refl) (λ f. passes refl same))
 
   pool-info : (id : ℕ) → Goes s (poolInfo s id)
   unfolding poolInfoAt answer

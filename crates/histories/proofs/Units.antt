@@ -17,6 +17,7 @@ use Rattle.scope.specs.declared.Tasks.{Tasks}
 use Rattle.scope.specs.declared.Semaphores.{Semaphores}
 use Rattle.scope.specs.declared.Waking.{Waking}
 use Rattle.scope.specs.declared.Found.the-variants.{At}
+use Rattle.scope.specs.Choice.{pick}
 use Rattle.scope.specs.Statuses.{OK, PENDING}
 use Rattle.scope.specs.Identifiers.{identifier, lowestUsable}
 use Rattle.scope.specs.Answers.{answer, plain, gives, badState, wakesWith, onFound}
@@ -159,14 +160,17 @@ module _ (s : State) (ok : Sound s) (x : Event) where
 
     pending : Fair (semWaitAt s ticks i)
     unfolding semWaitAt
-    pending = by-choice Fair _ (λ e. pending-fair _) (λ e. plain-fair _ refl)
+    pending = by-choice Fair _ (λ e. plain-fair _ refl) (λ e. pending-fair _)
+
+    granted-or-pending : Fair (pick (ltb 0 (getD (s .semaphores .units) i 0)) (plain (withSemaphores s (withUnits (s .semaphores) i (getD (s .semaphores .units) i 0 - 1))) OK) (semWaitAt s ticks i))
+    granted-or-pending = by-choice Fair _ granted (λ e. pending)
 
     claim-at : Fair (semClaimAt s options ticks i)
     unfolding semClaimAt
     claim-at =
         by-choice Fair _ (λ e. plain-fair _ refl)
         (λ e. by-choice Fair _ (λ f. plain-fair _ refl)
-        (λ f. by-choice Fair _ granted (λ g. by-choice Fair _ (λ h. plain-fair _ refl) (λ h. pending))))
+        (λ f. by-choice Fair _ (λ g. plain-fair _ refl) (λ g. granted-or-pending)))
 
   module _ (at : x .call ≡ 12) (i : ℕ) (names : semFound s (x .a) ≡ At i) where
     -- the first waiter is woken with OK: that is its grant
@@ -192,7 +196,7 @@ module _ (s : State) (ok : Sound s) (x : Event) where
     release-at : Fair (semReleaseAt s i)
     unfolding semReleaseAt
     release-at =
-        by-choice Fair _ (λ e. passed-on _ (next-woken (s .tasks) (s .line) _)) (λ e. by-choice Fair _ (λ f. plain-fair _ refl) (λ f. given))
+        by-choice Fair _ (λ e. plain-fair _ refl) (λ e. by-choice Fair _ (λ f. passed-on _ (next-woken (s .tasks) (s .line) _)) (λ f. given))
 
   -- every event's answer keeps the semaphores' books
   pub semaphores-booked : SemaphoresBooked (s .semaphores) (answerTo s x .state .semaphores) x (answerTo s x)

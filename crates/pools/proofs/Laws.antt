@@ -39,18 +39,18 @@ module _ {k o : ℕ} (n : ℕ) (finds : k ≡ o) where
   found-past h = rw (← finds) (le-ltb k n h)
 
 -- creation by its first three tests: r is the status that they give, f the answer with a status, x what there is past them
-pub refused : (a b c : Bool) {r : ℕ} → r ≡ pick a (pick b (pick c 6 0) 14) 3 → {A : Type 0} (f : ℕ → A) (x : A) {y : A} → (r ≡ 0 → ⊥) → y ≡ f r
-    → y ≡ pick a (pick b (pick c (f 6) x) (f 14)) (f 3)
+pub refused : (a b c : Bool) {r : ℕ} → r ≡ pick a 3 (pick b 14 (pick c 6 0)) → {A : Type 0} (f : ℕ → A) (x : A) {y : A} → (r ≡ 0 → ⊥) → y ≡ f r
+    → y ≡ pick a (f 3) (pick b (f 14) (pick c (f 6) x))
 unfolding pick
-refused true true true t f x n e = e ∙ ap f t
-refused true true false t f x n e = absurd (n t)
-refused true false c t f x n e = e ∙ ap f t
-refused false b c t f x n e = e ∙ ap f t
+refused true b c t f x n e = e ∙ ap f t
+refused false true c t f x n e = e ∙ ap f t
+refused false false true t f x n e = e ∙ ap f t
+refused false false false t f x n e = absurd (n t)
 
-pub admitted : (a b c : Bool) {r : ℕ} → r ≡ pick a (pick b (pick c 6 0) 14) 3 → {A : Type 0} (f : ℕ → A) (x : A) {y : A} → r ≡ 0 → y ≡ x
-    → y ≡ pick a (pick b (pick c (f 6) x) (f 14)) (f 3)
+pub admitted : (a b c : Bool) {r : ℕ} → r ≡ pick a 3 (pick b 14 (pick c 6 0)) → {A : Type 0} (f : ℕ → A) (x : A) {y : A} → r ≡ 0 → y ≡ x
+    → y ≡ pick a (f 3) (pick b (f 14) (pick c (f 6) x))
 unfolding pick
-admitted true true true t f x z e = absurd (omega arith)
-admitted true true false t f x z e = e
-admitted true false c t f x z e = absurd (omega arith)
-admitted false b c t f x z e = absurd (omega arith)
+admitted true b c t f x z e = absurd (omega arith)
+admitted false true c t f x z e = absurd (omega arith)
+admitted false false true t f x z e = absurd (omega arith)
+admitted false false false t f x z e = e

@@ -3,7 +3,7 @@
 use answers::Outcome;
 use scope::Found;
 ghost use mathlib.Core.Path.{_≡_};
-ghost use mathlib.Core.Bool.{Bool};
+ghost use mathlib.Core.Bool.{Bool, not};
 ghost use Prim.Native.Nat.{ℕ, _<_};
 ghost use mathlib.Core.List.{List};
 ghost use lib.Dec.{ltb};
@@ -20,7 +20,7 @@ ghost use Rattle.answers.specs.Columns.{lentPools};
 
 // "pool_create: 3, 14, 6, 7, 15": the first three, which look at the arguments alone; 0 where they are admitted.
 fn refusal(address: u32, length: u32, size: u32, options: u32) -> u32
-    ensures { λ r. ⌜ r ≡ pick (isArea address length) (pick (isSize length size) (pick (ltb lastOption options) INVALID-OPTIONS OK) INVALID-BUFF-SIZE) INVALID-PARAMETER ⌝ }
+    ensures { λ r. ⌜ r ≡ pick (not (isArea address length)) INVALID-PARAMETER (pick (not (isSize length size)) INVALID-BUFF-SIZE (pick (ltb lastOption options) INVALID-OPTIONS OK)) ⌝ }
 {
     if !areas::is_area(address, length) {
         return 3;

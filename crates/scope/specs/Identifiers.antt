@@ -23,7 +23,7 @@ slotOf id = id % 64
 abbrev pub lastSerial : ℕ
 lastSerial = 65535
 
--- A slot's serial is that of its latest object, so the slot has issued the serials from 1 to it.
+-- its serial "has been issued": a slot's serial is that of its latest object, so the slot has issued the serials from 1 to it
 abbrev pub issued : List ℕ → ℕ → Bool
 issued serial id = leb (serialOf id) (getD serial (slotOf id) 0)
 
@@ -37,7 +37,7 @@ unfoldable pub found : List ℕ → List Bool → ℕ → Found
 found serial live id =
     pick (leb (length serial) (slotOf id)) Invalid
     (pick (eqb (serialOf id) 0) Invalid
-    (pick (ltb (getD serial (slotOf id) 0) (serialOf id)) Invalid
+    (pick (not (issued serial id)) Invalid
     (pick (isLive serial live id) (At (slotOf id)) Deleted)))
 
 -- free, and has a serial left

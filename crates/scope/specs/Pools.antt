@@ -82,12 +82,10 @@ poolCreateAt s name address length size options i =
 
 unfoldable pub poolCreate : State → ℕ → ℕ → ℕ → ℕ → ℕ → Answer
 poolCreate s name address length size options =
-    pick (isArea address length)
-    (pick (isSize length size)
+    pick (not (isArea address length)) (plain s INVALID-PARAMETER)
+    (pick (not (isSize length size)) (plain s INVALID-BUFF-SIZE)
     (pick (ltb lastOption options) (plain s INVALID-OPTIONS)
-    (poolCreateAt s name address length size options (lowestUsable (s .pools .serial) (s .pools .live))))
-    (plain s INVALID-BUFF-SIZE))
-    (plain s INVALID-PARAMETER)
+    (poolCreateAt s name address length size options (lowestUsable (s .pools .serial) (s .pools .live)))))
 
 -- pool_delete. "buffers out, not FORCED_DELETE": 16
 unfoldable pub poolDeleteAt : State → ℕ → Answer
@@ -117,9 +115,8 @@ poolGetBuffAt s i = poolGetBuffer s i (lowestFree (getD (s .pools .out) i 0) (po
 -- "Any task may return a buffer." "address not the start of a buffer out": 18
 unfoldable pub poolRetBuffer : State → ℕ → ℕ → Answer
 poolRetBuffer s i k =
-    pick (ltb k 64 && isOut (getD (s .pools .out) i 0) k)
+    pick (not (ltb k 64 && isOut (getD (s .pools .out) i 0) k)) (plain s INVALID-BUFF)
     (plain (withPools s (withOut (s .pools) i (getD (s .pools .out) i 0 - 2 ^ k))) OK)
-    (plain s INVALID-BUFF)
 
 unfoldable pub poolRetBuffAt : State → ℕ → ℕ → Answer
 poolRetBuffAt s x i =

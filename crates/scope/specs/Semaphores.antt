@@ -131,28 +131,31 @@ waits l i fifo priority ticks t =
 -- the running task joins the queue; 24 where nothing runs, which is tested before any claim
 unfoldable pub semWaitAt : State → ℕ → ℕ → Answer
 semWaitAt s ticks i =
-    pick (ltb (s .running) 32)
+    pick (leb 32 (s .running)) (plain s NO-CALLER)
     (plain
     (withLine s
     (waits (s .line) i (getD (s .semaphores .fifo) i false) (getD (s .tasks .priority) (s .running) 0) ticks (s .running)))
     PENDING)
-    (plain s NO-CALLER)
 
--- "Claim: count less one. At 0 or more the answer is OK; below 0 the caller joins the queue." 6, 3, 10
+-- sem_claim: 6, 3, 10. "NOWAIT with count 0 or less: status 10, nothing changes."
+-- "Claim: count less one. At 0 or more the answer is OK; below 0 the caller joins the queue."
 unfoldable pub semClaimAt : State → ℕ → ℕ → ℕ → Answer
 semClaimAt s options ticks i =
     pick (ltb lastOption options) (plain s INVALID-OPTIONS)
     (pick (eqb options 0 && not (isTimeOut ticks)) (plain s INVALID-PARAMETER)
+    (pick (eqb options 1 && not (ltb 0 (getD (s .semaphores .units) i 0))) (plain s SEMAPHORE-NOT-AVAILABLE)
     (pick (ltb 0 (getD (s .semaphores .units) i 0))
     (plain (withSemaphores s (withUnits (s .semaphores) i (getD (s .semaphores .units) i 0 - 1))) OK)
-    (pick (eqb options 1) (plain s SEMAPHORE-NOT-AVAILABLE) (semWaitAt s ticks i))))
+    (semWaitAt s ticks i))))
 
--- "Release: count plus one. If there were waiters the first leaves, woken with OK: that is its grant." 12
+-- "release at count 32,767": 12, which with a waiter the count never is.
+-- "Release: count plus one. If there were waiters the first leaves, woken with OK: that is its grant."
 unfoldable pub semReleaseAt : State → ℕ → Answer
 semReleaseAt s i =
-    pick (ltb (firstOf (s .line .seat) (queueSeats i)) 32)
+    pick (not (ltb (firstOf (s .line .seat) (queueSeats i)) 32) && leb lastCount (getD (s .semaphores .units) i 0))
+    (plain s SEMAPHORE-OVERFLOW)
+    (pick (ltb (firstOf (s .line .seat) (queueSeats i)) 32)
     (wakesWith s (wakeNext (s .tasks) (noneWoken (s .line)) (firstOf (s .line .seat) (queueSeats i))) OK)
-    (pick (leb lastCount (getD (s .semaphores .units) i 0)) (plain s SEMAPHORE-OVERFLOW)
     (plain (withSemaphores s (withUnits (s .semaphores) i (getD (s .semaphores .units) i 0 + 1))) OK))
 
 -- "sem_info gives options, count, tasks waiting"

@@ -1,7 +1,7 @@
 -- The task calls: chapter 4, as document 01 fixes it. Each is given the task's slot, its identifier being found.
 -- Assumes nothing.
 use Prim.Native.Nat.{ℕ, _+_}
-use mathlib.Core.Bool.{Bool, true, false}
+use mathlib.Core.Bool.{Bool, true, false, not}
 use mathlib.Core.List.{List}
 use lib.ListN.{length, getD, set}
 use lib.Dec.{ltb, leb, eqb}
@@ -121,21 +121,18 @@ taskStartAt s t =
 -- task_suspend: 21, 22. "A suspended waiter keeps its place"; a ready task leaves the ready order.
 unfoldable pub taskSuspendAt : State → ℕ → Answer
 taskSuspendAt s t =
-    pick (getD (s .tasks .started) t false)
+    pick (not (getD (s .tasks .started) t false)) (plain s TASK-NOT-STARTED)
     (pick (getD (s .tasks .suspended) t false) (plain s TASK-ALREADY-SUSPENDED)
     (pick (waitsOn (getD (s .line .seat) t 0)) (plain (withTasks s (withSuspended (s .tasks) t true)) OK)
     (plain (withLine (withTasks s (withSuspended (s .tasks) t true)) (withSeats (s .line) (leaves (s .line .seat) t))) OK)))
-    (plain s TASK-NOT-STARTED)
 
 -- task_resume: 21, 23. "it becomes ready when it neither waits nor is suspended"
 unfoldable pub taskResumeAt : State → ℕ → Answer
 taskResumeAt s t =
-    pick (getD (s .tasks .started) t false)
-    (pick (getD (s .tasks .suspended) t false)
+    pick (not (getD (s .tasks .started) t false)) (plain s TASK-NOT-STARTED)
+    (pick (not (getD (s .tasks .suspended) t false)) (plain s TASK-NOT-SUSPENDED)
     (pick (waitsOn (getD (s .line .seat) t 0)) (plain (withTasks s (withSuspended (s .tasks) t false)) OK)
-    (plain (withLine (withTasks s (withSuspended (s .tasks) t false)) (readied (s .line) (s .tasks) t)) OK))
-    (plain s TASK-NOT-SUSPENDED))
-    (plain s TASK-NOT-STARTED)
+    (plain (withLine (withTasks s (withSuspended (s .tasks) t false)) (readied (s .line) (s .tasks) t)) OK)))
 
 -- task_set_priority: 19. "set_priority on a ready task takes it out and puts it in again, even for the same priority."
 -- "the earlier priority for set_priority"

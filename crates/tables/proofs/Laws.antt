@@ -13,8 +13,8 @@ use borrow.Author.Tests.{lt-ltb, le-ltb, le-leb, lt-leb, eq-eqb, ne-eqb, ltb-tru
 use Rattle.scope.specs.declared.Found.{Found}
 use Rattle.scope.specs.declared.Found.the-variants.{At, Deleted, Invalid}
 use Rattle.scope.specs.Choice.{pick}
-use Rattle.scope.specs.Identifiers.{identifier, lastSerial, found, isLive, usable, lowestUsable, named, byName}
-use Rattle.laws.proofs.Branches.{pick-yes, pick-no, both, first-fails, second-fails, both-true}
+use Rattle.scope.specs.Identifiers.{identifier, lastSerial, found, issued, isLive, usable, lowestUsable, named, byName}
+use Rattle.laws.proofs.Branches.{pick-yes, pick-no, both, first-fails, second-fails, both-true, not-of-true, not-of-false}
 use Rattle.laws.proofs.Searches.{least-le, least-true, least-below}
 
 module _ (serial : List ℕ) (live : List Bool) (id : ℕ) where
@@ -30,11 +30,11 @@ module _ (serial : List ℕ) (live : List Bool) (id : ℕ) where
   module _ (inside : id % 64 < length serial) (numbered : id / 64 ≡ 0 → ⊥) (last : ℕ) (holds : last ≡ getD serial (id % 64) 0) where
     pub found-later : last < id / 64 → Invalid ≡ found serial live id
     unfolding found
-    found-later l = pick-no _ _ _ (lt-leb _ _ inside) (pick-no _ _ _ (ne-eqb _ _ numbered) (pick-yes _ _ _ (lt-ltb (getD serial (id % 64) 0) (id / 64) (omega arith)) refl))
+    found-later l = pick-no _ _ _ (lt-leb _ _ inside) (pick-no _ _ _ (ne-eqb _ _ numbered) (pick-yes _ _ _ (not-of-false _ (lt-leb (id / 64) (getD serial (id % 64) 0) (omega arith))) refl))
 
     found-issued : {r : Found} → id / 64 ≤ last → r ≡ pick (isLive serial live id) (At (id % 64)) Deleted → r ≡ found serial live id
     unfolding found
-    found-issued l e = pick-no _ _ _ (lt-leb _ _ inside) (pick-no _ _ _ (ne-eqb _ _ numbered) (pick-no _ _ _ (le-ltb (getD serial (id % 64) 0) (id / 64) (omega arith)) e))
+    found-issued l e = pick-no _ _ _ (lt-leb _ _ inside) (pick-no _ _ _ (ne-eqb _ _ numbered) (pick-no _ _ _ (not-of-true _ (le-leb (id / 64) (getD serial (id % 64) 0) (omega arith))) e))
 
     pub found-current : getD live (id % 64) false ≡ true → last ≡ id / 64 → At (id % 64) ≡ found serial live id
     found-current a e = found-issued (omega arith) (pick-yes _ _ _ (both _ _ a (eq-eqb _ _ (sym holds ∙ e))) refl)
@@ -60,7 +60,7 @@ module _ (serial : List ℕ) (live : List Bool) (id : ℕ) where
       go
       (leb (length serial) (id % 64))
       (eqb (id / 64) 0)
-      (ltb (getD serial (id % 64) 0) (id / 64))
+      (not (issued serial id))
       (isLive serial live id)
       refl
       refl

@@ -6,7 +6,7 @@ use lib.Dec.{ltb}
 use borrow.Author.Needs.{needs}
 use borrow.Author.Tests.{lt-ltb, le-ltb}
 use Rattle.scope.specs.Pools.{poolRetBuffer, poolRetBuffAt}
-use Rattle.laws.proofs.Branches.{pick-yes, pick-no, both, first-fails, second-fails}
+use Rattle.laws.proofs.Branches.{pick-yes, pick-no, both, first-fails, second-fails, not-of-true, not-of-false}
 use Rattle.answers.proofs.Outcomes.{plain-of}
 use Rattle.pools.proofs.ret_at.Statement.{statement}
 use Rattle.pools.proofs.ret_at.Tie as tie
@@ -64,14 +64,14 @@ plain-requires c κs = search needs
 
 returns : tie.Need-returns
 unfolding poolRetBuffer poolRetBuffAt
-returns c = λ s serial live. rw (← c .before .before .before .before .before .before .before .before .before .buffers-of .ensures, ← c .before .before .before .before .before .buffer-at .ensures) (pick-yes _ _ _ (both _ _ (lt-ltb _ _ (c .before .before .before .before .if1 .taken)) (sym (c .before .before .before .is-out .ensures) ∙ c .before .before .if2 .taken)) (rw (c .before .give-back .ensures) (plain-of _ _ _ _ (c .plain .ensures))))
+returns c = λ s serial live. rw (← c .before .before .before .before .before .before .before .before .before .buffers-of .ensures, ← c .before .before .before .before .before .buffer-at .ensures) (pick-no _ _ _ (not-of-true _ (both _ _ (lt-ltb _ _ (c .before .before .before .before .if1 .taken)) (sym (c .before .before .before .is-out .ensures) ∙ c .before .before .if2 .taken))) (rw (c .before .give-back .ensures) (plain-of _ _ _ _ (c .plain .ensures))))
 
 plain-requires-2 : tie.Need-plain-requires-2
 plain-requires-2 c κs = search needs
 
 returns-2 : tie.Need-returns-2
 unfolding poolRetBuffer poolRetBuffAt
-returns-2 c = λ s serial live. rw (← c .before .before .before .before .before .before .buffers-of .ensures, ← c .before .before .buffer-at .ensures) (pick-no _ _ _ (⊎-elim (λ j. second-fails (ltb (c .before .before .buffer-at .result) 64) _ (sym (j .1 .ensures) ∙ j .2 .left)) (λ e. first-fails _ _ (le-ltb _ _ (e .left))) (c .before .if1 .came)) (plain-of _ _ _ _ (c .plain2 .ensures)))
+returns-2 c = λ s serial live. rw (← c .before .before .before .before .before .before .buffers-of .ensures, ← c .before .before .buffer-at .ensures) (pick-yes _ _ _ (not-of-false _ (⊎-elim (λ j. second-fails (ltb (c .before .before .buffer-at .result) 64) _ (sym (j .1 .ensures) ∙ j .2 .left)) (λ e. first-fails _ _ (le-ltb _ _ (e .left))) (c .before .if1 .came))) (plain-of _ _ _ _ (c .plain2 .ensures)))
 
 pub ret-at-spec : {M : Type 1} → statement M
 ret-at-spec =

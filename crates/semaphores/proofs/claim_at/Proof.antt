@@ -1,7 +1,8 @@
 use mathlib.Core.Path.{sym, _∙_}
+use lib.Dec.{eqb}
 use borrow.Author.Tests.{lt-ltb, le-ltb, eq-eqb, ne-eqb}
 use Rattle.scope.specs.Semaphores.{semClaimAt}
-use Rattle.laws.proofs.Branches.{pick-yes, pick-no}
+use Rattle.laws.proofs.Branches.{pick-yes, pick-no, both, first-fails, second-fails, not-of-true, not-of-false}
 use Rattle.answers.proofs.Outcomes.{plain-of}
 use borrow.Author.Needs.{needs}
 use Rattle.semaphores.proofs.claim_at.Statement.{statement}
@@ -61,7 +62,7 @@ plain-requires-3 c κs = search needs
 -- src/lib.rt:107:9
 returns-3 : tie.Need-returns-3
 unfolding semClaimAt
-returns-3 c = λ s serial live. pick-no _ _ _ (le-ltb _ _ (c .before .before .before .before .before .if1 .left)) (pick-no _ _ _ (sym (c .before .before .before .before .lacks-time-out .ensures) ∙ c .before .before .before .if2 .left) (pick-yes _ _ _ (lt-ltb _ _ (c .before .if3 .taken)) (plain-of _ _ _ _ (c .plain3 .ensures))))
+returns-3 c = λ s serial live. pick-no _ _ _ (le-ltb _ _ (c .before .before .before .before .before .if1 .left)) (pick-no _ _ _ (sym (c .before .before .before .before .lacks-time-out .ensures) ∙ c .before .before .before .if2 .left) (pick-no _ _ _ (second-fails (eqb (c .before .before .before .before .before .before .args .options) 1) _ (not-of-true _ (lt-ltb _ _ (c .before .if3 .taken)))) (pick-yes _ _ _ (lt-ltb _ _ (c .before .if3 .taken)) (plain-of _ _ _ _ (c .plain3 .ensures)))))
 
 -- src/lib.rt:110:9
 plain-requires-4 : tie.Need-plain-requires-4
@@ -70,7 +71,7 @@ plain-requires-4 c κs = search needs
 -- src/lib.rt:110:9
 returns-4 : tie.Need-returns-4
 unfolding semClaimAt
-returns-4 c = λ s serial live. pick-no _ _ _ (le-ltb _ _ (c .before .before .before .before .before .before .if1 .left)) (pick-no _ _ _ (sym (c .before .before .before .before .before .lacks-time-out .ensures) ∙ c .before .before .before .before .if2 .left) (pick-no _ _ _ (le-ltb _ _ (c .before .before .if3 .left)) (pick-yes _ _ _ (eq-eqb _ _ (c .before .if4 .taken)) (plain-of _ _ _ _ (c .plain4 .ensures)))))
+returns-4 c = λ s serial live. pick-no _ _ _ (le-ltb _ _ (c .before .before .before .before .before .before .if1 .left)) (pick-no _ _ _ (sym (c .before .before .before .before .before .lacks-time-out .ensures) ∙ c .before .before .before .before .if2 .left) (pick-yes _ _ _ (both _ _ (eq-eqb _ _ (c .before .if4 .taken)) (not-of-false _ (le-ltb _ _ (c .before .before .if3 .left)))) (plain-of _ _ _ _ (c .plain4 .ensures))))
 
 -- src/lib.rt:112:5
 wait-at-requires : tie.Need-wait-at-requires
@@ -79,7 +80,7 @@ wait-at-requires c κs = search needs
 -- src/lib.rt:83:1
 returns-5 : tie.Need-returns-5
 unfolding semClaimAt
-returns-5 c = λ s serial live. pick-no _ _ _ (le-ltb _ _ (c .before .before .before .before .before .before .before .before .before .if1 .left)) (pick-no _ _ _ (sym (c .before .before .before .before .before .before .before .before .lacks-time-out .ensures) ∙ c .before .before .before .before .before .before .before .if2 .left) (pick-no _ _ _ (le-ltb _ _ (c .before .before .before .before .before .if3 .left)) (pick-no _ _ _ (ne-eqb _ _ (c .before .before .before .before .if4 .left)) (c .wait-at .ensures s _ _ _))))
+returns-5 c = λ s serial live. pick-no _ _ _ (le-ltb _ _ (c .before .before .before .before .before .before .before .before .before .if1 .left)) (pick-no _ _ _ (sym (c .before .before .before .before .before .before .before .before .lacks-time-out .ensures) ∙ c .before .before .before .before .before .before .before .if2 .left) (pick-no _ _ _ (first-fails _ _ (ne-eqb _ _ (c .before .before .before .before .if4 .left))) (pick-no _ _ _ (le-ltb _ _ (c .before .before .before .before .before .if3 .left)) (c .wait-at .ensures s _ _ _))))
 
 pub claim-at-spec : {M : Type 1} → statement M
 claim-at-spec =

@@ -1,10 +1,12 @@
 -- `semaphores::release_at`: the first waiter is woken; with none, a unit more, below the greatest count.
 -- Assumes nothing.
 use mathlib.Core.Path.{_≡_, ap, sym, _∙_}
+use mathlib.Core.Bool.{not}
+use lib.Dec.{ltb}
 use borrow.Author.Needs.{needs}
 use borrow.Author.Tests.{lt-ltb, le-ltb, le-leb, lt-leb}
 use Rattle.answers.proofs.Outcomes.{plain-of, none-woken, woke-moved}
-use Rattle.laws.proofs.Branches.{pick-yes, pick-no}
+use Rattle.laws.proofs.Branches.{pick-yes, pick-no, both, first-fails, second-fails, not-of-true, not-of-false}
 use Rattle.scope.specs.Semaphores.{semReleaseAt}
 use Rattle.semaphores.proofs.release_at.Statement.{statement}
 use Rattle.semaphores.proofs.release_at.Tie as tie
@@ -23,7 +25,7 @@ woke-requires c κs = search needs
 
 returns : tie.Need-returns
 unfolding semReleaseAt
-returns c = λ s name serial live fifo. rw (← c .before .before .before .before .before .before .before .before .before .first-waiter .ensures) (pick-yes _ _ _ (lt-ltb _ _ (c .before .before .before .before .before .before .before .before .if1 .taken)) (woke-moved _ _ _ _ _ _ _ _ _ _ _ (c .woke .ensures) (c .before .runner .ensures) (rw (← c .before .before .before .before .before .before .before .before .before .before .before .pre .1) (c .before .before .before .wake-next .ensures (s .tasks)))))
+returns c = λ s name serial live fifo. rw (← c .before .before .before .before .before .before .before .before .before .first-waiter .ensures) (pick-no _ _ _ (first-fails _ _ (not-of-true _ (lt-ltb _ _ (c .before .before .before .before .before .before .before .before .if1 .taken)))) (pick-yes _ _ _ (lt-ltb _ _ (c .before .before .before .before .before .before .before .before .if1 .taken)) (woke-moved _ _ _ _ _ _ _ _ _ _ _ (c .woke .ensures) (c .before .runner .ensures) (rw (← c .before .before .before .before .before .before .before .before .before .before .before .pre .1) (c .before .before .before .wake-next .ensures (s .tasks))))))
 
 mul-free : tie.Need-mul-free
 mul-free c = search needs
@@ -36,7 +38,7 @@ plain-requires c κs = search needs
 
 returns-2 : tie.Need-returns-2
 unfolding semReleaseAt
-returns-2 c = λ s name serial live fifo. rw (← c .before .before .before .before .first-waiter .ensures) (pick-no _ _ _ (le-ltb _ _ (c .before .before .before .if1 .left)) (pick-yes _ _ _ (le-leb _ _ (c .before .if2 .taken)) (none-woken _ _ (c .before .before .before .before .before .before .pre .1) (plain-of _ _ _ _ (c .plain .ensures)))))
+returns-2 c = λ s name serial live fifo. rw (← c .before .before .before .before .first-waiter .ensures) (pick-yes _ _ _ (both _ _ (not-of-false _ (le-ltb _ _ (c .before .before .before .if1 .left))) (le-leb _ _ (c .before .if2 .taken))) (none-woken _ _ (c .before .before .before .before .before .before .pre .1) (plain-of _ _ _ _ (c .plain .ensures))))
 
 add-units : tie.Need-add-units
 add-units c = search needs
@@ -52,7 +54,7 @@ plain-requires-2 c κs = search needs
 
 returns-3 : tie.Need-returns-3
 unfolding semReleaseAt
-returns-3 c = λ s name serial live fifo. rw (← c .before .before .before .before .first-waiter .ensures) (pick-no _ _ _ (le-ltb _ _ (c .before .before .before .if1 .left)) (pick-no _ _ _ (lt-leb _ _ (c .before .if2 .left)) (none-woken _ _ (c .before .before .before .before .before .before .pre .1) (plain-of _ _ _ _ (c .plain2 .ensures)))))
+returns-3 c = λ s name serial live fifo. rw (← c .before .before .before .before .first-waiter .ensures) (pick-no _ _ _ (second-fails (not (ltb (c .before .before .before .before .first-waiter .result) 32)) _ (lt-leb _ _ (c .before .if2 .left))) (pick-no _ _ _ (le-ltb _ _ (c .before .before .before .if1 .left)) (none-woken _ _ (c .before .before .before .before .before .before .pre .1) (plain-of _ _ _ _ (c .plain2 .ensures)))))
 
 pub release-at-spec : {M : Type 1} → statement M
 release-at-spec =

@@ -1,5 +1,5 @@
 use Rattle.answers.proofs.Outcomes.{plain-moved}
-use borrow.Author.Tests.{lt-ltb, le-ltb}
+use borrow.Author.Tests.{le-leb, lt-leb}
 use Rattle.scope.specs.Semaphores.{semWaitAt}
 use Rattle.laws.proofs.Branches.{pick-yes, pick-no}
 use Rattle.answers.proofs.Outcomes.{plain-of}
@@ -19,7 +19,7 @@ plain-requires c κs = search needs
 -- src/lib.rt:77:9
 returns : tie.Need-returns
 unfolding semWaitAt
-returns c = λ s serial units live. pick-no _ _ _ (le-ltb _ _ (c .before .if1 .taken)) (plain-of _ _ _ _ (c .plain .ensures))
+returns c = λ s serial units live. pick-yes _ _ _ (le-leb _ _ (c .before .if1 .taken)) (plain-of _ _ _ _ (c .plain .ensures))
 
 -- src/lib.rt:79:33
 element-copy-out-wait : tie.Need-element-copy-out-wait
@@ -44,7 +44,7 @@ plain-requires-2 c κs = search needs
 -- src/lib.rt:63:1
 returns-2 : tie.Need-returns-2
 unfolding semWaitAt
-returns-2 c = λ s serial units live. pick-yes _ _ _ (lt-ltb _ _ (c .before .before .before .before .before .before .before .before .before .if1 .left)) (plain-moved _ _ _ _ _ _ _ _ _ (c .plain2 .ensures) (c .before .runner .ensures) (c .before .before .before .wait .ensures))
+returns-2 c = λ s serial units live. pick-no _ _ _ (lt-leb _ _ (c .before .before .before .before .before .before .before .before .before .if1 .left)) (plain-moved _ _ _ _ _ _ _ _ _ (c .plain2 .ensures) (c .before .runner .ensures) (c .before .before .before .wait .ensures))
 
 pub wait-at-spec : {M : Type 1} → statement M
 wait-at-spec =

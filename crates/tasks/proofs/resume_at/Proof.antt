@@ -1,7 +1,6 @@
 -- A task is resumed: 21 and 23 by its flags; a waiter goes on waiting, and any other becomes ready.
 -- Assumes nothing.
 use mathlib.Core.Path.{sym, _∙_}
-use borrow.Author.Tests.{not-true, not-false}
 use Rattle.laws.proofs.Branches.{pick-yes, pick-no}
 use Rattle.answers.proofs.Outcomes.{plain-of, plain-moved}
 use Rattle.scope.specs.Tasks.{taskResumeAt}
@@ -17,7 +16,7 @@ plain-requires c κs = search needs
 
 returns : tie.Need-returns
 unfolding taskResumeAt
-returns c = λ s serial live. pick-no _ _ _ (not-true _ (c .before .if1 .taken)) (plain-of _ _ _ _ (c .plain .ensures))
+returns c = λ s serial live. pick-yes _ _ _ (c .before .if1 .taken) (plain-of _ _ _ _ (c .plain .ensures))
 
 element-copy-out-if2 : tie.Need-element-copy-out-if2
 element-copy-out-if2 c = search needs
@@ -27,7 +26,7 @@ plain-requires-2 c κs = search needs
 
 returns-2 : tie.Need-returns-2
 unfolding taskResumeAt
-returns-2 c = λ s serial live. pick-yes _ _ _ (not-false _ (c .before .before .before .if1 .left)) (pick-no _ _ _ (not-true _ (c .before .if2 .taken)) (plain-of _ _ _ _ (c .plain2 .ensures)))
+returns-2 c = λ s serial live. pick-no _ _ _ (c .before .before .before .if1 .left) (pick-yes _ _ _ (c .before .if2 .taken) (plain-of _ _ _ _ (c .plain2 .ensures)))
 
 element-write-suspended : tie.Need-element-write-suspended
 element-write-suspended c = search needs
@@ -46,7 +45,7 @@ plain-requires-3 c κs = search needs
 
 returns-3 : tie.Need-returns-3
 unfolding taskResumeAt
-returns-3 c = λ s serial live. pick-yes _ _ _ (not-false _ (c .before .before .before .before .before .before .if1 .left)) (pick-yes _ _ _ (not-false _ (c .before .before .before .before .if2 .left)) (pick-yes _ _ _ (sym (c .before .before .waits-on .ensures) ∙ c .before .if3 .taken) (plain-of _ _ _ _ (c .plain3 .ensures))))
+returns-3 c = λ s serial live. pick-no _ _ _ (c .before .before .before .before .before .before .if1 .left) (pick-no _ _ _ (c .before .before .before .before .if2 .left) (pick-yes _ _ _ (sym (c .before .before .waits-on .ensures) ∙ c .before .if3 .taken) (plain-of _ _ _ _ (c .plain3 .ensures))))
 
 element-copy-out-ready : tie.Need-element-copy-out-ready
 element-copy-out-ready c = search needs
@@ -62,7 +61,7 @@ plain-requires-4 c κs = search needs
 
 returns-4 : tie.Need-returns-4
 unfolding taskResumeAt
-returns-4 c = λ s serial live. pick-yes _ _ _ (not-false _ (c .before .before .before .before .before .before .before .before .before .before .before .if1 .left)) (pick-yes _ _ _ (not-false _ (c .before .before .before .before .before .before .before .before .before .if2 .left)) (pick-no _ _ _ (sym (c .before .before .before .before .before .before .before .waits-on .ensures) ∙ c .before .before .before .before .before .before .if3 .left) (plain-moved _ _ _ _ _ _ _ _ _ (c .plain4 .ensures) (c .before .runner .ensures) (rw (c .before .before .before .ready .ensures)))))
+returns-4 c = λ s serial live. pick-no _ _ _ (c .before .before .before .before .before .before .before .before .before .before .before .if1 .left) (pick-no _ _ _ (c .before .before .before .before .before .before .before .before .before .if2 .left) (pick-no _ _ _ (sym (c .before .before .before .before .before .before .before .waits-on .ensures) ∙ c .before .before .before .before .before .before .if3 .left) (plain-moved _ _ _ _ _ _ _ _ _ (c .plain4 .ensures) (c .before .runner .ensures) (rw (c .before .before .before .ready .ensures)))))
 
 pub resume-at-spec : {M : Type 1} → statement M
 resume-at-spec =
