@@ -13,6 +13,7 @@ use lib.Seq.{length-take-le, drop-drop, paste, paste-suc, take-paste, drop-paste
 use Rattle.scope.specs.declared.State.{State}
 use Rattle.scope.specs.declared.Answer.{Answer}
 use Rattle.scope.specs.Script.{isScript, stepAt}
+use Rattle.scope.specs.Replies.{replyOf}
 use Rattle.scope.specs.Listing.{lineOf, linesFrom, refusedLine, listing}
 use Rattle.histories.specs.Sound.{Sound}
 use Rattle.laws.proofs.Branches.{lt-or-le}
@@ -36,7 +37,7 @@ lines-short script zero k at s ok = omega arith
 lines-short script (suc n) k at s ok =
     let a : Answer = stepAt script at s in
     let rest : List ℕ = linesFrom script n (suc k) (at + 28) (a .state) in
-    omega (arith, length-append (lineOf k a) rest, line-length k a (step-few script at s ok), lines-short script n (suc k) (at + 28) (a .state) (step-sound script at s ok))
+    omega (arith, length-append (lineOf k (replyOf a)) rest, line-length k a (step-few script at s ok), lines-short script n (suc k) (at + 28) (a .state) (step-sound script at s ok))
 
 pub come-short : (script : List ℕ) (p : Place) → Playing script p → length (toCome script p) ≤ 782 * p .left
 unfolding toCome

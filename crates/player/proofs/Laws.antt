@@ -18,6 +18,7 @@ use Rattle.scope.specs.Fresh.{freshState, fresh}
 use Rattle.scope.specs.Views.{runningTask}
 use Rattle.scope.specs.Step.{answered}
 use Rattle.scope.specs.Script.{number32, recordCount, firstOffset, firstPriority, isScript, stepAt}
+use Rattle.scope.specs.Replies.{replyOf}
 use Rattle.scope.specs.Listing.{lineOf, linesFrom, listing}
 use Rattle.laws.proofs.Branches.{both-true, picked-no, lt-or-le}
 use Rattle.answers.specs.declared.Outcome.{Outcome}
@@ -115,20 +116,20 @@ module _ (script : List ℕ) (at : ℕ) (s : State) (ok : Sound s) where
   pub step-few : stepAt script at s .woken ≤ 32
   step-few = subst (λ (r : Answer). r .woken ≤ 32) (step-is refl) (woken-few s _ _ _ _ _ _ _)
 
-line-some : (n : ℕ) (a : Answer) → 0 < length (lineOf n a)
+line-some : (n : ℕ) (a : Answer) → 0 < length (lineOf n (replyOf a))
 unfolding lineOf
 line-some n a = simp length-append (omega arith)
 
 -- one record: its line first, then those after it
 lines-are : (script : List ℕ) (n m k at : ℕ) (s : State) → m + 1 ≡ n
-    → linesFrom script n k at s ≡ lineOf k (stepAt script at s) ++ linesFrom script m (k + 1) (at + 28) (stepAt script at s .state)
+    → linesFrom script n k at s ≡ lineOf k (replyOf (stepAt script at s)) ++ linesFrom script m (k + 1) (at + 28) (stepAt script at s .state)
 unfolding linesFrom
 lines-are script n m k at s e = rw (← e, add-one m, add-one k)
 
 pub played : (script : List ℕ) (p : Place) (before out : List ℕ) (k : ℕ) (r : Part) (a : Answer) → Playing script p → 1 ≤ p .left
     → a ≡ stepAt script (p .at) (p .state) → k + 782 ≤ length before → length out ≡ length before
-    → r .written ≡ k + length (lineOf (p .number) a)
-    → take (r .written) out ≡ take k before ++ lineOf (p .number) a
+    → r .written ≡ k + length (lineOf (p .number) (replyOf a))
+    → take (r .written) out ≡ take k before ++ lineOf (p .number) (replyOf a)
     → r .place .left + 1 ≡ p .left → r .place .number ≡ p .number + 1 → r .place .at ≡ p .at + 28 → r .place .state ≡ a .state
     → r .place ≡ record { state = a .state; left = p .left - 1; number = p .number + 1; at = p .at + 28 }
     → Played script p before k out r
@@ -139,7 +140,7 @@ played script p before out k r a h some is room same written put left number at 
     record {
       put =
           rw (put, lines-are script (p .left) (r .place .left) (p .number) (p .at) (p .state) left, number, at, s, ← is)
-          (append-assoc (take k before) (lineOf (p .number) a) _);
+          (append-assoc (take k before) (lineOf (p .number) (replyOf a)) _);
       grows = omega (arith, written, line-some (p .number) a);
       room = omega (arith, written, line-length (p .number) a few);
       short = omega (arith, written, line-length (p .number) a few);
@@ -159,8 +160,8 @@ played script p before out k r a h some is room same written put left number at 
 -- what a line was put for is the record's answer
 pub line-told : (script : List ℕ) (at number k id : ℕ) (s n : State) (wakes : List ℕ) (o : Outcome) (before lines : List ℕ) (written : ℕ)
     → answerOf n wakes o ≡ stepAt script at s → id ≡ runningTask (nowRuns n (o .runs))
-    → (written ≡ k + length (lineOf number (told (nowRuns n (o .runs)) wakes o id)))
-    × (take written lines ≡ take k before ++ lineOf number (told (nowRuns n (o .runs)) wakes o id))
+    → (written ≡ k + length (lineOf number (replyOf (told (nowRuns n (o .runs)) wakes o id))))
+    × (take written lines ≡ take k before ++ lineOf number (replyOf (told (nowRuns n (o .runs)) wakes o id)))
     → LinePut script at number s before k (nowRuns n (o .runs)) lines written
 unfolding answerOf
 line-told script at number k id s n wakes o before lines written e f p =

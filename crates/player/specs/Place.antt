@@ -7,6 +7,7 @@ use lib.ListN.{length, take}
 use Rattle.scope.specs.Script.{recordCount, firstOffset, firstPriority, stepAt}
 use Rattle.scope.specs.Fresh.{freshState}
 use Rattle.scope.specs.declared.State.{State}
+use Rattle.scope.specs.Replies.{replyOf}
 use Rattle.scope.specs.Listing.{lineOf, linesFrom, listing}
 use Rattle.histories.specs.Sound.{Sound}
 use Rattle.player.specs.declared.Place.{Place}
@@ -47,8 +48,8 @@ pub record Begun (script : List ℕ) (p : Place) : Type 0 where
 -- the record at a place was played from state s, and its line put behind the first k bytes
 pub record LinePut (script : List ℕ) (at number : ℕ) (s : State) (before : List ℕ) (k : ℕ) (n : State) (lines : List ℕ) (written : ℕ) : Type 0 where
   pub state : n ≡ stepAt script at s .state
-  pub grown : written ≡ k + length (lineOf number (stepAt script at s))
-  pub put : take written lines ≡ take k before ++ lineOf number (stepAt script at s)
+  pub grown : written ≡ k + length (lineOf number (replyOf (stepAt script at s)))
+  pub put : take written lines ≡ take k before ++ lineOf number (replyOf (stepAt script at s))
 
 -- one record was played from place p, and its line put behind the first k bytes
 pub record Played (script : List ℕ) (p : Place) (before : List ℕ) (k : ℕ) (out : List ℕ) (r : Part) : Type 0 where

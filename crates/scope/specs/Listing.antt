@@ -10,6 +10,7 @@ use lib.Dec.{ltb}
 use Rattle.scope.specs.declared.State.{State}
 use Rattle.scope.specs.declared.Answer.{Answer}
 use Rattle.scope.specs.Choice.{pick}
+use Rattle.scope.specs.Replies.{Wake, Reply, replyOf}
 use Rattle.scope.specs.Fresh.{freshState}
 use Rattle.scope.specs.Script.{recordCount, firstOffset, firstPriority, isScript, stepAt}
 
@@ -30,22 +31,22 @@ signed negative n = pick negative (45 ∷ decimal n) (decimal n)
 abbrev pub field : List ℕ → List ℕ
 field bytes = 32 ∷ bytes
 
--- "wakes are `task:status` in order": places k, k + 1, .. (n of them) of the wake list
-unfoldable pub wakeFields : ℕ → ℕ → List ℕ → ℕ → List ℕ
-wakeFields zero k wakes why = []
-wakeFields (suc n) k wakes why = field (decimal (getD wakes k 0) ++ (58 ∷ decimal why)) ++ wakeFields n (suc k) wakes why
+-- "wakes are `task:status` in order"
+unfoldable pub wakeFields : List Wake → List ℕ
+wakeFields [] = []
+wakeFields (w ∷ ws) = field (decimal (w .task) ++ (58 ∷ decimal (w .status))) ++ wakeFields ws
 
--- "a newline after each line"
-unfoldable pub lineOf : ℕ → Answer → List ℕ
-lineOf record# a =
+-- A line tells what the answer tells, and nothing else of the state. "a newline after each line"
+unfoldable pub lineOf : ℕ → Reply → List ℕ
+lineOf record# r =
     decimal record#
-    ++ (field (decimal (a .status))
-    ++ (field (decimal (getD (a .values) 0 0))
-    ++ (field (signed (a .negative) (getD (a .values) 1 0))
-    ++ (field (decimal (getD (a .values) 2 0))
-    ++ (field (decimal (getD (a .values) 3 0))
-    ++ (field (decimal (a .running))
-    ++ (wakeFields (a .woken) 0 (a .wakes) (a .why)
+    ++ (field (decimal (r .status))
+    ++ (field (decimal (getD (r .values) 0 0))
+    ++ (field (signed (r .negative) (getD (r .values) 1 0))
+    ++ (field (decimal (getD (r .values) 2 0))
+    ++ (field (decimal (getD (r .values) 3 0))
+    ++ (field (decimal (r .running))
+    ++ (wakeFields (r .wakes)
     ++ (10 ∷ []))))))))
 
 -- "Records count from 1": the lines of n records from a place on, record k first
@@ -53,7 +54,7 @@ unfoldable pub linesFrom : List ℕ → ℕ → ℕ → ℕ → State → List �
 linesFrom script zero k at s = []
 linesFrom script (suc n) k at s =
     let a : Answer = stepAt script at s in
-    lineOf k a ++ linesFrom script n (suc k) (at + 28) (a .state)
+    lineOf k (replyOf a) ++ linesFrom script n (suc k) (at + 28) (a .state)
 
 -- "script refused" and a newline
 unfoldable pub refusedLine : List ℕ

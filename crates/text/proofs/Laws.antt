@@ -14,6 +14,7 @@ use lib.Seq.{take-suc-set, take-length, paste, paste-suc, take-paste}
 use borrow.Author.Tests.{lt-ltb, le-ltb}
 use Rattle.scope.specs.declared.Answer.{Answer}
 use Rattle.scope.specs.Choice.{pick}
+use Rattle.scope.specs.Replies.{wakesFrom, replyOf}
 use Rattle.scope.specs.Listing.{digits, decimal, signed, field, wakeFields, lineOf}
 use Rattle.laws.proofs.Branches.{lt-or-le}
 
@@ -122,7 +123,7 @@ wake task why = field (decimal task ++ (58 ∷ decimal why))
 
 -- a wake more stands behind those before it
 wakes-more : (n k j : ℕ) (wakes : List ℕ) (why : ℕ) → j ≡ k + n
-    → wakeFields (suc n) k wakes why ≡ wakeFields n k wakes why ++ wake (getD wakes j 0) why
+    → wakeFields (wakesFrom (suc n) k wakes why) ≡ wakeFields (wakesFrom n k wakes why) ++ wake (getD wakes j 0) why
 unfolding wakeFields
 wakes-more zero k j wakes why e =
     let q : k ≡ j = omega (arith, e) in
@@ -130,27 +131,27 @@ wakes-more zero k j wakes why e =
 wakes-more (suc n) k j wakes why e =
     let f : List ℕ = wake (getD wakes k 0) why in
     ap (λ (l : List ℕ). f ++ l) (wakes-more n (suc k) j wakes why (omega (arith, e)))
-    ∙ sym (append-assoc f (wakeFields n (suc k) wakes why) (wake (getD wakes j 0) why))
+    ∙ sym (append-assoc f (wakeFields (wakesFrom n (suc k) wakes why)) (wake (getD wakes j 0) why))
 
-pub put-wake-more : (x y z : List ℕ) (at k r n : ℕ) (wakes : List ℕ) (why : ℕ) → Put x y at k (wakeFields n 0 wakes why)
-    → Put y z k r (wake (getD wakes n 0) why) → Put x z at r (wakeFields (n + 1) 0 wakes why)
+pub put-wake-more : (x y z : List ℕ) (at k r n : ℕ) (wakes : List ℕ) (why : ℕ) → Put x y at k (wakeFields (wakesFrom n 0 wakes why))
+    → Put y z k r (wake (getD wakes n 0) why) → Put x z at r (wakeFields (wakesFrom (n + 1) 0 wakes why))
 put-wake-more x y z at k r n wakes why p q =
     rw (add-one n, wakes-more n 0 n wakes why (omega arith))
-    (put-then x y z at k r (wakeFields n 0 wakes why) (wake (getD wakes n 0) why) p q)
+    (put-then x y z at k r (wakeFields (wakesFrom n 0 wakes why)) (wake (getD wakes n 0) why) p q)
 
 wake-length : (task why : ℕ) → length (wake task why) ≤ 22
 wake-length task why =
     omega (arith, length-append (decimal task) (58 ∷ decimal why), decimal-length task, decimal-length why)
 
-pub wakes-length : (n k : ℕ) (wakes : List ℕ) (why : ℕ) → length (wakeFields n k wakes why) ≤ 22 * n
+pub wakes-length : (n k : ℕ) (wakes : List ℕ) (why : ℕ) → length (wakeFields (wakesFrom n k wakes why)) ≤ 22 * n
 unfolding wakeFields
 wakes-length zero k wakes why = omega arith
 wakes-length (suc n) k wakes why =
     let f : List ℕ = wake (getD wakes k 0) why in
-    omega (arith, length-append f (wakeFields n (suc k) wakes why), wake-length (getD wakes k 0) why, wakes-length n (suc k) wakes why)
+    omega (arith, length-append f (wakeFields (wakesFrom n (suc k) wakes why)), wake-length (getD wakes k 0) why, wakes-length n (suc k) wakes why)
 
 -- no line is longer than 782 bytes
-pub line-length : (number : ℕ) (a : Answer) → a .woken ≤ 32 → length (lineOf number a) ≤ 782
+pub line-length : (number : ℕ) (a : Answer) → a .woken ≤ 32 → length (lineOf number (replyOf a)) ≤ 782
 unfolding lineOf
 line-length number a h =
     simp length-append

@@ -8,6 +8,7 @@ ghost use lib.ListN.{length, take};
 ghost use Rattle.scope.specs.declared.State.{State};
 ghost use Rattle.scope.specs.Script.{number32, isScript};
 ghost use Rattle.text.specs.Records.{recordAt};
+ghost use Rattle.scope.specs.Replies.{wakesFrom, replyOf};
 ghost use Rattle.scope.specs.Listing.{decimal, signed, field, wakeFields, lineOf, refusedLine};
 ghost use Rattle.answers.specs.Outcomes.{told};
 
@@ -136,7 +137,7 @@ fn put_wake(out: &mut [u8], at: usize, task: u32, why: u32) -> usize
 // The same for the first `woken` of a wake list, in order.
 fn put_wakes(out: &mut [u8], at: usize, wakes: &[u32], woken: usize, why: u32) -> usize
     requires { ⌜ (at + 22 * woken ≤ length (now out)) × (woken ≤ length (now wakes)) ⌝ }
-    ensures { λ r. ⌜ (r ≡ at + length (wakeFields woken 0 (now (wakes .entry)) why)) × (take r (now (out .exit)) ≡ take at (now (out .entry)) ++ wakeFields woken 0 (now (wakes .entry)) why) ⌝ }
+    ensures { λ r. ⌜ (r ≡ at + length (wakeFields (wakesFrom woken 0 (now (wakes .entry)) why))) × (take r (now (out .exit)) ≡ take at (now (out .entry)) ++ wakeFields (wakesFrom woken 0 (now (wakes .entry)) why)) ⌝ }
 {
     let mut r = at;
     let mut k = 0;
@@ -161,7 +162,7 @@ pub fn put_line(
     running: u32,
 ) -> usize
     requires { ⌜ (at + 782 ≤ length (now out)) × (o .woken ≤ 32) ⌝ }
-    ensures { λ r. ⌜ ((s : State) → (r ≡ at + length (lineOf number (told s (now (wakes .entry)) o running))) × (take r (now (out .exit)) ≡ take at (now (out .entry)) ++ lineOf number (told s (now (wakes .entry)) o running))) ⌝ }
+    ensures { λ r. ⌜ ((s : State) → (r ≡ at + length (lineOf number (replyOf (told s (now (wakes .entry)) o running)))) × (take r (now (out .exit)) ≡ take at (now (out .entry)) ++ lineOf number (replyOf (told s (now (wakes .entry)) o running)))) ⌝ }
 {
     let values = o.values;
     let p0 = put_decimal(out, at, number);

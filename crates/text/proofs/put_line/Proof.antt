@@ -6,6 +6,7 @@ use mathlib.Core.Path.{_≡_, _∙_}
 use lib.ListN.{length}
 use denote.Ref.{now}
 use borrow.Author.Needs.{needs}
+use Rattle.scope.specs.Replies.{wakesFrom}
 use Rattle.scope.specs.Listing.{wakeFields, lineOf}
 use Rattle.text.proofs.Laws.{decimal-length, field-length, signed-field-length, wakes-length, room-after, put-then}
 use Rattle.text.proofs.put_line.Statement.{statement}
@@ -37,7 +38,7 @@ room-put-wakes : (c : tie.After-put-wakes) → c .put-wakes .result + 1 ≤ leng
 room-put-wakes c =
     let s = c .before .before .before .before .before .before .before .before .before .before .before .before .before .before .before .before .before .before .before .before .before .before .before .before .before .before .before .before .before .before .before .before .before in
     let o = s .args .o in
-    let l : length (wakeFields (o .woken) 0 (now (s .args .wakes)) (o .why)) ≤ 704 = omega (arith, wakes-length (o .woken) 0 (now (s .args .wakes)) (o .why), s .pre .1) in
+    let l : length (wakeFields (wakesFrom (o .woken) 0 (now (s .args .wakes)) (o .why))) ≤ 704 = omega (arith, wakes-length (o .woken) 0 (now (s .args .wakes)) (o .why), s .pre .1) in
     room-after 704 1 _ _ _ _ _ (c .put-wakes .ensures .0) l (c .put-wakes .kept .0) (room-put-field5 (c .before .before .before .before .before))
 
 put-decimal-requires : tie.Need-put-decimal-requires

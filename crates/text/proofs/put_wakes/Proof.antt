@@ -5,6 +5,7 @@ use native.Mathlib.Omega.{arith}
 use mathlib.Core.Path.{_≡_, refl, _∙_}
 use lib.ListN.{length}
 use borrow.Author.Needs.{needs}
+use Rattle.scope.specs.Replies.{wakesFrom}
 use Rattle.scope.specs.Listing.{wakeFields}
 use Rattle.laws.proofs.Arrays.{at-end}
 use Rattle.text.proofs.Laws.{Put, put-none, put-wake-more, wakes-length}
@@ -13,7 +14,7 @@ use Rattle.text.proofs.put_wakes.Tie as tie
 
 abbrev Inv-loop : tie.InvT-loop
 Inv-loop out₀ at wakes woken why r₀ k₀ out r k =
-    (k ≤ woken) × (length out ≡ length out₀) × Put out₀ out at r (wakeFields k 0 wakes why)
+    (k ≤ woken) × (length out ≡ length out₀) × Put out₀ out at r (wakeFields (wakesFrom k 0 wakes why))
 
 abbrev μ-loop : tie.MeasureT-loop
 μ-loop out₀ at wakes woken why r₀ k₀ out r k = woken - k
@@ -53,7 +54,7 @@ same-length c = c .before .loop .inv .1
 returns : tie.Need-returns Inv-loop μ-loop
 returns c =
     let a = c .before .before .before .before .args in
-    at-end (λ (n : ℕ). Put (a .out .now) (c .before .loop .out) (a .at) (c .before .loop .r) (wakeFields n 0 (a .wakes .now) (a .why))) (a .woken) (c .before .loop .k) (c .before .loop .inv .0) (c .loop-test .left) (c .before .loop .inv .2)
+    at-end (λ (n : ℕ). Put (a .out .now) (c .before .loop .out) (a .at) (c .before .loop .r) (wakeFields (wakesFrom n 0 (a .wakes .now) (a .why)))) (a .woken) (c .before .loop .k) (c .before .loop .inv .0) (c .loop-test .left) (c .before .loop .inv .2)
 
 pub put-wakes-spec : {M : Type 1} → statement M
 put-wakes-spec =
