@@ -3,3 +3,4 @@
 pub mod Past
 pub mod Waiting
 pub mod Held
+pub mod Link

@@ -25,3 +25,4 @@ pub mod Arriving
 pub mod Turns
 pub mod Order
 pub mod Never
+pub mod Scripts

@@ -3,3 +3,4 @@ pub mod History
 pub mod Books
 pub mod Refusals
 pub mod Order
+pub mod Scripts
