@@ -57,11 +57,15 @@ cases =
     ∷ case 5
     (call 14 (1 ∷ 0 ∷ 65 ∷ 1 ∷ 0 ∷ []) ∷ call 14 (1 ∷ 0 ∷ 64 ∷ 1 ∷ 0 ∷ []) ∷ call 19 (64 ∷ []) ∷ [])
     "1 14 0 0 0 0 64\n2 0 64 0 0 0 64\n3 0 64 64 1 0 64\n"
-    -- "time_out 0 status 3, and accepted with NOWAIT at count 1"; 1 and 65,535 are accepted, 65,536 not
+    -- "time_out 0 status 3, and accepted with NOWAIT at count 1"; at count 0 it is 10
     ∷ case 5
-    (call 8 (1 ∷ 3 ∷ 0 ∷ []) ∷ call 11 (64 ∷ 0 ∷ 0 ∷ []) ∷ call 11 (64 ∷ 1 ∷ 0 ∷ []) ∷ call 11 (64 ∷ 0 ∷ 1 ∷ [])
-    ∷ call 11 (64 ∷ 0 ∷ 65535 ∷ []) ∷ call 11 (64 ∷ 0 ∷ 65536 ∷ []) ∷ [])
-    "1 0 64 0 0 0 64\n2 3 0 0 0 0 64\n3 0 0 0 0 0 64\n4 0 0 0 0 0 64\n5 0 0 0 0 0 64\n6 3 0 0 0 0 64\n"
+    (call 8 (1 ∷ 1 ∷ 0 ∷ []) ∷ call 11 (64 ∷ 0 ∷ 0 ∷ []) ∷ call 13 (64 ∷ []) ∷ call 11 (64 ∷ 1 ∷ 0 ∷ [])
+    ∷ call 13 (64 ∷ []) ∷ call 11 (64 ∷ 1 ∷ 0 ∷ []) ∷ [])
+    "1 0 64 0 0 0 64\n2 3 0 0 0 0 64\n3 0 0 1 0 0 64\n4 0 0 0 0 0 64\n5 0 0 0 0 0 64\n6 10 0 0 0 0 64\n"
+    -- time_out 1 and 65,535 accepted, 65,536 status 3
+    ∷ case 5
+    (call 8 (1 ∷ 3 ∷ 0 ∷ []) ∷ call 11 (64 ∷ 0 ∷ 1 ∷ []) ∷ call 11 (64 ∷ 0 ∷ 65535 ∷ []) ∷ call 11 (64 ∷ 0 ∷ 65536 ∷ []) ∷ [])
+    "1 0 64 0 0 0 64\n2 0 0 0 0 0 64\n3 0 0 0 0 0 64\n4 3 0 0 0 0 64\n"
     -- "identifier 0 as semaphore status 4; a deleted identifier 5"; a live one 0
     ∷ case 5
     (call 12 (0 ∷ []) ∷ call 8 (1 ∷ 1 ∷ 0 ∷ []) ∷ call 12 (64 ∷ []) ∷ call 9 (64 ∷ []) ∷ call 12 (64 ∷ [])

@@ -1,0 +1,293 @@
+-- "A state that breaks a listed rule gets BAD_STATE": a good state, and for each sentence of 'Rules of a state', and each part that
+-- a sentence names, the good one with one change that breaks it. To add a state, add a row.
+-- Assumes nothing.
+use Prim.Native.Nat.{ℕ, zero, suc, _+_}
+use mathlib.Core.Bool.{Bool, true, false, not, _&&_}
+use mathlib.Core.List.{List, [], _∷_, _++_}
+use lib.ListN.{getD, set, replicate}
+use lib.Dec.{eqb}
+use Rattle.scope.specs.declared.State.{State}
+use Rattle.scope.specs.declared.Answer.{Answer}
+use Rattle.scope.specs.declared.Line.{Line}
+use Rattle.scope.specs.declared.Tasks.{Tasks}
+use Rattle.scope.specs.declared.Semaphores.{Semaphores}
+use Rattle.scope.specs.declared.Pools.{Pools}
+use Rattle.scope.specs.Seats.{queueSeats, ringSeats}
+use Rattle.scope.specs.Answers.{noWakes}
+use Rattle.scope.specs.Semaphores.{FOREVER}
+use Rattle.scope.specs.Statuses.{OK, BAD-STATE}
+use Rattle.scope.specs.Rules.{seatsRight, readyOrderRight, waitsRight, queuesSorted, countsRight, startsRight, tasksRight, semsRight, poolsRight, poolsApart, runningRight}
+use Rattle.scope.specs.Step.{stepped}
+use Rattle.cases.specs.Cases.{same}
+
+-- Tasks 0 and 1, of priority 5, are ready, and 0 runs; 2 waits for semaphore 0, with 2 ticks left, and behind it 3, which is
+-- suspended, for ever; 4 is suspended, 5 not started, and 6 is deleted.
+abbrev goodLine : Line
+goodLine =
+    record {
+      left = 0 ∷ 0 ∷ 2 ∷ FOREVER ∷ replicate 28 0;
+      seat = (ringSeats 5 + 1) ∷ (ringSeats 5 + 2) ∷ (queueSeats 0 + 1) ∷ (queueSeats 0 + 2) ∷ replicate 28 0;
+      joined = 0 ∷ 0 ∷ 8 ∷ 6 ∷ replicate 28 0;
+    }
+
+abbrev goodTasks : Tasks
+goodTasks =
+    record {
+      name = 0 ∷ 11 ∷ 12 ∷ 13 ∷ 14 ∷ 15 ∷ replicate 26 0;
+      serial = 1 ∷ 1 ∷ 1 ∷ 1 ∷ 1 ∷ 1 ∷ 2 ∷ replicate 25 0;
+      live = true ∷ true ∷ true ∷ true ∷ true ∷ true ∷ replicate 26 false;
+      started = true ∷ true ∷ true ∷ true ∷ true ∷ replicate 27 false;
+      suspended = false ∷ false ∷ false ∷ true ∷ true ∷ replicate 27 false;
+      priority = 5 ∷ 5 ∷ 8 ∷ 6 ∷ 3 ∷ 2 ∷ replicate 26 0;
+    }
+
+-- semaphore 0 has waiters, 1 is FIFO and has count 3, and 2 is deleted
+abbrev goodSemaphores : Semaphores
+goodSemaphores =
+    record {
+      name = 21 ∷ 22 ∷ replicate 14 0;
+      serial = 1 ∷ 1 ∷ 1 ∷ replicate 13 0;
+      units = 0 ∷ 3 ∷ replicate 14 0;
+      live = true ∷ true ∷ replicate 14 false;
+      fifo = false ∷ true ∷ replicate 14 false;
+    }
+
+-- pool 0 has three buffers, the first and the last of them out; pool 1 has 64 and begins where pool 0 ends; 2 is deleted
+abbrev goodPools : Pools
+goodPools =
+    record {
+      out = 5 ∷ replicate 7 0;
+      name = 31 ∷ 32 ∷ replicate 6 0;
+      address = 4096 ∷ 4196 ∷ replicate 6 0;
+      length = 100 ∷ 64 ∷ replicate 6 0;
+      size = 32 ∷ 1 ∷ replicate 6 0;
+      serial = 1 ∷ 1 ∷ 1 ∷ replicate 5 0;
+      live = true ∷ true ∷ replicate 6 false;
+      forced = false ∷ true ∷ replicate 6 false;
+    }
+
+abbrev pub good : State
+good = record { line = goodLine; tasks = goodTasks; semaphores = goodSemaphores; pools = goodPools; running = 0 }
+
+-- the good state with another line, other tasks, semaphores, pools, another running task
+abbrev aLine : Line → State
+aLine l = record { line = l; tasks = goodTasks; semaphores = goodSemaphores; pools = goodPools; running = 0 }
+
+abbrev aTable : Tasks → State
+aTable k = record { line = goodLine; tasks = k; semaphores = goodSemaphores; pools = goodPools; running = 0 }
+
+abbrev semaphores : Semaphores → State
+semaphores m = record { line = goodLine; tasks = goodTasks; semaphores = m; pools = goodPools; running = 0 }
+
+abbrev pools : Pools → State
+pools p = record { line = goodLine; tasks = goodTasks; semaphores = goodSemaphores; pools = p; running = 0 }
+
+abbrev runs : ℕ → State
+runs t = record { line = goodLine; tasks = goodTasks; semaphores = goodSemaphores; pools = goodPools; running = t }
+
+-- and with one number or one mark of task t changed
+abbrev left : ℕ → ℕ → State
+left t x = aLine (record { left = set (goodLine .left) t x; seat = goodLine .seat; joined = goodLine .joined })
+
+abbrev seat : ℕ → ℕ → State
+seat t x = aLine (record { left = goodLine .left; seat = set (goodLine .seat) t x; joined = goodLine .joined })
+
+abbrev joined : ℕ → ℕ → State
+joined t x = aLine (record { left = goodLine .left; seat = goodLine .seat; joined = set (goodLine .joined) t x })
+
+abbrev tasksWith : List ℕ → List ℕ → List Bool → List Bool → List Bool → List ℕ → State
+tasksWith name serial live started suspended priority =
+    aTable (record { name = name; serial = serial; live = live; started = started; suspended = suspended; priority = priority })
+
+abbrev taskName : ℕ → ℕ → State
+taskName t x =
+    tasksWith (set (goodTasks .name) t x) (goodTasks .serial) (goodTasks .live) (goodTasks .started) (goodTasks .suspended) (goodTasks .priority)
+
+abbrev taskSerial : ℕ → ℕ → State
+taskSerial t x =
+    tasksWith (goodTasks .name) (set (goodTasks .serial) t x) (goodTasks .live) (goodTasks .started) (goodTasks .suspended) (goodTasks .priority)
+
+abbrev taskLive : ℕ → Bool → State
+taskLive t b =
+    tasksWith (goodTasks .name) (goodTasks .serial) (set (goodTasks .live) t b) (goodTasks .started) (goodTasks .suspended) (goodTasks .priority)
+
+abbrev started : ℕ → Bool → State
+started t b =
+    tasksWith (goodTasks .name) (goodTasks .serial) (goodTasks .live) (set (goodTasks .started) t b) (goodTasks .suspended) (goodTasks .priority)
+
+abbrev suspended : ℕ → Bool → State
+suspended t b =
+    tasksWith (goodTasks .name) (goodTasks .serial) (goodTasks .live) (goodTasks .started) (set (goodTasks .suspended) t b) (goodTasks .priority)
+
+abbrev priority : ℕ → ℕ → State
+priority t x =
+    tasksWith (goodTasks .name) (goodTasks .serial) (goodTasks .live) (goodTasks .started) (goodTasks .suspended) (set (goodTasks .priority) t x)
+
+-- of semaphore i
+abbrev semaphoresWith : List ℕ → List ℕ → List ℕ → List Bool → List Bool → State
+semaphoresWith name serial units live fifo = semaphores (record { name = name; serial = serial; units = units; live = live; fifo = fifo })
+
+abbrev semName : ℕ → ℕ → State
+semName i x =
+    semaphoresWith (set (goodSemaphores .name) i x) (goodSemaphores .serial) (goodSemaphores .units) (goodSemaphores .live) (goodSemaphores .fifo)
+
+abbrev semSerial : ℕ → ℕ → State
+semSerial i x =
+    semaphoresWith (goodSemaphores .name) (set (goodSemaphores .serial) i x) (goodSemaphores .units) (goodSemaphores .live) (goodSemaphores .fifo)
+
+abbrev units : ℕ → ℕ → State
+units i x =
+    semaphoresWith (goodSemaphores .name) (goodSemaphores .serial) (set (goodSemaphores .units) i x) (goodSemaphores .live) (goodSemaphores .fifo)
+
+abbrev semLive : ℕ → Bool → State
+semLive i b =
+    semaphoresWith (goodSemaphores .name) (goodSemaphores .serial) (goodSemaphores .units) (set (goodSemaphores .live) i b) (goodSemaphores .fifo)
+
+abbrev fifo : ℕ → Bool → State
+fifo i b =
+    semaphoresWith (goodSemaphores .name) (goodSemaphores .serial) (goodSemaphores .units) (goodSemaphores .live) (set (goodSemaphores .fifo) i b)
+
+-- of pool i: its marks and its name; its area and its buffer size; its serial and its option
+abbrev poolsWith : List ℕ → List ℕ → List ℕ → List ℕ → List ℕ → List ℕ → List Bool → State
+poolsWith out name address length size serial forced =
+    pools
+    (record {
+      out = out;
+      name = name;
+      address = address;
+      length = length;
+      size = size;
+      serial = serial;
+      live = goodPools .live;
+      forced = forced;
+    })
+
+abbrev marked : ℕ → ℕ → State
+marked i x =
+    poolsWith (set (goodPools .out) i x) (goodPools .name) (goodPools .address) (goodPools .length) (goodPools .size) (goodPools .serial) (goodPools .forced)
+
+abbrev poolName : ℕ → ℕ → State
+poolName i x =
+    poolsWith (goodPools .out) (set (goodPools .name) i x) (goodPools .address) (goodPools .length) (goodPools .size) (goodPools .serial) (goodPools .forced)
+
+abbrev address : ℕ → ℕ → State
+address i x =
+    poolsWith (goodPools .out) (goodPools .name) (set (goodPools .address) i x) (goodPools .length) (goodPools .size) (goodPools .serial) (goodPools .forced)
+
+abbrev long : ℕ → ℕ → State
+long i x =
+    poolsWith (goodPools .out) (goodPools .name) (goodPools .address) (set (goodPools .length) i x) (goodPools .size) (goodPools .serial) (goodPools .forced)
+
+abbrev size : ℕ → ℕ → State
+size i x =
+    poolsWith (goodPools .out) (goodPools .name) (goodPools .address) (goodPools .length) (set (goodPools .size) i x) (goodPools .serial) (goodPools .forced)
+
+abbrev poolSerial : ℕ → ℕ → State
+poolSerial i x =
+    poolsWith (goodPools .out) (goodPools .name) (goodPools .address) (goodPools .length) (goodPools .size) (set (goodPools .serial) i x) (goodPools .forced)
+
+abbrev forced : ℕ → Bool → State
+forced i b =
+    poolsWith (goodPools .out) (goodPools .name) (goodPools .address) (goodPools .length) (goodPools .size) (goodPools .serial) (set (goodPools .forced) i b)
+
+-- a rule, and states that break it
+pub record Broken : Type 0 where
+  pub rule : State → Bool
+  pub states : List State
+
+abbrev breaks : (State → Bool) → List State → Broken
+breaks rule states = record { rule = rule; states = states }
+
+abbrev pub broken : List Broken
+broken =
+    -- each task stands once: a seat is taken twice, in the ready order and in a queue; there is a gap, in each; a place before
+    -- the first
+    breaks (λ s. seatsRight (s .line .seat))
+    (seat 1 (ringSeats 5 + 1) ∷ seat 3 (queueSeats 0 + 1) ∷ seat 1 (ringSeats 5 + 3) ∷ seat 3 (queueSeats 0 + 3)
+    ∷ seat 1 (ringSeats 5) ∷ [])
+    -- "The ready order holds each ready task once": one is missing; "and no other": one suspended, one not started, one deleted;
+    -- "priorities never rising along it": one stands among those of a lower priority, and one has got another
+    ∷ breaks (λ s. readyOrderRight (s .line) (s .tasks))
+    (seat 1 0 ∷ seat 4 (ringSeats 3 + 1) ∷ seat 5 (ringSeats 2 + 1) ∷ seat 6 (ringSeats 0 + 1)
+    ∷ seat 1 (ringSeats 4 + 1) ∷ priority 1 4 ∷ [])
+    -- "Each waiting task stands once in one live semaphore's queue": a deleted semaphore's, one past the last, none;
+    -- "with a time_out left of 1 to 65,535 or FOREVER, and its joining priority": 0, 65,536, priority 16;
+    -- "the waiting fields of a task that doesn't wait": of one ready, one suspended, one not started, one deleted
+    ∷ breaks (λ s. waitsRight (s .line) (s .semaphores .live))
+    (seat 3 (queueSeats 2 + 1) ∷ seat 3 (queueSeats 16 + 1) ∷ seat 3 1 ∷ semLive 0 false
+    ∷ left 2 0 ∷ left 2 65536 ∷ joined 2 16
+    ∷ left 0 1 ∷ joined 0 1 ∷ left 4 FOREVER ∷ joined 5 2 ∷ left 6 1 ∷ [])
+    -- "those not FIFO never rise in joining priority"
+    ∷ breaks (λ s. queuesSorted (s .line) (s .semaphores .fifo)) (joined 3 9 ∷ [])
+    -- "A queue with n tasks, n above 0, has count −n": units beside waiters; "an empty queue has count 0 to 32,767": 32,768
+    ∷ breaks (λ s. countsRight (s .line) (s .semaphores)) (units 0 1 ∷ units 1 32768 ∷ [])
+    -- "Tasks not started neither wait nor are suspended."
+    ∷ breaks (λ s. startsRight (s .line) (s .tasks)) (started 2 false ∷ suspended 5 true ∷ [])
+    -- "Serials, priorities and options are in range.": live with serial 0, priority 16; "A slot without a live object holds its
+    -- last serial (0 if none) and otherwise zeros": a name, started, suspended, a priority, all that task 4 had
+    ∷ breaks (λ s. tasksRight (s .tasks))
+    (taskSerial 5 0 ∷ priority 5 16 ∷ taskName 6 1 ∷ started 6 true ∷ suspended 6 true ∷ priority 6 1 ∷ taskLive 4 false ∷ [])
+    -- the same for semaphores
+    ∷ breaks (λ s. semsRight (s .semaphores)) (semSerial 1 0 ∷ semName 2 1 ∷ fifo 2 true ∷ units 2 1 ∷ semLive 1 false ∷ [])
+    -- the same for pools; "Each live pool is one that creation admits": an area without length, one past the end, buffers of size
+    -- 0, no buffer, 65 buffers; "marks of buffers past a pool's number"
+    ∷ breaks (λ s. poolsRight (s .pools))
+    (poolSerial 1 0 ∷ marked 2 1 ∷ poolName 2 1 ∷ address 2 1 ∷ long 2 1 ∷ size 2 1 ∷ forced 2 true
+    ∷ long 0 0 ∷ address 1 4294967233 ∷ size 0 0 ∷ size 0 101 ∷ long 1 65 ∷ marked 0 8 ∷ [])
+    -- "no two live pools share a byte": the last one of pool 0
+    ∷ breaks (λ s. poolsApart (s .pools)) (address 1 4195 ∷ [])
+    -- "The ready order lists ready tasks; its first runs": another is kept as running, or none
+    ∷ breaks runningRight (runs 1 ∷ runs 32 ∷ [])
+    ∷ []
+
+abbrev pub sameMarks : List Bool → List Bool → Bool
+sameMarks [] [] = true
+sameMarks [] (y ∷ ys) = false
+sameMarks (x ∷ xs) [] = false
+sameMarks (true ∷ xs) (y ∷ ys) = y && sameMarks xs ys
+sameMarks (false ∷ xs) (y ∷ ys) = not y && sameMarks xs ys
+
+-- "the given state back"
+abbrev pub sameState : State → State → Bool
+sameState s r =
+    same (s .line .left) (r .line .left) && (same (s .line .seat) (r .line .seat) && (same (s .line .joined) (r .line .joined)
+    && (same (s .tasks .name) (r .tasks .name) && (same (s .tasks .serial) (r .tasks .serial)
+    && (sameMarks (s .tasks .live) (r .tasks .live) && (sameMarks (s .tasks .started) (r .tasks .started)
+    && (sameMarks (s .tasks .suspended) (r .tasks .suspended) && (same (s .tasks .priority) (r .tasks .priority)
+    && (same (s .semaphores .name) (r .semaphores .name) && (same (s .semaphores .serial) (r .semaphores .serial)
+    && (same (s .semaphores .units) (r .semaphores .units) && (sameMarks (s .semaphores .live) (r .semaphores .live)
+    && (sameMarks (s .semaphores .fifo) (r .semaphores .fifo) && (same (s .pools .out) (r .pools .out)
+    && (same (s .pools .name) (r .pools .name) && (same (s .pools .address) (r .pools .address)
+    && (same (s .pools .length) (r .pools .length) && (same (s .pools .size) (r .pools .size)
+    && (same (s .pools .serial) (r .pools .serial) && (sameMarks (s .pools .live) (r .pools .live)
+    && (sameMarks (s .pools .forced) (r .pools .forced) && eqb (s .running) (r .running))))))))))))))))))))))
+
+-- BAD_STATE: "four zero values, an empty wake list, and the given state back; its running task is .. 0 with BAD_STATE"
+abbrev pub isRefusal : State → Answer → Bool
+isRefusal s a =
+    eqb (a .status) BAD-STATE && (same (a .values) (0 ∷ 0 ∷ 0 ∷ 0 ∷ []) && (not (a .negative)
+    && (eqb (a .woken) 0 && (eqb (a .why) 0 && (same (a .wakes) noWakes
+    && (eqb (a .running) 0 && sameState s (a .state)))))))
+
+-- the rule is broken, and a tick is so refused
+abbrev pub allRefused : (State → Bool) → List State → Bool
+allRefused rule [] = true
+allRefused rule (s ∷ ss) = not (rule s) && (isRefusal s (stepped s 0 1 0 0 0 0 0) && allRefused rule ss)
+
+abbrev pub allBroken : List Broken → Bool
+allBroken [] = true
+allBroken (b ∷ bs) = allRefused (b .rule) (b .states) && allBroken bs
+
+-- calls n - 1 to 0, from the running task and from an interrupt, are all so refused on state s
+abbrev pub allCalls : ℕ → State → Bool
+allCalls zero s = true
+allCalls (suc n) s =
+    isRefusal s (stepped s n 0 64 0 1 1 0) && (isRefusal s (stepped s n 1 64 0 1 1 0) && allCalls n s)
+
+-- the good state gets no BAD_STATE: a tick is accepted
+abbrev pub accepted : State → Bool
+accepted s = eqb (stepped s 0 1 0 0 0 0 0 .status) OK
+
+-- the state that the calls are tried on: task 1 stands where task 0 does
+abbrev pub oneBroken : State
+oneBroken = seat 1 (ringSeats 5 + 1)
