@@ -1,1 +1,6 @@
 pub mod Link
+pub mod HeldLists
+pub mod HeldMarks
+pub mod HeldTurns
+pub mod HeldAgrees
+pub mod HeldSteps
