@@ -15,6 +15,7 @@ use Rattle.scope.specs.declared.State.{State}
 use Rattle.scope.specs.declared.Answer.{Answer}
 use Rattle.scope.specs.declared.Pools.{Pools}
 use Rattle.scope.specs.declared.Found.the-variants.{At}
+use Rattle.scope.specs.Lists.{without}
 use Rattle.scope.specs.Statuses.{OK}
 use Rattle.scope.specs.Identifiers.{identifier, lowestUsable}
 use Rattle.scope.specs.Areas.{isArea, isSize, isOut, isFree, lowestFree, bufferAddress, bufferAt}
@@ -33,9 +34,10 @@ use Rattle.histories.proofs.Pools.{row-says}
 use Rattle.histories.proofs.Tables.{later-gone, came-kept, came-born, born-found}
 use Rattle.histories.proofs.Answered.{by-name, by-number}
 use Rattle.histories.proofs.Alone.{SamePools, pools-alone}
-use Rattle.books.specs.Past.{Turn}
-use Rattle.books.proofs.HeldMarks.{listed-none, listed-get, listed-ret}
-use Rattle.books.proofs.HeldTurns.{turnOf, Quiet, is-answer, not-call, is-of, not-answer, makes, quiet-refused, quiet-call, quiet-other, quiet-create}
+use Rattle.books.specs.Past.{Turn, isAnswerOf, creates}
+use Rattle.books.specs.Held.{held}
+use Rattle.books.proofs.HeldMarks.{Listed, listed-none, listed-get, listed-ret}
+use Rattle.books.proofs.HeldTurns.{turnOf, Quiet, is-answer, not-call, is-of, not-answer, makes, not-makes, address-same, length-same, size-same, forced-same, lives-same, quiet-refused, quiet-call, quiet-other, quiet-create}
 use Rattle.books.proofs.HeldAgrees.{NamedAt, Holds, Nothing, Agrees, SameRow, slot-or-none, one-name, still-named, listed-at, holds-same, nothing-same}
 
 module _ (s : State) (ok : Sound s) (past : List Turn) (agrees : Agrees (s .pools) past) (x : Event) where
@@ -148,3 +150,238 @@ module _ (s : State) (ok : Sound s) (past : List Turn) (agrees : Agrees (s .pool
               nothing-same p born past creation id (quiet-new id (λ e. d i (subst (λ (y : ℕ). NamedAt born y i) e new-named)))
               (agrees .dead id (λ j e. d j (old-named id j e)));
         }
+
+  -- the pool that the call names, in slot i
+  module _ (i : ℕ) (names : NamedAt p (x .a) i) where
+    -- another identifier is another slot's
+    other-slot : (id j : ℕ) → NamedAt p id j → (x .a ≡ id → ⊥) → j ≡ i → ⊥
+    other-slot id j e ne d = ne (one-name p (x .a) id i names (subst (λ (k : ℕ). NamedAt p id k) d e))
+
+    own-slot : (id j : ℕ) → NamedAt p id j → x .a ≡ id → i ≡ j
+    own-slot id j e d =
+        omega (arith, found-slot (p .serial) (p .live) id e, found-slot (p .serial) (p .live) (x .a) names)
+
+    -- it is deleted
+    module _ (at : x .call ≡ 15) where
+      abbrev gone : Pools
+      gone = poolGone p i
+
+      abbrev deletion : Turn
+      deletion = turnOf x (plain (withPools s gone) OK)
+
+      gone-held : Nothing (deletion ∷ past) (x .a)
+      unfolding plain answer
+      gone-held =
+          let a : Answer = plain (withPools s gone) OK in
+          let d = is-of 15 (x .a) deletion (is-answer 15 x a at refl) refl in
+          record {
+            lives = picked-no _ _ _ (not-makes 14 (x .a) deletion (not-call 14 x a (λ e. omega arith))) ∙ picked-yes _ _ _ d;
+            held = picked-yes _ _ _ d;
+          }
+
+      was-named : (id j : ℕ) → NamedAt gone id j → NamedAt p id j
+      was-named id j e =
+          came-kept (p .serial) (p .live) (later-gone (p .serial) (p .live) i (omega (arith, slot (x .a) i names, ok .pools .lives))) id j e
+
+      not-own : (id j : ℕ) → NamedAt gone id j → x .a ≡ id → ⊥
+      not-own id j e d =
+          true-false
+          (ap (λ (k : ℕ). getD (gone .live) k false) (own-slot id j (was-named id j e) d) ∙ found-live (gone .serial) (gone .live) id e)
+          (getD-set-same (p .live) i false false (omega (arith, slot (x .a) i names, ok .pools .lives)))
+
+      gone-agrees : Agrees gone (deletion ∷ past)
+      gone-agrees =
+          record {
+            live = λ id j e.
+                let b : NamedAt p id j = was-named id j e in
+                let ne : j ≡ i → ⊥ = other-slot id j b (not-own id j e) in
+                holds-same p gone past deletion id (quiet id (not-own id j e)) j
+                (record {
+                  address = getD-set-other (p .address) i j 0 0 ne;
+                  long = getD-set-other (p .length) i j 0 0 ne;
+                  size = getD-set-other (p .size) i j 0 0 ne;
+                  forced = getD-set-other (p .forced) i j false false ne;
+                  out = getD-set-other (p .out) i j 0 0 ne;
+                })
+                (agrees .live id j b);
+            dead = λ id d.
+                ⊎-elim
+                (λ e. subst (Nothing (deletion ∷ past)) e gone-held)
+                (λ ne. nothing-same p gone past deletion id (quiet id ne) (agrees .dead id (λ j e. d j (still id j e ne))))
+                (eq-or-not (x .a) id);
+          }
+        where
+          quiet : (id : ℕ) → (x .a ≡ id → ⊥) → Quiet id deletion
+          quiet id ne = quiet-other id x (plain (withPools s gone) OK) (λ e. omega arith) ne
+
+          still : (id j : ℕ) → NamedAt p id j → (x .a ≡ id → ⊥) → NamedAt gone id j
+          still id j e ne =
+              still-named p gone id j e refl refl
+              (getD-set-other (p .live) i j false false (other-slot id j e ne) ∙ found-live (p .serial) (p .live) id e)
+
+    -- its marks change, and its list with them
+    module _ (marks : ℕ) (t : Turn) (quiet : (id : ℕ) → (x .a ≡ id → ⊥) → Quiet id t) (made : creates 14 (x .a) t ≡ false)
+        (gone : isAnswerOf 15 (x .a) OK t ≡ false)
+        (listed : Listed (getD (p .address) i 0) (getD (p .size) i 0) (poolBuffers p i) marks (held (t ∷ past) (x .a))) where
+      abbrev changed : Pools
+      changed = withOut p i marks
+
+      marks-hold : Holds changed (t ∷ past) (x .a) i
+      marks-hold =
+          let h : Holds p past (x .a) i = agrees .live (x .a) i names in
+          record {
+            lives = lives-same (x .a) t past made gone ∙ h .lives;
+            address = address-same (x .a) t past made ∙ h .address;
+            long = length-same (x .a) t past made ∙ h .long;
+            size = size-same (x .a) t past made ∙ h .size;
+            forced = forced-same (x .a) t past made ∙ h .forced;
+            listed =
+                listed-at _ _ _ _ _ _ _ _ _ _ refl refl refl
+                (getD-set-same (p .out) i marks 0 (omega (arith, slot (x .a) i names, ok .pools .outs)))
+                refl listed;
+          }
+
+      marks-agree : Agrees changed (t ∷ past)
+      marks-agree =
+          record {
+            live = λ id j e.
+                ⊎-elim
+                (λ d. subst (λ (y : ℕ). Holds changed (t ∷ past) y j) d
+                (subst (λ (k : ℕ). Holds changed (t ∷ past) (x .a) k) (own-slot id j e d) marks-hold))
+                (λ ne. holds-same p changed past t id (quiet id ne) j
+                (record {
+                  address = refl;
+                  long = refl;
+                  size = refl;
+                  forced = refl;
+                  out = getD-set-other (p .out) i j marks 0 (other-slot id j e ne);
+                })
+                (agrees .live id j e))
+                (eq-or-not (x .a) id);
+            dead = λ id d.
+                nothing-same p changed past t id (quiet id (λ e. d i (subst (λ (y : ℕ). NamedAt p y i) e names))) (agrees .dead id d);
+          }
+
+    abbrev out : ℕ
+    out = getD (p .out) i 0
+
+    abbrev bufferOf : ℕ → ℕ
+    bufferOf = bufferAddress (getD (p .address) i 0) (getD (p .size) i 0)
+
+    row : (isArea (getD (p .address) i 0) (getD (p .length) i 0) ≡ true) × (isSize (getD (p .length) i 0) (getD (p .size) i 0) ≡ true) × (out < 2 ^ poolBuffers p i)
+    row = row-says p (ok .pools) i (slot (x .a) i names) (found-live (p .serial) (p .live) (x .a) names)
+
+    -- buffer k, which was free, is got
+    module _ (at : x .call ≡ 17) (k : ℕ) (below : k < poolBuffers p i) (free : isFree out k ≡ true) where
+      abbrev got : Answer
+      got = gives (withPools s (withOut p i (out + 2 ^ k))) (bufferOf k)
+
+      got-held : held (turnOf x got ∷ past) (x .a) ≡ bufferOf k ∷ held past (x .a)
+      unfolding gives answer
+      got-held =
+          picked-no _ _ _ (not-answer 15 (x .a) (turnOf x got) (not-call 15 x got (λ e. omega arith)))
+          ∙ picked-yes _ _ _ (is-of 17 (x .a) (turnOf x got) (is-answer 17 x got at refl) refl)
+
+      got-agrees : Fair got
+      unfolding gives answer
+      got-agrees =
+          marks-agree (out + 2 ^ k) (turnOf x got) (λ id ne. quiet-other id x got (λ e. omega arith) ne)
+          (not-makes 14 (x .a) (turnOf x got) (not-call 14 x got (λ e. omega arith)))
+          (not-answer 15 (x .a) (turnOf x got) (not-call 15 x got (λ e. omega arith)))
+          (listed-at _ _ _ _ _ _ _ _ _ _ refl refl refl refl got-held
+          (listed-get _ (getD (p .length) i 0) _ (row .0) (row .1) out (held past (x .a)) (agrees .live (x .a) i names .listed) k below free))
+
+    -- buffer k, which was out, is returned by its address
+    module _ (at : x .call ≡ 18) (k : ℕ) (below : k < poolBuffers p i) (marked : isOut out k ≡ true) (named : bufferOf k ≡ x .b) where
+      abbrev returned : Answer
+      returned = plain (withPools s (withOut p i (out - 2 ^ k))) OK
+
+      returned-held : held (turnOf x returned ∷ past) (x .a) ≡ without (bufferOf k) (held past (x .a))
+      unfolding plain answer
+      returned-held =
+          picked-no _ _ _ (not-answer 15 (x .a) (turnOf x returned) (not-call 15 x returned (λ e. omega arith)))
+          ∙ picked-no _ _ _ (not-answer 17 (x .a) (turnOf x returned) (not-call 17 x returned (λ e. omega arith)))
+          ∙ picked-yes _ _ _ (is-of 18 (x .a) (turnOf x returned) (is-answer 18 x returned at refl) refl)
+          ∙ ap (λ (y : ℕ). without y (held past (x .a))) (sym named)
+
+      returned-agrees : Fair returned
+      unfolding plain answer
+      returned-agrees =
+          marks-agree (out - 2 ^ k) (turnOf x returned) (λ id ne. quiet-other id x returned (λ e. omega arith) ne)
+          (not-makes 14 (x .a) (turnOf x returned) (not-call 14 x returned (λ e. omega arith)))
+          (not-answer 15 (x .a) (turnOf x returned) (not-call 15 x returned (λ e. omega arith)))
+          (listed-at _ _ _ _ _ _ _ _ _ _ refl refl refl refl returned-held
+          (listed-ret _ (getD (p .length) i 0) _ (row .0) (row .1) out (held past (x .a)) (agrees .live (x .a) i names .listed) k below marked))
+
+    gone-fair : x .call ≡ 15 → Fair (plain (withPools s (poolGone p i)) OK)
+    unfolding plain answer
+    gone-fair at = gone-agrees at
+
+    -- each call on a pool, by its choices
+    delete-at : x .call ≡ 15 → Fair (poolDeleteAt s i)
+    unfolding poolDeleteAt
+    delete-at at = by-choice Fair _ (λ e. plain-fair _ refl) (λ e. gone-fair at)
+
+    get-at : x .call ≡ 17 → Fair (poolGetBuffAt s i)
+    unfolding poolGetBuffAt poolGetBuffer lowestFree
+    get-at at =
+        by-choice Fair _ (λ e. plain-fair _ refl)
+        (λ e. let h = leb-false (poolBuffers p i) _ e in got-agrees at _ h (least-true (isFree out) (poolBuffers p i) h))
+
+    -- the buffer that an address names, where it is out
+    abbrev at-address : ℕ
+    at-address = bufferAt (getD (p .address) i 0) (getD (p .size) i 0) (poolBuffers p i) (x .b)
+
+    address-is : at-address < 64 → (at-address < poolBuffers p i) × (bufferOf at-address ≡ x .b)
+    address-is h = found-is _ (getD (p .length) i 0) _ (row .0) (row .1) (poolBuffers p i) (omega arith) (x .b) h
+
+    ret-at : x .call ≡ 18 → Fair (poolRetBuffAt s (x .b) i)
+    unfolding poolRetBuffAt poolRetBuffer
+    ret-at at =
+        by-choice Fair _
+        (λ e. let b = both-true (ltb at-address 64) (isOut out at-address) e in
+        let f = address-is (ltb-true at-address 64 (b .0)) in
+        returned-agrees at at-address (f .0) (b .1) (f .1))
+        (λ e. plain-fair _ refl)
+
+  lowest-free : lowestUsable (p .serial) (p .live) < 8 → getD (p .live) (lowestUsable (p .serial) (p .live)) false ≡ false
+  lowest-free h = usable-free (p .serial) (p .live) _ (usable-at (p .serial) (p .live) (omega (arith, h, ok .pools .serials)))
+
+  born-fair : (at : x .call ≡ 14) (i : ℕ) (room : i < 8) → getD (p .live) i false ≡ false
+      → Fair (gives (withPools s (poolBorn p i (x .a) (x .b) (x .c) (x .d) (eqb (x .e) 1))) (identifier (getD (p .serial) i 0 + 1) i))
+  unfolding gives answer
+  born-fair at i room free = born-agrees at i room free
+
+  create-at : x .call ≡ 14 → (i : ℕ) → (i < 8 → getD (p .live) i false ≡ false) → Fair (poolCreateAt s (x .a) (x .b) (x .c) (x .d) (x .e) i)
+  unfolding poolCreateAt
+  create-at at i free =
+      by-choice Fair _ (λ e. plain-fair _ refl)
+      (λ e. by-choice Fair _ (λ f. plain-fair _ refl) (λ f. let h : i < 8 = leb-false 8 i e in born-fair at i h (free h)))
+
+  create-fair : x .call ≡ 14 → Fair (poolCreate s (x .a) (x .b) (x .c) (x .d) (x .e))
+  unfolding poolCreate
+  create-fair at =
+      by-choice Fair _
+      (λ e. by-choice Fair _
+      (λ f. by-choice Fair _ (λ g. plain-fair _ refl) (λ g. create-at at _ lowest-free))
+      (λ f. plain-fair _ refl))
+      (λ e. plain-fair _ refl)
+
+  -- every answer keeps the agreement
+  pub turn-agrees : Agrees (answerTo s x .state .pools) (turnOf x (answerTo s x) ∷ past)
+  turn-agrees =
+      ⊎-elim (λ e. own 14 e (create-fair e))
+      (λ n14. ⊎-elim (λ e. own 15 e (named (poolDeleteAt s) (λ i d. delete-at i d e)))
+      (λ n15. ⊎-elim (λ e. own 17 e (named (poolGetBuffAt s) (λ i d. get-at i d e)))
+      (λ n17. ⊎-elim (λ e. own 18 e (named (poolRetBuffAt s (x .b)) (λ i d. ret-at i d e)))
+      (λ n18. same (answerTo s x) (pools-alone s x (n14, n15, n17, n18)) (λ id. quiet-call id x (answerTo s x) n14 n15 n17 n18))
+      (eq-or-not (x .call) 18))
+      (eq-or-not (x .call) 17))
+      (eq-or-not (x .call) 15))
+      (eq-or-not (x .call) 14)
+    where
+      own : (k : ℕ) → x .call ≡ k → Fair (callAt k .does s (x .a) (x .b) (x .c) (x .d) (x .e)) → Fair (answerTo s x)
+      own k e does = by-number Fair s plain-fair x k e bad-fair does
+
+      named : (f : ℕ → Answer) → ((i : ℕ) → NamedAt p (x .a) i → Fair (f i)) → Fair (onFound (poolFound s (x .a)) s f)
+      named f g = by-name Fair s plain-fair (poolFound s (x .a)) f g
