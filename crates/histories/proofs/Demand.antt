@@ -136,7 +136,7 @@ no-semaphore p id i e =
     let s : State = freshState p in
     true-false (found-live (semSerial s) (semLive s) id e) (getD-replicate 16 i false false (found-below (semSerial s) (semLive s) id e))
 
-no-pool : (p id i : ℕ) → PoolAt (freshState p) id i → ⊥
+pub no-pool : (p id i : ℕ) → PoolAt (freshState p) id i → ⊥
 unfolding freshState
 no-pool p id i e =
     let s : State = freshState p in

@@ -38,7 +38,7 @@ use Rattle.histories.proofs.Answered.{by-name, by-number, by-call, by-o
 use Rattle.histories.proofs.Alone.{SamePools, pools-alone}
 
 -- each of n buffers is free or out
-free-or-out : (out n : ℕ) → freeOf out n + number (isOut out) n ≡ n
+pub free-or-out : (out n : ℕ) → freeOf out n + number (isOut out) n ≡ n
 unfolding freeOf isFree number pick
 free-or-out out zero = refl
 free-or-out out (suc n) = go (isOut out n) (free-or-out out n)
