@@ -4,3 +4,6 @@ pub mod HeldMarks
 pub mod HeldTurns
 pub mod HeldAgrees
 pub mod HeldSteps
+pub mod HeldTold
+pub mod HeldCounts
+pub mod Pools
