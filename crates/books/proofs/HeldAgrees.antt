@@ -1,29 +1,23 @@
 -- The pools' table and the past agree: what is told of a pool that lives are its columns and its marks, and an identifier that
 -- names no live pool has nothing held. Each answer keeps that: four calls change pools, each one pool, and the others neither side.
 -- Assumes nothing.
-use Prim.Native.Nat.{ℕ, _+_, _-_, _^_, _≤_, _<_}
+use Prim.Native.Nat.{ℕ}
 use native.Mathlib.Omega.{arith}
 use mathlib.Core.Path.{_≡_, refl, sym, subst, ap, _∙_}
-use mathlib.Core.Logic.{_⊎_, inl, inr, ⊎-elim}
-use mathlib.Core.Bool.{Bool, true, false}
+use mathlib.Core.Logic.{_⊎_, inl, inr}
+use mathlib.Core.Bool.{true, false}
 use mathlib.Core.List.{List, [], _∷_}
 use lib.ListN.{length, getD}
-use lib.Seq.{getD-set-same, getD-set-other}
-use lib.Dec.{ltb, eqb}
-use borrow.Author.Tests.{leb-false, ltb-true}
-use Rattle.scope.specs.declared.State.{State}
-use Rattle.scope.specs.declared.Answer.{Answer}
 use Rattle.scope.specs.declared.Pools.{Pools}
 use Rattle.scope.specs.declared.Found.{Found}
 use Rattle.scope.specs.declared.Found.the-variants.{At, Deleted, Invalid}
-use Rattle.scope.specs.Statuses.{OK}
 use Rattle.scope.specs.Identifiers.{identifier, found}
 use Rattle.scope.specs.Pools.{poolBuffers}
 use Rattle.tables.proofs.Laws.{Names, found-names, found-identifier, identifier-found}
 use Rattle.books.specs.Past.{Turn}
 use Rattle.books.specs.Held.{lengthIn, sizeIn, isForced, poolLives, held}
 use Rattle.books.proofs.HeldMarks.{Listed}
-use Rattle.books.proofs.HeldTurns.{turnOf, addressIn, Quiet, address-same, length-same, size-same, forced-same, lives-same, held-same}
+use Rattle.books.proofs.HeldTurns.{addressIn, Quiet, address-same, length-same, size-same, forced-same, lives-same, held-same}
 
 -- the identifier names the live pool in slot i
 abbrev pub NamedAt : Pools → ℕ → ℕ → Type 0

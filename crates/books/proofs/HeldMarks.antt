@@ -5,14 +5,14 @@ use Prim.Native.Nat.{ℕ, _+_, _-_, _^_, _<_}
 use native.Mathlib.Omega.{arith}
 use mathlib.Core.Path.{_≡_, refl, sym, ap, _∙_}
 use mathlib.Core.Logic.{⊎-elim}
-use mathlib.Core.Bool.{Bool, true, false}
+use mathlib.Core.Bool.{true, false}
 use mathlib.Core.List.{List, [], _∷_}
 use lib.ListN.{length}
 use borrow.Author.Tests.{not-true}
 use Rattle.scope.specs.Choice.{number}
 use Rattle.scope.specs.Lists.{has, without}
 use Rattle.scope.specs.Areas.{isArea, isSize, buffersOf, isOut, isFree, bufferAddress, bufferAt}
-use Rattle.laws.proofs.Branches.{true-false, true-or-false, not-of-true, eq-or-not}
+use Rattle.laws.proofs.Branches.{true-false, true-or-false, eq-or-not}
 use Rattle.areas.proofs.Marks.{take-same, take-other, back-same, back-other, out-below}
 use Rattle.areas.proofs.Buffers.{found-at}
 use Rattle.histories.proofs.Marks.{taken, given-back, none-out}

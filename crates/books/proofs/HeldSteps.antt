@@ -5,16 +5,15 @@ use Prim.Native.Nat.{ℕ, _+_, _-_, _^_, _<_}
 use native.Mathlib.Omega.{arith}
 use mathlib.Core.Path.{_≡_, refl, sym, subst, ap, _∙_}
 use mathlib.Core.Logic.{⊎-elim}
-use mathlib.Core.Bool.{Bool, true, false}
+use mathlib.Core.Bool.{true, false}
 use mathlib.Core.List.{List, [], _∷_}
-use lib.ListN.{length, getD, set, length-set}
+use lib.ListN.{length, getD, length-set}
 use lib.Seq.{getD-set-same, getD-set-other}
 use lib.Dec.{ltb, eqb}
 use borrow.Author.Tests.{leb-false, ltb-true}
 use Rattle.scope.specs.declared.State.{State}
 use Rattle.scope.specs.declared.Answer.{Answer}
 use Rattle.scope.specs.declared.Pools.{Pools}
-use Rattle.scope.specs.declared.Found.the-variants.{At}
 use Rattle.scope.specs.Lists.{without}
 use Rattle.scope.specs.Statuses.{OK}
 use Rattle.scope.specs.Identifiers.{identifier, lowestUsable}
@@ -38,7 +37,7 @@ use Rattle.books.specs.Past.{Turn, isAnswerOf, creates}
 use Rattle.books.specs.Held.{held}
 use Rattle.books.proofs.HeldMarks.{Listed, listed-none, listed-get, listed-ret}
 use Rattle.books.proofs.HeldTurns.{turnOf, Quiet, is-answer, not-call, is-of, not-answer, makes, not-makes, address-same, length-same, size-same, forced-same, lives-same, quiet-refused, quiet-call, quiet-other, quiet-create}
-use Rattle.books.proofs.HeldAgrees.{NamedAt, Holds, Nothing, Agrees, SameRow, slot-or-none, one-name, still-named, listed-at, holds-same, nothing-same}
+use Rattle.books.proofs.HeldAgrees.{NamedAt, Holds, Nothing, Agrees, SameRow, one-name, still-named, listed-at, holds-same, nothing-same}
 
 module _ (s : State) (ok : Sound s) (past : List Turn) (agrees : Agrees (s .pools) past) (x : Event) where
   abbrev p : Pools

@@ -4,7 +4,7 @@
 use Prim.Native.Nat.{ℕ, _+_, _*_, _/_, _^_, _≤_, _<_}
 use native.Mathlib.Omega.{arith}
 use mathlib.Core.Path.{_≡_, refl, sym, subst, ap, _∙_}
-use mathlib.Core.Logic.{_⊎_, inl, inr, ⊎-elim}
+use mathlib.Core.Logic.{⊎-elim}
 use mathlib.Core.Bool.{true, false, not, _&&_}
 use mathlib.Core.List.{List, [], _∷_}
 use lib.ListN.{length, getD}
@@ -16,7 +16,6 @@ use Rattle.scope.specs.declared.Pools.{Pools}
 use Rattle.scope.specs.Choice.{least, number}
 use Rattle.scope.specs.Statuses.{OK}
 use Rattle.scope.specs.Lists.{has}
-use Rattle.scope.specs.Replies.{Reply, replyOf}
 use Rattle.scope.specs.Areas.{isArea, isSize, isOut, isFree, lowestFree, bufferAddress, bufferAt}
 use Rattle.scope.specs.Answers.{bitOf, answer, plain, gives, badState, onFound}
 use Rattle.scope.specs.Calls.{callAt}
@@ -184,9 +183,9 @@ module _ (s : State) (ok : Sound s) (past : List Turn) (agrees : Agrees (s .pool
             }
 
     -- a return names a buffer that is held
-    pub return-told : x .call ≡ 18 → answerTo s x .status ≡ OK → has (held past (x .a)) (x .b) ≡ true
+    pub names-held : x .call ≡ 18 → answerTo s x .status ≡ OK → has (held past (x .a)) (x .b) ≡ true
     unfolding poolRetBuffAt poolRetBuffer
-    return-told at =
+    names-held at =
         by-pool Told 18 (poolRetBuffAt s (x .b)) at refl
         (λ i names. by-choice (IfDone Told) _ (λ e d. told i names e) (λ e. not-done Told _ refl))
       where
@@ -204,9 +203,9 @@ module _ (s : State) (ok : Sound s) (past : List Turn) (agrees : Agrees (s .pool
             ap (has (held past (x .a))) (sym (f .1)) ∙ holds (x .a) i names .listed .back k (f .0) (b .1)
 
     -- "buffers out, not FORCED_DELETE" is refused
-    pub delete-told : x .call ≡ 15 → answerTo s x .status ≡ OK → isForced past (x .a) ≡ false → held past (x .a) ≡ []
+    pub none-held : x .call ≡ 15 → answerTo s x .status ≡ OK → isForced past (x .a) ≡ false → held past (x .a) ≡ []
     unfolding poolDeleteAt
-    delete-told at =
+    none-held at =
         by-pool Told 15 (poolDeleteAt s) at refl
         (λ i names. by-choice (IfDone Told) _ (λ e. not-done Told _ refl) (λ e d f. told i names e f))
       where
@@ -254,8 +253,8 @@ module _ (s : State) (ok : Sound s) (past : List Turn) (agrees : Agrees (s .pool
       some-told next next-sound (turn ∷ past) next-agrees id (m .slot) (m .named)
 
   -- the address was held from no pool
-  pub get-told : (id : ℕ) → has (held past id) v ≡ false
-  get-told id = ⊎-elim (λ e. subst (λ (y : ℕ). has (held past y) v ≡ false) e own) other (eq-or-not (x .a) id)
+  pub not-held : (id : ℕ) → has (held past id) v ≡ false
+  not-held id = ⊎-elim (λ e. subst (λ (y : ℕ). has (held past y) v ≡ false) e own) other (eq-or-not (x .a) id)
     where
       own : has (held past (x .a)) v ≡ false
       own =
