@@ -1,0 +1,3 @@
+pub mod Plain
+pub mod Members
+pub mod Leaving
