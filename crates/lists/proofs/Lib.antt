@@ -1,3 +1,4 @@
 pub mod Plain
 pub mod Members
 pub mod Leaving
+pub mod Ready

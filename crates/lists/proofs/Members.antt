@@ -22,11 +22,11 @@ use Rattle.lists.proofs.Plain.{Rising, has-head, has-tail, has-says, al
 
 -- the list of the tasks on seats base + k, base + k + 1, .., by who sits on the first of these
 module _ (q : List ℕ) (base : ℕ) where
-  from-yes : (n k : ℕ) → onSeat q (base + k) < 32 → tasksFrom q base (suc n) k ≡ onSeat q (base + k) ∷ tasksFrom q base n (suc k)
+  pub from-yes : (n k : ℕ) → onSeat q (base + k) < 32 → tasksFrom q base (suc n) k ≡ onSeat q (base + k) ∷ tasksFrom q base n (suc k)
   from-yes n k h =
       ap (λ (b : Bool). elim b as (λ x. List ℕ) [ true ↦ onSeat q (base + k) ∷ tasksFrom q base n (suc k) | false ↦ [] ]) (lt-ltb _ _ h)
 
-  from-no : (n k : ℕ) → 32 ≤ onSeat q (base + k) → tasksFrom q base (suc n) k ≡ []
+  pub from-no : (n k : ℕ) → 32 ≤ onSeat q (base + k) → tasksFrom q base (suc n) k ≡ []
   from-no n k h =
       ap (λ (b : Bool). elim b as (λ x. List ℕ) [ true ↦ onSeat q (base + k) ∷ tasksFrom q base n (suc k) | false ↦ [] ]) (le-ltb (onSeat q (base + k)) 32 h)
 

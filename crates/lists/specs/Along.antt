@@ -24,3 +24,8 @@ NeverRising key xs = Along (λ x u. getD key u 0 ≤ getD key x 0) xs
 -- the queue whose seats begin above `base`, first first: `queue q i` is the one above `queueSeats i`
 abbrev pub queueAbove : List ℕ → ℕ → List ℕ
 queueAbove q base = tasksFrom q base 32 1
+
+-- the first of a list of tasks, 32 where it is empty
+abbrev pub firstIn : List ℕ → ℕ
+firstIn [] = 32
+firstIn (x ∷ xs) = x
