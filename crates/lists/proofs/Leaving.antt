@@ -1,23 +1,23 @@
 -- Leaving is removal: where seats say queues, the list of each queue, and the ready order, lose the one who leaves and keep the
 -- order of all others. Both lists have the same members, and seats rise along both.
 -- Assumes nothing.
-use Prim.Native.Nat.{ℕ, zero, suc, _+_, _*_, _/_, _%_, _<_}
+use Prim.Native.Nat.{ℕ, zero, suc, _*_, _/_, _%_, _<_}
 use native.Mathlib.Omega.{arith}
 use mathlib.Core.Path.{_≡_, refl, sym, subst, ap, _∙_}
-use mathlib.Core.Logic.{_⊎_, inl, inr, ⊎-elim}
-use mathlib.Core.Bool.{true, not}
-use mathlib.Core.List.{List, [], _++_}
+use mathlib.Core.Logic.{inl, inr, ⊎-elim}
+use mathlib.Core.Bool.{not}
+use mathlib.Core.List.{List, _++_}
 use lib.ListN.{length, getD}
 use lib.Dec.{eqb}
-use Rattle.scope.specs.Lists.{has, without}
+use Rattle.scope.specs.Lists.{without}
 use Rattle.scope.specs.Seats.{queueSeats, ringSeats, standing, leaves, queue, readyBelow, readyOrder}
 use Rattle.laws.proofs.Branches.{eq-or-not, lt-or-le}
 use Rattle.seats.specs.Rule.{In, Seated, Queues}
 use Rattle.seats.proofs.Apart.{Untouched}
-use Rattle.seats.proofs.Leaving.{Lowered, leaves-is, leaves-untouched, leaves-others, leaves-nowhere}
+use Rattle.seats.proofs.Leaving.{leaves-is, leaves-untouched, leaves-others, leaves-nowhere}
 use Rattle.seats.proofs.Rule.{stands-in, leaves-queues}
-use Rattle.lists.specs.Along.{Along, queueAbove}
-use Rattle.lists.proofs.Plain.{Rising, same-list, along-turn, along-keep, keep-append, has-without, without-has, without-none}
+use Rattle.lists.specs.Along.{queueAbove}
+use Rattle.lists.proofs.Plain.{same-list, along-turn, along-keep, keep-append, has-without, without-has, without-none}
 use Rattle.lists.proofs.Members.{queue-rising, queue-says, queue-has}
 
 -- two lists of seats with the same queue above m

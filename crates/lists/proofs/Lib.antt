@@ -2,3 +2,4 @@ pub mod Plain
 pub mod Members
 pub mod Leaving
 pub mod Ready
+pub mod Joining

@@ -5,19 +5,18 @@ use Prim.Native.Nat.{ℕ, zero, suc, _+_, _≤_, _<_}
 use native.Mathlib.Omega.{arith}
 use native.Mathlib.Nat.{eq-or-lt-of-le}
 use mathlib.Core.Path.{_≡_, refl, sym, subst, ap, _∙_}
-use mathlib.Core.Logic.{_⊎_, inl, inr, ⊎-elim}
+use mathlib.Core.Logic.{⊎-elim}
 use mathlib.Core.Bool.{Bool, true, false}
 use mathlib.Core.List.{List, [], _∷_}
 use lib.ListN.{length, getD}
-use lib.Dec.{ltb}
-use borrow.Author.Tests.{lt-ltb, le-ltb, ltb-true}
+use borrow.Author.Tests.{lt-ltb, le-ltb}
 use Rattle.scope.specs.Lists.{has}
 use Rattle.scope.specs.Seats.{onSeat, tasksFrom}
 use Rattle.laws.proofs.Branches.{true-false, lt-or-le}
 use Rattle.seats.specs.Rule.{In, Seated}
 use Rattle.seats.proofs.Counting.{seated-le}
 use Rattle.seats.proofs.First.{on-seat, on-seat-hit, on-seat-is}
-use Rattle.lists.specs.Along.{Along, Once, queueAbove}
+use Rattle.lists.specs.Along.{Once, queueAbove}
 use Rattle.lists.proofs.Plain.{Rising, has-head, has-tail, has-says, along-turn}
 
 -- the list of the tasks on seats base + k, base + k + 1, .., by who sits on the first of these

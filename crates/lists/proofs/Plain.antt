@@ -8,8 +8,7 @@ use mathlib.Core.Logic.{_⊎_, inl, inr, ⊎-elim}
 use mathlib.Core.Bool.{Bool, true, false, not}
 use mathlib.Core.List.{List, [], _∷_, _++_}
 use lib.Dec.{eqb}
-use borrow.Author.Tests.{eq-eqb, ne-eqb, eqb-true, eqb-false}
-use Rattle.scope.specs.Choice.{pick}
+use borrow.Author.Tests.{eq-eqb, ne-eqb}
 use Rattle.scope.specs.Lists.{has, keep, without, insert}
 use Rattle.laws.proofs.Branches.{picked-yes, picked-no, not-of-true, not-of-false, true-false, true-or-false, eq-or-not}
 use Rattle.lists.specs.Along.{Along}
@@ -167,6 +166,10 @@ has-append (x ∷ xs) ys t h =
     (λ e. inl (subst (λ (v : ℕ). has (x ∷ xs) v ≡ true) e (has-head x xs)))
     (λ l. ⊎-elim (λ m. inl (has-tail x t xs m)) inr (has-append xs ys t l))
     (has-says x t (xs ++ ys) h)
+
+pub append-one : (t : ℕ) (xs ys : List ℕ) → (xs ++ (t ∷ [])) ++ ys ≡ xs ++ (t ∷ ys)
+append-one t [] ys = refl
+append-one t (x ∷ xs) ys = ap (λ (l : List ℕ). x ∷ l) (append-one t xs ys)
 
 pub along-append : (R : ℕ → ℕ → Type 0) (xs ys : List ℕ) → Along R xs → Along R ys
     → ((u v : ℕ) → has xs u ≡ true → has ys v ≡ true → R u v) → Along R (xs ++ ys)

@@ -1,16 +1,16 @@
 -- The ready order of seats that say queues: it holds just those who stand in a ring, each once, those of a higher ring ahead, and
 -- its first is the one that runs. By induction on the rings.
 -- Assumes nothing.
-use Prim.Native.Nat.{ℕ, zero, suc, _+_, _≤_, _<_}
+use Prim.Native.Nat.{ℕ, zero, suc, _≤_, _<_}
 use native.Mathlib.Omega.{arith}
 use native.Mathlib.Nat.{eq-or-lt-of-le}
 use mathlib.Core.Path.{_≡_, refl, sym, subst, ap, _∙_}
-use mathlib.Core.Logic.{_⊎_, inl, inr, ⊎-elim}
+use mathlib.Core.Logic.{⊎-elim}
 use mathlib.Core.Bool.{true}
-use mathlib.Core.List.{List, [], _∷_, _++_}
-use lib.ListN.{length, getD}
+use mathlib.Core.List.{List, _++_}
+use lib.ListN.{getD}
 use Rattle.scope.specs.Lists.{has}
-use Rattle.scope.specs.Seats.{ringSeats, firstOf, standing, tasksFrom, readyBelow, readyOrder, runnerOf}
+use Rattle.scope.specs.Seats.{ringSeats, firstOf, standing, readyBelow, readyOrder, runnerOf}
 use Rattle.laws.proofs.Branches.{true-false, lt-or-le}
 use Rattle.seats.specs.Rule.{In, Seated, Queues, Runs}
 use Rattle.seats.proofs.First.{first-is, first-none, runner-none, runs-runner}
@@ -23,7 +23,7 @@ abbrev pub InRings : List ℕ → ℕ → ℕ → Type 0
 InRings q n t = (p : ℕ) × (p < n) × In q (ringSeats p) t
 
 module _ (q : List ℕ) where
-  below-says : (n t : ℕ) → has (readyBelow q n) t ≡ true → InRings q n t
+  pub below-says : (n t : ℕ) → has (readyBelow q n) t ≡ true → InRings q n t
   below-says zero t h = absurd (true-false h refl)
   below-says (suc p) t h =
       ⊎-elim
