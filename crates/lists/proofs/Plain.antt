@@ -80,6 +80,21 @@ module _ (f : ℕ → ℕ) where
       subst (λ (v : ℕ). (t : ℕ) → has (v ∷ ys) t ≡ true → has (x ∷ xs) t ≡ true) (sym e) r in
       ap (λ (v : ℕ). v ∷ xs) e ∙ ap (λ (l : List ℕ). y ∷ l) (same-list xs ys (a .1) (b2 .1) (tails x xs ys a s2) (tails x ys xs b2 r2))
 
+  -- what goes along a list holds of two of it by their numbers
+  pub along-at : (R : ℕ → ℕ → Type 0) (xs : List ℕ) → Along R xs → Rising f xs → (u v : ℕ) → has xs u ≡ true → has xs v ≡ true → f u < f v → R u v
+  along-at R [] a r u v h k l = absurd (true-false h refl)
+  along-at R (x ∷ xs) a r u v h k l =
+      ⊎-elim
+      (λ d. ⊎-elim
+      (λ e. absurd (omega (arith, l, ap f d, ap f e)))
+      (λ m. subst (λ (w : ℕ). R w v) d (a .0 v m))
+      (has-says x v xs k))
+      (λ g. ⊎-elim
+      (λ e. absurd (let c : f x < f u = r .0 u g in omega (arith, l, ap f e, c)))
+      (λ m. along-at R xs (a .1) (r .1) u v g m l)
+      (has-says x v xs k))
+      (has-says x u xs h)
+
 -- those kept
 module _ (p : ℕ → Bool) where
   keep-yes : (x : ℕ) (xs : List ℕ) → p x ≡ true → keep p (x ∷ xs) ≡ x ∷ keep p xs

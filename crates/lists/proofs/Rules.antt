@@ -1,0 +1,297 @@
+-- The rules of a state over the paper's lists hold just if the tests that run pass, where the seats say queues and priorities are in
+-- range: slot by slot, by who is on which list.
+-- Assumes nothing.
+use Prim.Native.Nat.{ℕ, _≤_, _<_}
+use native.Mathlib.Omega.{arith}
+use mathlib.Core.Path.{_≡_, sym, ap, _∙_}
+use mathlib.Core.Logic.{⊎-elim, _↔_}
+use mathlib.Core.Bool.{true, false}
+use mathlib.Core.List.{List}
+use lib.ListN.{length, getD}
+use borrow.Author.Tests.{eq-eqb, eqb-true}
+use Rattle.scope.specs.declared.State.{State}
+use Rattle.scope.specs.Lists.{has}
+use Rattle.scope.specs.Seats.{queueSeats, ringSeats, firstRing, queueOf, standing, queue, runnerOf}
+use Rattle.scope.specs.Views.{isReady}
+use Rattle.scope.specs.Semaphores.{isTimeOut}
+use Rattle.scope.specs.Rules.{seatsRight, readyRight, readyOrderRight, waitRight, waitsRight, joinedRight, queuesSorted, countRight, countsRight, startRight, startsRight, taskRight, tasksRight, runningRight}
+use Rattle.laws.proofs.Branches.{true-false, true-or-false, lt-or-le}
+use Rattle.laws.proofs.Searches.{every-yes, every-at}
+use Rattle.laws.proofs.Arrays.{past, inside}
+use Rattle.seats.specs.Rule.{In, Sorted, Queues}
+use Rattle.seats.proofs.Rule.{queues-from-rule}
+use Rattle.seats.proofs.Sorting.{steps-from-sorted, sorted-from-steps}
+use Rattle.histories.specs.Sound.{Sized}
+use Rattle.lists.specs.Along.{Once, NeverRising, queueAbove, firstIn}
+use Rattle.lists.specs.Rules.{readyOf, queueIn, waiting, HoldsTheReady, PrioritiesFall, FirstRuns, StandsInOne, NoOther, JoinedFall, CountBelow, CountEmpty, Ordered, OwnRing, Tested}
+use Rattle.lists.proofs.Plain.{same-test, along-turn, along-at}
+use Rattle.lists.proofs.Members.{queue-rising, queue-once, queue-says, queue-has, queue-length}
+use Rattle.lists.proofs.Ready.{order-says, order-once, order-falls, order-has, order-first}
+use Rattle.lists.proofs.Tests.{waits-is, waits-says, ready-says, idle-says, ready-right, ready-started, start-says, start-right, wait-says, rest-says, wait-right, joined-says, joined-right, count-says, empty-says, count-right, task-range}
+
+-- a state whose arrays have their sizes, whose seats say queues, and whose priorities are in range
+module _ (s : State) (sized : Sized s) (seats : seatsRight (s .line .seat) ≡ true) (tasks : tasksRight (s .tasks) ≡ true) where
+  abbrev q : List ℕ
+  q = s .line .seat
+
+  abbrev seat : ℕ → ℕ
+  seat t = getD q t 0
+
+  abbrev priority : ℕ → ℕ
+  priority t = getD (s .tasks .priority) t 0
+
+  rule : Queues q
+  rule = queues-from-rule q (sized .seat) seats
+
+  range : (t : ℕ) → priority t ≤ 15
+  unfolding tasksRight
+  range t =
+      ⊎-elim
+      (λ h. task-range (s .tasks) t (every-at (taskRight (s .tasks)) 32 tasks t h))
+      (λ h. let e : 0 ≡ priority t = past 32 (s .tasks .priority) t 0 (sized .priority) h in omega (arith, e))
+      (lt-or-le t 32)
+
+  here : (t : ℕ) → 0 < seat t → t < 32
+  here t h = inside 32 q t (sized .seat) (λ z. omega arith)
+
+  -- the queue's list and its seats
+  in-queue : (i t : ℕ) → has (queueIn s i) t ≡ true → In q (queueSeats i) t
+  unfolding queue
+  in-queue i t h = queue-says q (queueSeats i) t h
+
+  on-queue : (i t : ℕ) → In q (queueSeats i) t → has (queueIn s i) t ≡ true
+  unfolding queue
+  on-queue i t a = queue-has q (queueSeats i) (standing q (queueSeats i)) (rule .tasks) (rule .seated (queueSeats i) (omega arith)) t a
+
+  long : (i : ℕ) → length (queueIn s i) ≡ standing q (queueSeats i)
+  unfolding queue
+  long i = queue-length q (queueSeats i) (standing q (queueSeats i)) (rule .tasks) (rule .seated (queueSeats i) (omega arith))
+
+  falls-from : (i : ℕ) → Sorted q (s .line .joined) (queueSeats i) → NeverRising (s .line .joined) (queueIn s i)
+  unfolding queue
+  falls-from i order =
+      along-turn (λ x u. seat x < seat u) (λ x u. getD (s .line .joined) u 0 ≤ getD (s .line .joined) x 0) (queueAbove q (queueSeats i))
+      (λ u v h k l. order .falls u v (queue-says q (queueSeats i) u h) (queue-says q (queueSeats i) v k) l)
+      (queue-rising q (queueSeats i))
+
+  sorted-from : (i : ℕ) → NeverRising (s .line .joined) (queueIn s i) → Sorted q (s .line .joined) (queueSeats i)
+  unfolding queue
+  sorted-from i a = record {
+    falls = λ t u h k l.
+        along-at seat (λ x v. getD (s .line .joined) v 0 ≤ getD (s .line .joined) x 0) (queueAbove q (queueSeats i)) a
+        (queue-rising q (queueSeats i)) t u (on-queue i t h) (on-queue i u k) l;
+  }
+
+  -- who is on the ready order sits in the ring of its priority
+  module _ (own : OwnRing s) where
+    of-ring : (p t : ℕ) → In q (ringSeats p) t → priority t ≡ p
+    of-ring p t a = let b : In q (ringSeats (priority t)) t = own t (omega (arith, a)) in omega (arith, a, b)
+
+    in-order : (t : ℕ) → firstRing ≤ seat t → has (readyOf s) t ≡ true
+    in-order t h = order-has q rule t (priority t, omega (arith, range t), own t h)
+
+    top : (t : ℕ) → seat t < ringSeats 16
+    top t =
+        ⊎-elim (λ l. omega arith) (λ l. let b : In q (ringSeats (priority t)) t = own t l in omega (arith, b, range t))
+        (lt-or-le (seat t) firstRing)
+
+    first-runs : firstIn (readyOf s) ≡ runnerOf q
+    first-runs = order-first q rule top
+
+  on-order : (t : ℕ) → has (readyOf s) t ≡ true → firstRing ≤ seat t
+  on-order t h = let r = order-says q t h in omega (arith, r .2)
+
+  -- the tests pass: so the rules hold
+  module _ (passed : Tested s) where
+    ready-at : (t : ℕ) → t < 32
+        → readyRight (getD (s .tasks .started) t false) (getD (s .tasks .suspended) t false) (priority t) (seat t) ≡ true
+    unfolding readyOrderRight
+    ready-at t h =
+        every-at (λ u. readyRight (getD (s .tasks .started) u false) (getD (s .tasks .suspended) u false) (priority u) (seat u)) 32 (passed .order) t h
+
+    wait-at : (t : ℕ) → t < 32 → waitRight (s .semaphores .live) (seat t) (getD (s .line .left) t 0) (getD (s .line .joined) t 0) ≡ true
+    unfolding waitsRight
+    wait-at t h =
+        every-at (λ u. waitRight (s .semaphores .live) (seat u) (getD (s .line .left) u 0) (getD (s .line .joined) u 0)) 32 (passed .waits) t h
+
+    joined-at : (t : ℕ) → t < 32 → joinedRight q (s .line .joined) (s .semaphores .fifo) (seat t) (getD (s .line .joined) t 0) ≡ true
+    unfolding queuesSorted
+    joined-at t h =
+        every-at (λ u. joinedRight q (s .line .joined) (s .semaphores .fifo) (seat u) (getD (s .line .joined) u 0)) 32 (passed .sorted) t h
+
+    count-at : (i : ℕ) → i < 16 → countRight q i (getD (s .semaphores .units) i 0) ≡ true
+    unfolding countsRight
+    count-at i h = every-at (λ j. countRight q j (getD (s .semaphores .units) j 0)) 16 (passed .counts) i h
+
+    start-at : (t : ℕ) → t < 32 → startRight (getD (s .tasks .started) t false) (getD (s .tasks .suspended) t false) (seat t) ≡ true
+    unfolding startsRight
+    start-at t h =
+        every-at (λ u. startRight (getD (s .tasks .started) u false) (getD (s .tasks .suspended) u false) (seat u)) 32 (passed .starts) t h
+
+    is-ready : (t : ℕ) → firstRing ≤ seat t → isReady (s .line) (s .tasks) t ≡ true
+    is-ready t h =
+        ⊎-elim (λ r. r)
+        (λ r. absurd (omega (arith, h, idle-says _ _ (priority t) (seat t) (ready-at t (here t (omega arith))) r)))
+        (true-or-false (isReady (s .line) (s .tasks) t))
+
+    pub own-ring : OwnRing s
+    own-ring t h = ready-says _ _ (priority t) (seat t) (ready-at t (here t (omega arith))) (is-ready t h)
+
+    holds : HoldsTheReady s
+    holds =
+        record {
+          each = λ t.
+              same-test (has (readyOf s) t) (isReady (s .line) (s .tasks) t)
+              (λ h. is-ready t (on-order t h))
+              (λ r. let l : t < 32 =
+              ⊎-elim (λ b. b)
+              (λ b. absurd (true-false (ready-started _ _ (priority t) (seat t) r)
+              (sym (past 32 (s .tasks .started) t false (sized .started) b))))
+              (lt-or-le t 32) in
+              let a : In q (ringSeats (priority t)) t = ready-says _ _ (priority t) (seat t) (ready-at t l) r in
+              in-order own-ring t (omega (arith, a)));
+          once = order-once q;
+        }
+
+    falls : PrioritiesFall s
+    falls = order-falls q (s .tasks .priority) (of-ring own-ring)
+
+    runs : FirstRuns s
+    unfolding runningRight
+    runs = eqb-true _ _ (passed .running) ∙ sym (first-runs own-ring)
+
+    -- what the test of one who waits says
+    waits : (t : ℕ) → waiting s t ≡ true
+        → (64 ≤ seat t) × (getD (s .semaphores .live) (queueOf (seat t)) false ≡ true) × (isTimeOut (getD (s .line .left) t 0) ≡ true) × (getD (s .line .joined) t 0 ≤ 15)
+    waits t w =
+        wait-says (s .semaphores .live) (seat t) (getD (s .line .left) t 0) (getD (s .line .joined) t 0)
+        (wait-at t (here t (waits-says (seat t) w .0))) w
+
+    queues-once : (i : ℕ) → Once (queueIn s i)
+    unfolding queue
+    queues-once i = queue-once q (queueSeats i)
+
+    stands : StandsInOne s
+    stands =
+        record {
+          stands = λ t w.
+              let r = waits t w in
+              let i : ℕ = queueOf (seat t) in
+              let a : In q (queueSeats i) t =
+              ⊎-elim (λ z. absurd (omega (arith, z, r .0))) (λ p. (omega (arith, p, r .0), omega (arith, p, r .0))) (rule .places t) in (
+                i,
+                ⊎-elim (λ b. b)
+                    (λ b. absurd (true-false (r .1) (sym (past 16 (s .semaphores .live) i false (sized .slive) b))))
+                    (lt-or-le i 16),
+                r .1,
+                on-queue i t a,
+              );
+          one = λ t i j h k. omega (arith, in-queue i t h, in-queue j t k);
+          once = queues-once;
+        }
+
+    others : NoOther s
+    others i l t h = let a : In q (queueSeats i) t = in-queue i t h in waits-is (seat t) (omega (arith, a)) (omega (arith, a, l))
+
+    joined-falls : JoinedFall s
+    joined-falls i l f =
+        falls-from i
+        (sorted-from-steps q (s .line .joined) (queueSeats i) (standing q (queueSeats i)) (rule .tasks) (rule .seated (queueSeats i) (omega arith))
+        (λ t a b. let d : queueOf (seat t) ≡ i = omega (arith, a) in
+        joined-says q (s .line .joined) (s .semaphores .fifo) (seat t) (getD (s .line .joined) t 0) (joined-at t (here t (omega (arith, a))))
+        (waits-is (seat t) (omega (arith, a)) (omega (arith, a, l)))
+        (omega (arith, a, b))
+        (ap (λ (j : ℕ). getD (s .semaphores .fifo) j false) d ∙ f)))
+
+    count-below : CountBelow s
+    count-below i n l e h =
+        omega (arith, e, count-says q i (getD (s .semaphores .units) i 0) (count-at i l) (omega (arith, h, e, long i)))
+
+    count-empty : CountEmpty s
+    count-empty i l e = empty-says q i (getD (s .semaphores .units) i 0) (count-at i l) (omega (arith, e, long i))
+
+    -- "Rules of a state", of the lists
+    pub tests-say : Ordered s
+    tests-say =
+        record {
+          ready = holds;
+          priorities = falls;
+          running = runs;
+          stands = stands;
+          left = λ t w. waits t w .2;
+          joined = λ t w. waits t w .3;
+          others = others;
+          sorted = joined-falls;
+          below = count-below;
+          empty = count-empty;
+          idle = λ t l e. start-says _ _ (seat t) (start-at t l) e;
+          zeros = λ t l e. rest-says (s .semaphores .live) (seat t) _ _ (wait-at t l) e;
+        }
+
+  -- and back: the rules hold, so the tests pass
+  module _ (own : OwnRing s) (rules : Ordered s) where
+    order-right : readyOrderRight (s .line) (s .tasks) ≡ true
+    unfolding readyOrderRight
+    order-right =
+        every-yes (λ t. readyRight (getD (s .tasks .started) t false) (getD (s .tasks .suspended) t false) (priority t) (seat t)) 32
+        (λ t l. ready-right _ _ (priority t) (seat t)
+        (λ r. own t (on-order t (rules .ready .each t ∙ r)))
+        (λ r. ⊎-elim (λ b. b) (λ b. absurd (true-false (in-order own t b) (rules .ready .each t ∙ r))) (lt-or-le (seat t) firstRing)))
+
+    waits-right : waitsRight (s .line) (s .semaphores .live) ≡ true
+    unfolding waitsRight
+    waits-right =
+        every-yes (λ t. waitRight (s .semaphores .live) (seat t) (getD (s .line .left) t 0) (getD (s .line .joined) t 0)) 32
+        (λ t l. wait-right (s .semaphores .live) (seat t) _ _
+        (λ w. let r = rules .stands .stands t w in
+        let a : In q (queueSeats (r .0)) t = in-queue (r .0) t (r .3) in
+        let d : queueOf (seat t) ≡ r .0 = omega (arith, a) in (
+          omega (arith, a),
+          ap (λ (j : ℕ). getD (s .semaphores .live) j false) d ∙ r .2,
+          rules .left t w,
+          rules .joined t w,
+        ))
+        (λ w. rules .zeros t l w))
+
+    sorted-right : queuesSorted (s .line) (s .semaphores .fifo) ≡ true
+    unfolding queuesSorted
+    sorted-right =
+        every-yes (λ t. joinedRight q (s .line .joined) (s .semaphores .fifo) (seat t) (getD (s .line .joined) t 0)) 32
+        (λ t l. joined-right q (s .line .joined) (s .semaphores .fifo) (seat t) (getD (s .line .joined) t 0)
+        (λ w b f. let r = rules .stands .stands t w in
+        let a : In q (queueSeats (r .0)) t = in-queue (r .0) t (r .3) in
+        let d : queueOf (seat t) ≡ r .0 = omega (arith, a) in
+        steps-from-sorted q (s .line .joined) (queueSeats (r .0)) (standing q (queueSeats (r .0))) (rule .tasks)
+        (rule .seated (queueSeats (r .0)) (omega arith))
+        (sorted-from (r .0) (rules .sorted (r .0) (r .1) (sym (ap (λ (j : ℕ). getD (s .semaphores .fifo) j false) d) ∙ f)))
+        t a (omega (arith, a, b))))
+
+    counts-right : countsRight (s .line) (s .semaphores) ≡ true
+    unfolding countsRight
+    counts-right =
+        every-yes (λ i. countRight q i (getD (s .semaphores .units) i 0)) 16
+        (λ i l. count-right q i (getD (s .semaphores .units) i 0)
+        (λ h. omega (arith, rules .below i (standing q (queueSeats i)) l (long i) h, long i))
+        (λ e. rules .empty i l (long i ∙ e)))
+
+    starts-right : startsRight (s .line) (s .tasks) ≡ true
+    unfolding startsRight
+    starts-right =
+        every-yes (λ t. startRight (getD (s .tasks .started) t false) (getD (s .tasks .suspended) t false) (seat t)) 32
+        (λ t l. start-right _ _ (seat t) (λ e. rules .idle t l e))
+
+    pub rules-right : Tested s
+    unfolding runningRight
+    rules-right =
+        record {
+          order = order-right;
+          waits = waits-right;
+          sorted = sorted-right;
+          counts = counts-right;
+          starts = starts-right;
+          running = eq-eqb _ _ (rules .running ∙ first-runs own);
+        }
+
+  -- the tests pass just if the rules hold
+  pub tests-are-rules : Tested s ↔ (OwnRing s × Ordered s)
+  tests-are-rules = ((λ p. (own-ring p, tests-say p)), (λ r. rules-right (r .0) (r .1)))

@@ -1,0 +1,110 @@
+-- Those of document 01's 'Rules of a state' that speak of orders and queues, over the paper's lists: `readyOrder` and `queue`.
+-- Assumes nothing.
+use Prim.Native.Nat.{ℕ, _+_, _≤_, _<_}
+use mathlib.Core.Path.{_≡_}
+use mathlib.Core.Bool.{Bool, true, false}
+use mathlib.Core.List.{List}
+use lib.ListN.{length, getD}
+use Rattle.scope.specs.declared.State.{State}
+use Rattle.scope.specs.Lists.{has}
+use Rattle.scope.specs.Seats.{ringSeats, firstRing, waitsOn, queue, readyOrder}
+use Rattle.scope.specs.Views.{isReady}
+use Rattle.scope.specs.Tasks.{lastPriority}
+use Rattle.scope.specs.Semaphores.{lastCount, isTimeOut}
+use Rattle.scope.specs.Rules.{readyOrderRight, waitsRight, queuesSorted, countsRight, startsRight, runningRight}
+use Rattle.seats.specs.Rule.{In}
+use Rattle.lists.specs.Along.{Once, NeverRising, firstIn}
+
+-- the ready order and the queue of semaphore i
+abbrev pub readyOf : State → List ℕ
+readyOf s = readyOrder (s .line .seat)
+
+abbrev pub queueIn : State → ℕ → List ℕ
+queueIn s i = queue (s .line .seat) i
+
+-- task t waits
+abbrev pub waiting : State → ℕ → Bool
+waiting s t = waitsOn (getD (s .line .seat) t 0)
+
+-- "The ready order holds each ready task once and no other, .."
+pub record HoldsTheReady (s : State) : Type 0 where
+  pub each : (t : ℕ) → has (readyOf s) t ≡ isReady (s .line) (s .tasks) t
+  pub once : Once (readyOf s)
+
+-- ".. priorities never rising along it."
+abbrev pub PrioritiesFall : State → Type 0
+PrioritiesFall s = NeverRising (s .tasks .priority) (readyOf s)
+
+-- "its first runs"
+abbrev pub FirstRuns : State → Type 0
+FirstRuns s = s .running ≡ firstIn (readyOf s)
+
+-- "Each waiting task stands once in one live semaphore's queue, .."
+pub record StandsInOne (s : State) : Type 0 where
+  pub stands : (t : ℕ) → waiting s t ≡ true
+      → (i : ℕ) × (i < 16) × (getD (s .semaphores .live) i false ≡ true) × (has (queueIn s i) t ≡ true)
+  pub one : (t i j : ℕ) → has (queueIn s i) t ≡ true → has (queueIn s j) t ≡ true → i ≡ j
+  pub once : (i : ℕ) → Once (queueIn s i)
+
+-- ".. with a time_out left of 1 to 65,535 or FOREVER, .."
+abbrev pub TimeLeft : State → Type 0
+TimeLeft s = (t : ℕ) → waiting s t ≡ true → isTimeOut (getD (s .line .left) t 0) ≡ true
+
+-- ".. and its joining priority; .."
+abbrev pub JoinedWith : State → Type 0
+JoinedWith s = (t : ℕ) → waiting s t ≡ true → getD (s .line .joined) t 0 ≤ lastPriority
+
+-- ".. queues hold no other task; .."
+abbrev pub NoOther : State → Type 0
+NoOther s = (i : ℕ) → i < 16 → (t : ℕ) → has (queueIn s i) t ≡ true → waiting s t ≡ true
+
+-- ".. those not FIFO never rise in joining priority."
+abbrev pub JoinedFall : State → Type 0
+JoinedFall s = (i : ℕ) → i < 16 → getD (s .semaphores .fifo) i false ≡ false → NeverRising (s .line .joined) (queueIn s i)
+
+-- "A queue with n tasks, n above 0, has count −n; .." The count is the free units less the tasks in the queue, so it is −n just if
+-- the units and n make these.
+abbrev pub CountBelow : State → Type 0
+CountBelow s = (i n : ℕ) → i < 16 → length (queueIn s i) ≡ n → 0 < n → getD (s .semaphores .units) i 0 + n ≡ length (queueIn s i)
+
+-- ".. an empty queue has count 0 to 32,767."
+abbrev pub CountEmpty : State → Type 0
+CountEmpty s = (i : ℕ) → i < 16 → length (queueIn s i) ≡ 0 → getD (s .semaphores .units) i 0 ≤ lastCount
+
+-- "Tasks not started neither wait nor are suspended."
+abbrev pub NotStarted : State → Type 0
+NotStarted s = (t : ℕ) → t < 32 → getD (s .tasks .started) t false ≡ false
+    → (waiting s t ≡ false) × (getD (s .tasks .suspended) t false ≡ false)
+
+-- "otherwise zeros; so do .. the waiting fields of a task that doesn't wait"
+abbrev pub NotWaiting : State → Type 0
+NotWaiting s = (t : ℕ) → t < 32 → waiting s t ≡ false → (getD (s .line .left) t 0 ≡ 0) × (getD (s .line .joined) t 0 ≡ 0)
+
+-- these rules together
+pub record Ordered (s : State) : Type 0 where
+  pub ready : HoldsTheReady s
+  pub priorities : PrioritiesFall s
+  pub running : FirstRuns s
+  pub stands : StandsInOne s
+  pub left : TimeLeft s
+  pub joined : JoinedWith s
+  pub others : NoOther s
+  pub sorted : JoinedFall s
+  pub below : CountBelow s
+  pub empty : CountEmpty s
+  pub idle : NotStarted s
+  pub zeros : NotWaiting s
+
+-- The form's own rule, beside `seatsRight`: who sits above every semaphore's queue sits in the ring of its priority. So one ready
+-- order has one array of seats.
+abbrev pub OwnRing : State → Type 0
+OwnRing s = (t : ℕ) → firstRing ≤ getD (s .line .seat) t 0 → In (s .line .seat) (ringSeats (getD (s .tasks .priority) t 0)) t
+
+-- the tests that run
+pub record Tested (s : State) : Type 0 where
+  pub order : readyOrderRight (s .line) (s .tasks) ≡ true
+  pub waits : waitsRight (s .line) (s .semaphores .live) ≡ true
+  pub sorted : queuesSorted (s .line) (s .semaphores .fifo) ≡ true
+  pub counts : countsRight (s .line) (s .semaphores) ≡ true
+  pub starts : startsRight (s .line) (s .tasks) ≡ true
+  pub running : runningRight s ≡ true
