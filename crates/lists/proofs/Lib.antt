@@ -6,3 +6,4 @@ pub mod Joining
 pub mod Tests
 pub mod Rules
 pub mod Sound
+pub mod Tasks

@@ -1,0 +1,39 @@
+-- What calls do to the paper's lists: the ready order and the queues after an answer.
+-- Assumes nothing.
+use Prim.Native.Nat.{ℕ, _<_}
+use mathlib.Core.Path.{_≡_}
+use mathlib.Core.Bool.{Bool, false}
+use mathlib.Core.List.{List, [], _∷_, _++_}
+use lib.ListN.{getD}
+use lib.Dec.{leb, eqb}
+use Rattle.scope.specs.declared.Answer.{Answer}
+use Rattle.scope.specs.declared.Tasks.{Tasks}
+use Rattle.scope.specs.Choice.{pick}
+use Rattle.scope.specs.Lists.{insert}
+use Rattle.lists.specs.Rules.{readyOf, queueIn}
+
+-- after the answer the ready order and the queues are these
+pub record ListsAfter (a : Answer) (order : List ℕ) (queues : ℕ → List ℕ) : Type 0 where
+  pub ready : readyOf (a .state) ≡ order
+  pub waiting : (i : ℕ) → i < 16 → queueIn (a .state) i ≡ queues i
+
+-- "A task becoming ready goes behind all of equal or higher priority."
+abbrev pub madeReady : Tasks → ℕ → ℕ → List ℕ → List ℕ
+madeReady k p t order = insert (λ u. leb p (getD (k .priority) u 0)) t order
+
+-- "FIFO queues grow at the end. Others are by priority at the moment of joining, equals by arrival"
+abbrev pub joinedBy : Bool → List ℕ → ℕ → ℕ → List ℕ → List ℕ
+joinedBy fifo joined p t xs = pick fifo (xs ++ (t ∷ [])) (insert (λ u. leb p (getD joined u 0)) t xs)
+
+-- the queues with another one for semaphore i
+abbrev pub withQueue : (ℕ → List ℕ) → ℕ → List ℕ → ℕ → List ℕ
+withQueue queues i xs j = pick (eqb j i) xs (queues j)
+
+-- task t is woken: "it becomes ready when it neither waits nor is suspended"
+abbrev pub wokenInto : Tasks → ℕ → List ℕ → List ℕ
+wokenInto k t order = pick (getD (k .suspended) t false) order (madeReady k (getD (k .priority) t 0) t order)
+
+-- these are woken, one after another
+abbrev pub allWokenInto : Tasks → List ℕ → List ℕ → List ℕ
+allWokenInto k [] order = order
+allWokenInto k (t ∷ ts) order = allWokenInto k ts (wokenInto k t order)
