@@ -6,4 +6,6 @@ pub mod Joining
 pub mod Tests
 pub mod Rules
 pub mod Sound
+pub mod Again
 pub mod Tasks
+pub mod Wakes

@@ -3,90 +3,39 @@
 -- Assumes nothing.
 use Prim.Native.Nat.{ℕ, _≤_, _<_}
 use native.Mathlib.Omega.{arith}
-use mathlib.Core.Path.{_≡_, refl, sym, subst, ap, _∙_}
+use mathlib.Core.Path.{_≡_, refl, _∙_}
 use mathlib.Core.Logic.{⊎-elim}
-use mathlib.Core.Bool.{Bool, true, false}
-use mathlib.Core.List.{List}
-use lib.ListN.{length, getD}
-use lib.Dec.{ltb, leb}
-use borrow.Author.Tests.{le-ltb, ltb-true, not-true}
+use mathlib.Core.Bool.{true, false}
+use lib.ListN.{getD}
+use lib.Dec.{ltb}
+use borrow.Author.Tests.{ltb-true, not-true}
 use Rattle.scope.specs.declared.State.{State}
 use Rattle.scope.specs.declared.Answer.{Answer}
-use Rattle.scope.specs.Choice.{pick}
-use Rattle.scope.specs.Lists.{has, without, insert}
-use Rattle.scope.specs.Seats.{ringSeats, queueSeats, firstRing, standing, leaves, becomesReady, waitsOn, queue, readyOrder}
+use Rattle.scope.specs.Lists.{without}
+use Rattle.scope.specs.Seats.{firstRing, becomesReady, waitsOn, queue, readyOrder}
 use Rattle.scope.specs.Views.{readyWith, isReady}
 use Rattle.scope.specs.Answers.{answer, plain, gives}
 use Rattle.scope.specs.Tasks.{taskDeleteAt, taskStartAt, taskSuspendAt, taskResumeAt, taskSetPriorityAt}
 use Rattle.laws.proofs.Branches.{true-false, true-or-false, both-true}
-use Rattle.seats.specs.Rule.{In, Queues}
-use Rattle.seats.proofs.Leaving.{leaves-out}
-use Rattle.histories.specs.Sound.{Ready, Nowhere, Sound}
+use Rattle.histories.specs.Sound.{Sound}
 use Rattle.histories.proofs.Refused.{by-choice}
-use Rattle.histories.proofs.Moves.{seats-low, off-nowhere, idle-nowhere}
-use Rattle.histories.proofs.Staying.{Good, leaves-good}
-use Rattle.lists.specs.Along.{queueAbove}
+use Rattle.histories.proofs.Moves.{off-nowhere, idle-nowhere}
+use Rattle.histories.proofs.Staying.{Good}
 use Rattle.lists.specs.Rules.{readyOf, queueIn}
 use Rattle.lists.specs.Calls.{ListsAfter, madeReady}
-use Rattle.lists.proofs.Plain.{has-without, without-none}
-use Rattle.lists.proofs.Members.{queue-says, queue-has}
-use Rattle.lists.proofs.Leaving.{leaves-above, leaves-queue, leaves-order}
+use Rattle.lists.proofs.Leaving.{leaves-queue, leaves-order}
 use Rattle.lists.proofs.Joining.{ready-order, ready-queue}
 use Rattle.lists.proofs.Ready.{order-says}
-use Rattle.lists.proofs.Sound.{sound-rings, order-holds}
-
--- each stands in the ring of its priority
-abbrev pub Own : List ℕ → List ℕ → Type 0
-Own q priority = (m u : ℕ) → In q (ringSeats m) u → getD priority u 0 ≡ m
-
--- task t is taken out and put in again
-module _ (q key priority : List ℕ) (good : Good q) (own : Own q priority) (t : ℕ) (room : t < 32) where
-  own-left : Own (leaves q t) priority
-  own-left m u a =
-      let g : Good (leaves q t) = leaves-good q good t in
-      let h : has (queueAbove (leaves q t) (ringSeats m)) u ≡ true =
-      queue-has (leaves q t) (ringSeats m) (standing (leaves q t) (ringSeats m)) (g .queues .tasks) (g .queues .seated (ringSeats m) (omega arith)) u a in
-      own m u
-      (queue-says q (ringSeats m) u
-      (has-without t u (queueAbove q (ringSeats m))
-      (subst (λ (l : List ℕ). has l u ≡ true) (leaves-above q (good .queues) (good .low) t (ringSeats m) (omega arith)) h)
-      .0))
-
-  pub again-order : (p : ℕ) → p < 16
-      → readyOrder (becomesReady (leaves q t) key t p) ≡ insert (λ u. leb p (getD priority u 0)) t (without t (readyOrder q))
-  again-order p h =
-      ready-order (leaves q t) key priority t p (leaves-good q good t .queues) room (leaves-out q t) own-left h
-      ∙ ap (λ (l : List ℕ). insert (λ u. leb p (getD priority u 0)) t l) (leaves-order q (good .queues) (good .low) t)
-
-  pub again-queue : (p i : ℕ) → i < 16 → queue (becomesReady (leaves q t) key t p) i ≡ without t (queue q i)
-  again-queue p i h =
-      ready-queue (leaves q t) key priority t p (leaves-good q good t .queues) room (leaves-out q t) own-left i h
-      ∙ leaves-queue q (good .queues) (good .low) t i
+use Rattle.lists.proofs.Again.{Own, again-order, again-queue, off-queue, good-line, own-line, range-below}
+use Rattle.lists.proofs.Sound.{order-holds}
 
 -- a sound state's seats
 module _ (s : State) (ok : Sound s) where
-  pub good-seats : Good (s .line .seat)
-  good-seats = record { queues = ok .line .queues; low = seats-low (s .line) (s .tasks) (s .semaphores) (ok .line) }
+  good-seats : Good (s .line .seat)
+  good-seats = good-line (s .line) (s .tasks) (s .semaphores) (ok .line)
 
-  pub own-seats : Own (s .line .seat) (s .tasks .priority)
-  own-seats m u a =
-      let b : In (s .line .seat) (ringSeats (getD (s .tasks .priority) u 0)) u = sound-rings s ok u (omega (arith, a)) in
-      omega (arith, a, b)
-
-  pub priority-below : (t : ℕ) → t < 32 → getD (s .tasks .priority) t 0 < 16
-  priority-below t h =
-      ⊎-elim (λ e. omega (arith, ok .tasks .each t h .alive e .1)) (λ e. omega (arith, ok .tasks .each t h .priority e))
-      (true-or-false (getD (s .tasks .live) t false))
-
-  -- who is on the ready order is on no queue
-  pub off-queues : (t i : ℕ) → i < 16 → firstRing ≤ getD (s .line .seat) t 0 → without t (queueIn s i) ≡ queueIn s i
-  unfolding queue
-  off-queues t i h high =
-      without-none t (queueIn s i) (λ k. let a : In (s .line .seat) (queueSeats i) t = queue-says (s .line .seat) (queueSeats i) t k in omega (arith, a, h, high))
-
-  -- and the other way round
-  pub off-order : (t : ℕ) → getD (s .line .seat) t 0 < firstRing → without t (readyOf s) ≡ readyOf s
-  off-order t low = without-none t (readyOf s) (λ k. let a = order-says (s .line .seat) t k in omega (arith, a .2, low))
+  own-seats : Own (s .line .seat) (s .tasks .priority)
+  own-seats = own-line (s .line) (s .tasks) (s .semaphores) (ok .line)
 
   ready-high : (t : ℕ) → isReady (s .line) (s .tasks) t ≡ true → firstRing ≤ getD (s .line .seat) t 0
   ready-high t r = let a = order-says (s .line .seat) t (order-holds s ok t ∙ r) in omega (arith, a .2)
@@ -95,7 +44,7 @@ module _ (s : State) (ok : Sound s) where
   came-order : (t : ℕ) → t < 32 → getD (s .line .seat) t 0 ≡ 0
       → readyOrder (becomesReady (s .line .seat) (s .line .joined) t (getD (s .tasks .priority) t 0)) ≡ madeReady (s .tasks) (getD (s .tasks .priority) t 0) t (readyOf s)
   came-order t room z =
-      ready-order (s .line .seat) (s .line .joined) (s .tasks .priority) t (getD (s .tasks .priority) t 0) (ok .line .queues) room z own-seats (priority-below t room)
+      ready-order (s .line .seat) (s .line .joined) (s .tasks .priority) t (getD (s .tasks .priority) t 0) (ok .line .queues) room z own-seats (range-below (s .tasks) (ok .tasks) t room)
 
   came-queue : (t : ℕ) → t < 32 → getD (s .line .seat) t 0 ≡ 0 → (i : ℕ) → i < 16
       → queue (becomesReady (s .line .seat) (s .line .joined) t (getD (s .tasks .priority) t 0)) i ≡ queueIn s i
@@ -171,7 +120,7 @@ module _ (s : State) (ok : Sound s) where
         (λ u. by-choice Out (waitsOn (getD (s .line .seat) t 0)) (λ w. absurd (true-false w (flags r .2)))
         (λ w. record {
           ready = leaves-order (s .line .seat) (ok .line .queues) (good-seats .low) t;
-          waiting = λ i h. leaves-queue (s .line .seat) (ok .line .queues) (good-seats .low) t i ∙ off-queues t i h (ready-high t r);
+          waiting = λ i h. leaves-queue (s .line .seat) (ok .line .queues) (good-seats .low) t i ∙ off-queue (s .line .seat) t i h (ready-high t r);
         })))
         (λ y. absurd (true-false (flags r .0) y))
 
@@ -195,7 +144,7 @@ module _ (s : State) (ok : Sound s) where
           ready = again-order (s .line .seat) (s .line .joined) (s .tasks .priority) good-seats own-seats t room priority (omega (arith, h));
           waiting = λ i l.
               again-queue (s .line .seat) (s .line .joined) (s .tasks .priority) good-seats own-seats t room priority i l
-              ∙ off-queues t i l (ready-high t r);
+              ∙ off-queue (s .line .seat) t i l (ready-high t r);
         })
         (λ w. absurd (true-false r w)))
 

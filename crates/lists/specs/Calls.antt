@@ -10,6 +10,8 @@ use Rattle.scope.specs.declared.Answer.{Answer}
 use Rattle.scope.specs.declared.Tasks.{Tasks}
 use Rattle.scope.specs.Choice.{pick}
 use Rattle.scope.specs.Lists.{insert}
+use Rattle.scope.specs.Identifiers.{identifier}
+use Rattle.scope.specs.Replies.{Wake}
 use Rattle.lists.specs.Rules.{readyOf, queueIn}
 
 -- after the answer the ready order and the queues are these
@@ -37,3 +39,7 @@ wokenInto k t order = pick (getD (k .suspended) t false) order (madeReady k (get
 abbrev pub allWokenInto : Tasks → List ℕ → List ℕ → List ℕ
 allWokenInto k [] order = order
 allWokenInto k (t ∷ ts) order = allWokenInto k ts (wokenInto k t order)
+
+-- task t on the wake list, by its identifier, with its status
+abbrev pub wakeOf : Tasks → ℕ → ℕ → Wake
+wakeOf k why t = record { task = identifier (getD (k .serial) t 0) t; status = why }
