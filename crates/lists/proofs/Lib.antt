@@ -9,3 +9,4 @@ pub mod Sound
 pub mod Again
 pub mod Tasks
 pub mod Wakes
+pub mod Semaphores

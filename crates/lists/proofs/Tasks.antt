@@ -4,7 +4,6 @@
 use Prim.Native.Nat.{ℕ, _≤_, _<_}
 use native.Mathlib.Omega.{arith}
 use mathlib.Core.Path.{_≡_, refl, _∙_}
-use mathlib.Core.Logic.{⊎-elim}
 use mathlib.Core.Bool.{true, false}
 use lib.ListN.{getD}
 use lib.Dec.{ltb}
@@ -16,7 +15,7 @@ use Rattle.scope.specs.Seats.{firstRing, becomesReady, waitsOn, queue, readyOrd
 use Rattle.scope.specs.Views.{readyWith, isReady}
 use Rattle.scope.specs.Answers.{answer, plain, gives}
 use Rattle.scope.specs.Tasks.{taskDeleteAt, taskStartAt, taskSuspendAt, taskResumeAt, taskSetPriorityAt}
-use Rattle.laws.proofs.Branches.{true-false, true-or-false, both-true}
+use Rattle.laws.proofs.Branches.{true-false, both-true}
 use Rattle.histories.specs.Sound.{Sound}
 use Rattle.histories.proofs.Refused.{by-choice}
 use Rattle.histories.proofs.Moves.{off-nowhere, idle-nowhere}

@@ -10,15 +10,15 @@ use mathlib.Core.Bool.{Bool, true, false, not}
 use mathlib.Core.List.{List, [], _∷_, _++_, map}
 use lib.ListN.{length, getD, set, length-set}
 use lib.Seq.{getD-set-same, getD-set-other}
-use lib.Dec.{ltb, eqb, leb}
+use lib.Dec.{eqb}
 use borrow.Author.Tests.{lt-ltb, le-ltb, eq-eqb}
 use Rattle.scope.specs.declared.Line.{Line}
 use Rattle.scope.specs.declared.Tasks.{Tasks}
 use Rattle.scope.specs.declared.Semaphores.{Semaphores}
 use Rattle.scope.specs.declared.Waking.{Waking}
 use Rattle.scope.specs.Choice.{pick}
-use Rattle.scope.specs.Lists.{has, without, insert}
-use Rattle.scope.specs.Seats.{queueSeats, firstRing, firstOf, leaves, becomesReady, tasksFrom, queue, readyOrder}
+use Rattle.scope.specs.Lists.{has, without}
+use Rattle.scope.specs.Seats.{queueSeats, firstOf, leaves, becomesReady, queue, readyOrder}
 use Rattle.scope.specs.Semaphores.{wokenSeats, wake, wakeNext, wakeAll}
 use Rattle.scope.specs.Replies.{Wake, wakesFrom}
 use Rattle.laws.proofs.Branches.{lt-or-le, not-of-true, picked-no}
@@ -61,7 +61,7 @@ without-first x xs a =
 module _ (k : Tasks) (m : Semaphores) (tasks : TasksSound k) where
   -- one task is woken
   module _ (l : Line) (ok : LineSound l k m) (t i : ℕ) (hi : i < 16) (on : has (queue (l .seat) i) t ≡ true) where
-    abbrev woken : Line
+    abbrev pub woken : Line
     woken = wake l (getD (k .suspended) t false) (getD (k .priority) t 0) t
 
     room : t < 32
@@ -102,3 +102,106 @@ module _ (k : Tasks) (m : Semaphores) (tasks : TasksSound k) where
     pub woken-other : (j : ℕ) → j < 16 → (j ≡ i → ⊥) → queue (woken .seat) j ≡ queue (l .seat) j
     woken-other j h ne =
         woken-queue j h ∙ without-none t (queue (l .seat) j) (λ o. ne (omega (arith, on-queue-in (l .seat) j t o .1, at)))
+
+-- a wake list, read off its array: a place behind the last read does not matter, and one place more is one wake more
+from-set : (n j : ℕ) (ws : List ℕ) (c v why : ℕ) → j + n ≤ c → wakesFrom n j (set ws c v) why ≡ wakesFrom n j ws why
+from-set zero j ws c v why h = refl
+from-set (suc n) j ws c v why h =
+    ap (λ (x : ℕ). record { task = x; status = why } ∷ wakesFrom n (suc j) (set ws c v) why) (getD-set-other ws c j v 0 (λ e. omega arith))
+    ∙ ap (λ (l : List Wake). record { task = getD ws j 0; status = why } ∷ l) (from-set n (suc j) ws c v why (omega arith))
+
+from-more : (n j : ℕ) (ws : List ℕ) (why : ℕ)
+    → wakesFrom (suc n) j ws why ≡ wakesFrom n j ws why ++ (record { task = getD ws (j + n) 0; status = why } ∷ [])
+from-more zero j ws why =
+    let e : j ≡ j + 0 = omega arith in ap (λ (x : ℕ). record { task = getD ws x 0; status = why } ∷ []) e
+from-more (suc n) j ws why =
+    let e : suc j + n ≡ j + suc n = omega arith in
+    ap (λ (l : List Wake). record { task = getD ws j 0; status = why } ∷ l)
+    (from-more n (suc j) ws why
+    ∙ ap (λ (x : ℕ). wakesFrom n (suc j) ws why ++ (record { task = getD ws x 0; status = why } ∷ [])) e)
+
+abbrev pub wakesOf : ℕ → Waking → List Wake
+wakesOf why w = wakesFrom (w .woken) 0 (w .wakes) why
+
+-- the next of those to be woken is the last of the wake list
+pub next-wakes : (k : Tasks) (w : Waking) (t why : ℕ) → length (w .wakes) ≡ 32 → w .woken < 32
+    → wakesOf why (wakeNext k w t) ≡ wakesOf why w ++ (wakeOf k why t ∷ [])
+unfolding wakeNext
+next-wakes k w t why long few =
+    let v : ℕ = wakeOf k why t .task in
+    ap (λ (n : ℕ). wakesFrom n 0 (set (w .wakes) (w .woken) v) why) (add-one (w .woken))
+    ∙ from-more (w .woken) 0 (set (w .wakes) (w .woken) v) why
+    ∙ ap (λ (l : List Wake). l ++ (record { task = getD (set (w .wakes) (w .woken) v) (0 + w .woken) 0; status = why } ∷ []))
+    (from-set (w .woken) 0 (w .wakes) (w .woken) v why (omega arith))
+    ∙ ap (λ (x : ℕ). wakesOf why w ++ (record { task = x; status = why } ∷ []))
+    (let e : 0 + w .woken ≡ w .woken = omega arith in
+    ap (λ (x : ℕ). getD (set (w .wakes) (w .woken) v) x 0) e ∙ getD-set-same (w .wakes) (w .woken) v 0 (omega arith))
+
+-- all of a queue are woken
+pub record AllWoken (k : Tasks) (i why : ℕ) (xs : List ℕ) (w r : Waking) : Type 0 where
+  pub order : readyOrder (r .line .seat) ≡ allWokenInto k xs (readyOrder (w .line .seat))
+  pub empty : queue (r .line .seat) i ≡ []
+  pub others : (j : ℕ) → j < 16 → (j ≡ i → ⊥) → queue (r .line .seat) j ≡ queue (w .line .seat) j
+  pub list : wakesOf why r ≡ wakesOf why w ++ map (wakeOf k why) xs
+
+append-none : {A : Type 0} (xs : List A) → xs ++ [] ≡ xs
+append-none [] = refl
+append-none {A} (x ∷ xs) = ap (λ (l : List A). x ∷ l) (append-none xs)
+
+module _ (k : Tasks) (m : Semaphores) (tasks : TasksSound k) (i : ℕ) (hi : i < 16) where
+  all-yes : (n : ℕ) (w : Waking) → firstOf (w .line .seat) (queueSeats i) < 32
+      → wakeAll k i (suc n) w ≡ wakeAll k i n (wakeNext k w (firstOf (w .line .seat) (queueSeats i)))
+  unfolding wakeAll
+  all-yes n w h =
+      ap (λ (b : Bool). elim b as (λ x. Waking) [ true ↦ wakeAll k i n (wakeNext k w (firstOf (w .line .seat) (queueSeats i))) | false ↦ w ]) (lt-ltb _ _ h)
+
+  all-no : (n : ℕ) (w : Waking) → queue (w .line .seat) i ≡ [] → wakeAll k i n w ≡ w
+  unfolding wakeAll
+  all-no zero w e = refl
+  all-no (suc n) w e =
+      let f : firstOf (w .line .seat) (queueSeats i) ≡ 32 = first-of (w .line .seat) i ∙ ap firstIn e in
+      ap (λ (b : Bool). elim b as (λ x. Waking) [ true ↦ wakeAll k i n (wakeNext k w (firstOf (w .line .seat) (queueSeats i))) | false ↦ w ])
+      (le-ltb (firstOf (w .line .seat) (queueSeats i)) 32 (omega (arith, f)))
+
+  next-line : (w : Waking) (t : ℕ) → wakeNext k w t .line ≡ wake (w .line) (getD (k .suspended) t false) (getD (k .priority) t 0) t
+  unfolding wakeNext
+  next-line w t = refl
+
+  next-count : (w : Waking) (t : ℕ) → wakeNext k w t .woken ≡ w .woken + 1
+  unfolding wakeNext
+  next-count w t = refl
+
+  next-size : (w : Waking) (t : ℕ) → length (wakeNext k w t .wakes) ≡ length (w .wakes)
+  unfolding wakeNext
+  next-size w t = length-set (w .wakes) (w .woken) _
+
+  pub all-woken : (why : ℕ) (xs : List ℕ) (n : ℕ) (w : Waking) → LineSound (w .line) k m → queue (w .line .seat) i ≡ xs
+      → length xs ≤ n → length (w .wakes) ≡ 32 → w .woken + length xs ≤ 32 → AllWoken k i why xs w (wakeAll k i n w)
+  all-woken why [] n w ok e few long fits =
+      subst (λ (r : Waking). AllWoken k i why [] w r) (sym (all-no n w e))
+      (record { order = refl; empty = e; others = λ j h ne. refl; list = sym (append-none (wakesOf why w)) })
+  all-woken why (x ∷ xs) zero w ok e few long fits = absurd (omega arith)
+  all-woken why (x ∷ xs) (suc n) w ok e few long fits =
+      let f : firstOf (w .line .seat) (queueSeats i) ≡ x = first-of (w .line .seat) i ∙ ap firstIn e in
+      let on : has (queue (w .line .seat) i) x ≡ true = subst (λ (l : List ℕ). has l x ≡ true) (sym e) (has-head x xs) in
+      let small : x < 32 = on-queue-in (w .line .seat) i x on .0 in
+      let v : Waking = wakeNext k w x in
+      let line : v .line ≡ woken k m tasks (w .line) ok x i hi on = next-line w x in
+      let once : Once (x ∷ xs) = subst (λ (l : List ℕ). Once l) e (queue-no-doubles (w .line .seat) i) in
+      let rest : queue (v .line .seat) i ≡ xs =
+      ap (λ (l : Line). queue (l .seat) i) line ∙ woken-queue k m tasks (w .line) ok x i hi on i hi ∙ ap (without x) e ∙ without-first x xs once in
+      let rec : AllWoken k i why xs v (wakeAll k i n v) =
+      all-woken why xs n v (subst (λ (l : Line). LineSound l k m) (sym line) (woken-sound k m tasks (w .line) ok x i hi on)) rest
+      (omega arith) (next-size w x ∙ long) (omega (arith, next-count w x, fits)) in
+      subst (λ (r : Waking). AllWoken k i why (x ∷ xs) w r)
+      (sym (all-yes n w (omega (arith, f, small)) ∙ ap (λ (t : ℕ). wakeAll k i n (wakeNext k w t)) f))
+      (record {
+        order = rec .order
+            ∙ ap (λ (l : List ℕ). allWokenInto k xs l)
+            (ap (λ (l : Line). readyOrder (l .seat)) line ∙ woken-order k m tasks (w .line) ok x i hi on);
+        empty = rec .empty;
+        others = λ j h ne. rec .others j h ne ∙ ap (λ (l : Line). queue (l .seat) j) line ∙ woken-other k m tasks (w .line) ok x i hi on j h ne;
+        list = rec .list
+            ∙ ap (λ (l : List Wake). l ++ map (wakeOf k why) xs) (next-wakes k w x why long (omega arith))
+            ∙ append-one (wakeOf k why x) (wakesOf why w) (map (wakeOf k why) xs);
+      })
