@@ -10,3 +10,4 @@ pub mod Again
 pub mod Tasks
 pub mod Wakes
 pub mod Semaphores
+pub mod Form

@@ -147,6 +147,10 @@ module _ (p : ℕ → Bool) where
   keep-all (x ∷ xs) f =
       keep-yes x xs (f x (has-head x xs)) ∙ ap (λ (l : List ℕ). x ∷ l) (keep-all xs (λ u h. f u (has-tail x u xs h)))
 
+  pub keep-none : (xs : List ℕ) → ((u : ℕ) → has xs u ≡ true → p u ≡ false) → keep p xs ≡ []
+  keep-none [] f = refl
+  keep-none (x ∷ xs) f = keep-no x xs (f x (has-head x xs)) ∙ keep-none xs (λ u h. f u (has-tail x u xs h))
+
 -- all but t
 pub has-without : (t u : ℕ) (xs : List ℕ) → has (without t xs) u ≡ true → (has xs u ≡ true) × (u ≡ t → ⊥)
 has-without t u xs h =
@@ -181,6 +185,10 @@ has-append (x ∷ xs) ys t h =
     (λ e. inl (subst (λ (v : ℕ). has (x ∷ xs) v ≡ true) e (has-head x xs)))
     (λ l. ⊎-elim (λ m. inl (has-tail x t xs m)) inr (has-append xs ys t l))
     (has-says x t (xs ++ ys) h)
+
+pub append-none : {A : Type 0} (xs : List A) → xs ++ [] ≡ xs
+append-none [] = refl
+append-none {A} (x ∷ xs) = ap (λ (l : List A). x ∷ l) (append-none xs)
 
 pub append-one : {A : Type 0} (t : A) (xs ys : List A) → (xs ++ (t ∷ [])) ++ ys ≡ xs ++ (t ∷ ys)
 append-one t [] ys = refl

@@ -28,7 +28,7 @@ use Rattle.histories.specs.Sound.{LineSound, TasksSound}
 use Rattle.histories.proofs.Moves.{wake-sound, queue-waits}
 use Rattle.lists.specs.Along.{Once, firstIn}
 use Rattle.lists.specs.Calls.{madeReady, wokenInto, allWokenInto, wakeOf}
-use Rattle.lists.proofs.Plain.{has-head, without-none, append-one}
+use Rattle.lists.proofs.Plain.{has-head, without-none, append-none, append-one}
 use Rattle.lists.proofs.Members.{from-yes, from-no, queue-once, queue-says, queue-below}
 use Rattle.lists.proofs.Leaving.{leaves-queue, leaves-order}
 use Rattle.lists.proofs.Again.{again-order, again-queue, off-order, good-line, own-line, range-below}
@@ -143,10 +143,6 @@ pub record AllWoken (k : Tasks) (i why : ℕ) (xs : List ℕ) (w r : Waking) : T
   pub empty : queue (r .line .seat) i ≡ []
   pub others : (j : ℕ) → j < 16 → (j ≡ i → ⊥) → queue (r .line .seat) j ≡ queue (w .line .seat) j
   pub list : wakesOf why r ≡ wakesOf why w ++ map (wakeOf k why) xs
-
-append-none : {A : Type 0} (xs : List A) → xs ++ [] ≡ xs
-append-none [] = refl
-append-none {A} (x ∷ xs) = ap (λ (l : List A). x ∷ l) (append-none xs)
 
 module _ (k : Tasks) (m : Semaphores) (tasks : TasksSound k) (i : ℕ) (hi : i < 16) where
   all-yes : (n : ℕ) (w : Waking) → firstOf (w .line .seat) (queueSeats i) < 32
