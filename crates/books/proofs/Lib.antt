@@ -7,3 +7,4 @@ pub mod HeldSteps
 pub mod HeldTold
 pub mod HeldCounts
 pub mod Pools
+pub mod Granting
