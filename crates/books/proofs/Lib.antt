@@ -8,3 +8,4 @@ pub mod HeldTold
 pub mod HeldCounts
 pub mod Pools
 pub mod Granting
+pub mod Members
