@@ -9,3 +9,4 @@ pub mod HeldCounts
 pub mod Pools
 pub mod Granting
 pub mod Members
+pub mod Woken
