@@ -10,3 +10,4 @@ pub mod Pools
 pub mod Granting
 pub mod Members
 pub mod Woken
+pub mod Agreeing
