@@ -11,3 +11,4 @@ pub mod Granting
 pub mod Members
 pub mod Woken
 pub mod Agreeing
+pub mod Claiming

@@ -63,9 +63,9 @@ pub once-grown : (xs : List ℕ) (y : ℕ) → Once xs → has xs y ≡ false �
 once-grown [] y o h = (refl, record {})
 once-grown (x ∷ xs) y o h = (
   none-has (xs ++ (y ∷ [])) x
-  (λ b. ⊎-elim (λ c. true-false c (o .0))
-  (λ e. true-false (subst (λ (v : ℕ). has (x ∷ xs) v ≡ true) (sym e) (has-here x xs)) h)
-  (has-grown xs y x b)),
+      (λ b. ⊎-elim (λ c. true-false c (o .0))
+      (λ e. true-false (subst (λ (v : ℕ). has (x ∷ xs) v ≡ true) (sym e) (has-here x xs)) h)
+      (has-grown xs y x b)),
   once-grown xs y (o .1) (none-has xs y (λ b. true-false (has-later x xs y b) h)),
 )
 

@@ -76,7 +76,7 @@ module _ (q key : List ℕ) (t o x : ℕ) (level : o % 64 ≡ 0) where
   abbrev seats : List ℕ
   seats = joins q key t o x
 
-  joined-stood : (b : ℕ) → b % 64 ≡ 0 → (u : ℕ) → (u ≡ t → ⊥) → In seats b u → In q b u
+  pub joined-stood : (b : ℕ) → b % 64 ≡ 0 → (u : ℕ) → (u ≡ t → ⊥) → In seats b u → In q b u
   joined-stood b flat u ne (a, c) =
       let from : o ≤ aheadOf q key o (o + 63) x 32 = ahead-from q key o (o + 63) x 32 in
       ⊎-elim (λ s. (omega arith, omega arith)) (λ s. (omega (arith, s .1), omega (arith, s .1))) (joins-is q key t o x u ne)
