@@ -12,3 +12,4 @@ pub mod Members
 pub mod Woken
 pub mod Agreeing
 pub mod Claiming
+pub mod Steps

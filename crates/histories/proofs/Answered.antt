@@ -27,7 +27,7 @@ pub data Rows (P : ℕ → Call → Type 0) : ℕ → List Call → Type 0 where
   none : {n : ℕ} → Rows P n []
   more : {n : ℕ} {c : Call} {cs : List Call} → P n c → Rows P (suc n) cs → Rows P n (c ∷ cs)
 
-row-at : (P : ℕ → Call → Type 0) (n : ℕ) (cs : List Call) → Rows P n cs → ((k : ℕ) → P k noCall) → (k : ℕ) → P (n + k) (getD cs k noCall)
+pub row-at : (P : ℕ → Call → Type 0) (n : ℕ) (cs : List Call) → Rows P n cs → ((k : ℕ) → P k noCall) → (k : ℕ) → P (n + k) (getD cs k noCall)
 row-at P n [] rows other k = other (n + k)
 row-at P n (c ∷ cs) (more p rows) other zero = subst (λ (j : ℕ). P j c) {x = n} (omega arith) p
 row-at P n (c ∷ cs) (more p rows) other (suc k) =

@@ -120,7 +120,7 @@ module _ (s : State) (ok : Sound s) where
   tick-goes = passes refl (moved (fewer-then l (ticked l k) _ (ticked-fewer l k) (due-fewer k 32 0 (noneWoken (ticked l k)) (omega arith) good)))
 
   -- the task calls
-  task-room : (id t : ℕ) → taskFound s id ≡ At t → t < 32
+  pub task-room : (id t : ℕ) → taskFound s id ≡ At t → t < 32
   unfolding taskFound pick
   task-room id t = go (eqb id 0) (ltb (s .running) 32) refl
     where
@@ -143,7 +143,7 @@ module _ (s : State) (ok : Sound s) where
   task-ident name = by-choice (Goes s) _ (λ e. stay _ refl) (λ e. passes refl same)
 
   -- a task that stands nowhere becomes ready
-  readied-goes : (t p : ℕ) → t < 32 → getD (l .seat) t 0 ≡ 0 → Fewer l (record { left = l .left; seat = becomesReady (l .seat) (l .joined) t p; joined = l .joined })
+  pub readied-goes : (t p : ℕ) → t < 32 → getD (l .seat) t 0 ≡ 0 → Fewer l (record { left = l .left; seat = becomesReady (l .seat) (l .joined) t p; joined = l .joined })
   readied-goes t p room out = record { seats = ready-stays (l .seat) (l .joined) t p good room out; joined = λ o a b u h. refl }
 
   task-start : (id : ℕ) → Goes s (taskStart s id)
@@ -187,7 +187,7 @@ module _ (s : State) (ok : Sound s) where
       (λ g. passes refl same)))
 
   -- the semaphore calls
-  slot-room : (id i : ℕ) → semFound s id ≡ At i → i < 16
+  pub slot-room : (id i : ℕ) → semFound s id ≡ At i → i < 16
   slot-room id i e = omega (arith, found-below (m .serial) (m .live) id e, ok .semaphores .serials)
 
   -- a slot where nobody stands in the queue becomes FIFO or not
@@ -315,7 +315,7 @@ all-turn =
     and end
 
 -- a caller's refusal is never PENDING
-not-pending : (call mark running : ℕ) → eqb (callerRefusal call mark running) PENDING ≡ false
+pub not-pending : (call mark running : ℕ) → eqb (callerRefusal call mark running) PENDING ≡ false
 unfolding callerRefusal
 not-pending call mark running =
     let P : ℕ → Type 0 = λ x. eqb x PENDING ≡ false in
