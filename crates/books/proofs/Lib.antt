@@ -13,3 +13,4 @@ pub mod Woken
 pub mod Agreeing
 pub mod Claiming
 pub mod Steps
+pub mod Telling

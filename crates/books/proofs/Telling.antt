@@ -1,0 +1,188 @@
+-- Every event's answer keeps the state in agreement with what the answers tell: one walk over the call table.
+-- Assumes nothing.
+use Prim.Native.Nat.{ℕ, suc, _+_, _<_}
+use native.Mathlib.Omega.{arith}
+use mathlib.Core.Path.{_≡_, refl, sym, subst, ap, _∙_}
+use mathlib.Core.Logic.{_⊎_, inl, inr, ⊎-elim}
+use mathlib.Core.Bool.{Bool, true, false, not}
+use mathlib.Core.List.{List, [], _∷_}
+use lib.ListN.{length, getD, set, length-set}
+use lib.Seq.{getD-set-same, getD-set-other}
+use lib.Dec.{ltb, eqb}
+use borrow.Author.Tests.{ltb-true, leb-false}
+use Rattle.scope.specs.declared.State.{State}
+use Rattle.scope.specs.declared.Line.{Line}
+use Rattle.scope.specs.declared.Answer.{Answer}
+use Rattle.scope.specs.declared.Tasks.{Tasks}
+use Rattle.scope.specs.declared.Semaphores.{Semaphores}
+use Rattle.scope.specs.declared.Found.{Found}
+use Rattle.scope.specs.declared.Found.the-variants.{At, Deleted, Invalid}
+use Rattle.scope.specs.Choice.{pick}
+use Rattle.scope.specs.Statuses.{OK, PENDING, TIME-OUT, BAD-CALL}
+use Rattle.scope.specs.Identifiers.{identifier, lowestUsable}
+use Rattle.scope.specs.Seats.{queueSeats, waitsOn, firstOf, leaves, becomesReady}
+use Rattle.scope.specs.Views.{withLine, withTasks, withSemaphores, withSeats, withWait, readyWith, isReady, runningTask}
+use Rattle.scope.specs.Answers.{answer, plain, gives, badState, wakesWith, onFound}
+use Rattle.scope.specs.Tasks.{taskFound, taskBorn, taskGone, taskCreateAt, taskCreate, taskDeleteAt, taskDelete, taskIdentAt, taskIdent, taskStartAt, taskStart, taskSuspendAt, taskSuspend, taskResumeAt, taskResume, taskSetPriorityAt, taskSetPriority}
+use Rattle.scope.specs.Semaphores.{semFound, semBorn, semGone, noneWoken, wakeNext, wakeAll, semCreateAt, semCreate, semDeleteAt, semDelete, semIdentAt, semIdent, waits, semWaitAt, semClaimAt, semClaim, semReleaseAt, semRelease, semInfoAt, semInfo}
+use Rattle.scope.specs.Pools.{poolCreateAt, poolCreate, poolDeleteAt, poolDelete, poolIdentAt, poolIdent, poolGetBuffer, poolGetBuffAt, poolGetBuff, poolRetBuffer, poolRetBuffAt, poolRetBuff, poolInfoAt, poolInfo}
+use Rattle.scope.specs.Ticks.{ticked, wakeDue, tick}
+use Rattle.scope.specs.Calls.{Call, calls, callAt}
+use Rattle.scope.specs.Step.{callerRefusal, answered, stepped}
+use Rattle.laws.proofs.Branches.{both-true, not-of-true, true-false, true-or-false, eq-or-not, picked-yes, picked-no}
+use Rattle.tables.proofs.Laws.{found-live, found-identifier, usable-at, usable-free}
+use Rattle.seats.specs.Rule.{In}
+use Rattle.seats.proofs.Leaving.{leaves-out}
+use Rattle.histories.specs.Sound.{Ready, Sound}
+use Rattle.histories.specs.History.{Event, answerTo, after}
+use Rattle.histories.specs.Order.{Arrivals, arrival, arrives, arrivedAfter, WaitsFor}
+use Rattle.histories.proofs.Refused.{by-choice}
+use Rattle.histories.proofs.Refusals.{by-rules}
+use Rattle.histories.proofs.Answered.{Rows, none, more, row-at}
+use Rattle.histories.proofs.Meaning.{sound-right}
+use Rattle.histories.proofs.Moves.{idle-nowhere, off-nowhere}
+use Rattle.histories.proofs.Semaphores.{runs-ready, sem-delete-at}
+use Rattle.histories.proofs.Staying.{Good, Fewer, stays-same, stays-then, leaves-stays, leaves-good, ready-stays, fewer-same, fewer-then, left-fewer, next-fewer, all-fewer, due-fewer, ticked-fewer}
+use Rattle.histories.proofs.Turns.{dead-nobody, good, task-room, slot-room, readied-goes, not-pending}
+use Rattle.histories.proofs.Ledger.{event-keeps}
+use Rattle.books.specs.Past.{Turn, isAnswer, value, pastFrom}
+use Rattle.books.proofs.Woken.{ready-others, Left, leaves-left, ready-left, none-woke, next-woke, all-woke, due-woke}
+use Rattle.books.proofs.Agreeing.{taskId, semId, turnOf, Agrees, is-answer, not-call, not-of, not-creates, not-done}
+use Rattle.books.proofs.Claiming.{waiters-more, claim-stays, claim-came, claim-new, claim-kept, claim-joined}
+use Rattle.books.proofs.Steps.{Steps, waiter-live, waiter-seen, ends-woken, SameTasks, SameSems, Moves, moves-none, moves-woke, plain-steps, status-steps, call-steps, create-steps, set-steps, delete-steps, born-steps, gone-steps}
+
+module _ (s : State) (x : Event) where
+  line-moves : (a : Answer) → a .state .line ≡ s .line → a .woken ≡ 0 → Moves s a
+  line-moves a e unwoken =
+      moves-none s a (subst (Fewer (s .line)) (sym e) (fewer-same (s .line)))
+      (λ i h t w. subst (λ (l : Line). In (l .seat) (queueSeats i) t) (sym e) w) unwoken
+
+  -- a refusal, which is not PENDING
+  pub stay : (status : ℕ) → eqb status OK ≡ false → eqb status PENDING ≡ false → Steps s x (plain s status)
+  unfolding plain answer
+  stay status e f =
+      status-steps s x (plain s status) f refl e
+      (record { serial = refl; live = refl; priority = refl }) (record { serial = refl; live = refl; fifo = refl }) (line-moves (plain s status) refl refl)
+
+  named : (o : Found) (f : ℕ → Answer) → ((i : ℕ) → o ≡ At i → Steps s x (f i)) → Steps s x (onFound o s f)
+  unfolding onFound
+  named (At i) f g = g i refl
+  named Deleted f g = stay _ refl refl
+  named Invalid f g = stay _ refl refl
+
+  -- a call that touches neither tasks, semaphores' identifiers and options, nor who stands where
+  quiet : (a : Answer) → eqb (a .status) PENDING ≡ false → a .running ≡ runningTask (a .state)
+      → (c : ℕ) → x .call ≡ c → eqb c 1 ≡ false → eqb c 2 ≡ false → eqb c 7 ≡ false → eqb c 8 ≡ false → eqb c 9 ≡ false
+      → a .state .tasks ≡ s .tasks → SameSems s a → a .state .line ≡ s .line → a .woken ≡ 0 → Steps s x a
+  quiet a mute runs c at e1 e2 e7 e8 e9 tasks sems line woken =
+      call-steps s x a mute runs c at e1 e2 e7 e8 e9
+      (record {
+        serial = ap (λ k. k .serial) tasks;
+        live = ap (λ k. k .live) tasks;
+        priority = ap (λ k. k .priority) tasks;
+      })
+      sems (line-moves a line woken)
+
+-- a started task lives
+started-live : (s : State) → Sound s → (t : ℕ) → t < 32 → getD (s .tasks .started) t false ≡ true → getD (s .tasks .live) t false ≡ true
+started-live s ok t room started =
+    ⊎-elim (λ e. e) (λ e. absurd (true-false started (ok .tasks .each t room .started e))) (true-or-false (getD (s .tasks .live) t false))
+
+-- a ready task does not wait
+ready-off : (started suspended : Bool) (seat : ℕ) → readyWith started suspended seat ≡ true → waitsOn seat ≡ false
+unfolding readyWith
+ready-off started suspended seat e =
+    ⊎-elim
+    (λ w. absurd (true-false (both-true (not suspended) _ (both-true started _ e .1) .1) (not-of-true _ w)))
+    (λ w. w)
+    (true-or-false (waitsOn seat))
+
+module _ (s : State) (ok : Sound s) (x : Event) where
+  abbrev l : Line
+  l = s .line
+
+  abbrev k : Tasks
+  k = s .tasks
+
+  abbrev m : Semaphores
+  m = s .semaphores
+
+  whole : Good (l .seat)
+  whole = good s ok
+
+  tick-steps : x .call ≡ 0 → Steps s x (tick s)
+  unfolding tick wakesWith
+  tick-steps at =
+      call-steps s x (tick s) refl refl 0 at refl refl refl refl refl
+      (record { serial = refl; live = refl; priority = refl }) (record { serial = refl; live = refl; fifo = refl })
+      (moves-woke s ok s (ticked l k) (wakeDue k 32 0 (noneWoken (ticked l k))) TIME-OUT refl
+      (fewer-then l (ticked l k) _ (ticked-fewer l k) (due-fewer k 32 0 (noneWoken (ticked l k)) (omega arith) whole))
+      (due-woke k (ticked l k) 32 0 (noneWoken (ticked l k)) (omega arith) (omega arith) (none-woke k (ticked l k) whole)))
+
+  -- the task calls
+  task-create-at : x .call ≡ 1 → (t : ℕ) → t < 32 → getD (k .live) t false ≡ false
+      → Steps s x (gives (withTasks s (taskBorn k t (x .a) (x .b))) (identifier (getD (k .serial) t 0 + 1) t))
+  unfolding gives answer
+  task-create-at at t room free =
+      create-steps s x (gives (withTasks s (taskBorn k t (x .a) (x .b))) (identifier (getD (k .serial) t 0 + 1) t)) refl refl at refl t room
+      (getD (k .serial) t 0 + 1) refl
+      (getD-set-same (k .serial) t (getD (k .serial) t 0 + 1) 0 (omega (arith, ok .tasks .serials)))
+      (getD-set-same (k .priority) t (x .b) 0 (omega (arith, ok .tasks .priorities)))
+      (λ u ne. (
+        ap (λ (v : ℕ). identifier v u) (getD-set-other (k .serial) t u (getD (k .serial) t 0 + 1) 0 ne),
+        getD-set-other (k .live) t u true false ne,
+        getD-set-other (k .priority) t u (x .b) 0 ne,
+      ))
+      (λ i h u w e. true-false (waiter-live s ok i h u w) (ap (λ (v : ℕ). getD (k .live) v false) e ∙ free))
+      (record { serial = refl; live = refl; fifo = refl })
+      (line-moves s x _ refl refl)
+
+  task-create-steps : x .call ≡ 1 → Steps s x (taskCreate s (x .a) (x .b))
+  unfolding taskCreate taskCreateAt
+  task-create-steps at =
+      by-choice (Steps s x) _ (λ e. stay s x _ refl refl)
+      (λ e. by-choice (Steps s x) _ (λ f. stay s x _ refl refl)
+      (λ f. let h = leb-false (length (k .serial)) (lowestUsable (k .serial) (k .live)) f in
+      task-create-at at (lowestUsable (k .serial) (k .live)) (omega (arith, h, ok .tasks .serials))
+      (usable-free (k .serial) (k .live) _ (usable-at (k .serial) (k .live) h))))
+
+  task-delete-steps : x .call ≡ 2 → Steps s x (taskDelete s (x .a))
+  unfolding taskDeleteAt plain answer
+  task-delete-steps at =
+      named s x _ (taskDeleteAt s)
+      (λ t e. let room : t < 32 = task-room s ok (x .a) t e in
+      let left : Left (l .seat) (leaves (l .seat) t) t = leaves-left (l .seat) whole t in
+      delete-steps s x (taskDeleteAt s t) refl refl ok at refl refl t room e refl
+      (λ u alive. ⊎-elim
+      (λ d. absurd (true-false alive (ap (λ (v : ℕ). getD (set (k .live) t false) v false) d
+      ∙ getD-set-same (k .live) t false false (omega (arith, ok .tasks .lives)))))
+      (λ ne. (sym (getD-set-other (k .live) t u false false ne) ∙ alive, getD-set-other (k .priority) t u 0 0 ne))
+      (eq-or-not u t))
+      (left-fewer l whole t 0 0 (leaves (l .seat) t) (stays-same (leaves (l .seat) t)))
+      (left .others) (left .out)
+      (record { serial = refl; live = refl; fifo = refl }))
+
+  task-ident-steps : x .call ≡ 3 → Steps s x (taskIdent s (x .a))
+  unfolding taskIdent taskIdentAt gives answer
+  task-ident-steps at =
+      by-choice (Steps s x) _ (λ e. stay s x _ refl refl)
+      (λ e. quiet s x (gives s _) refl refl 3 at refl refl refl refl refl refl (record { serial = refl; live = refl; fifo = refl }) refl refl)
+
+  -- a task that stands nowhere becomes ready: whatever else the call does
+  readied-moves : (a : Answer) (t p : ℕ) → t < 32 → getD (l .seat) t 0 ≡ 0
+      → a .state .line ≡ withSeats l (becomesReady (l .seat) (l .joined) t p) → a .woken ≡ 0 → Moves s a
+  readied-moves a t p room out e unwoken =
+      moves-none s a (subst (Fewer l) (sym e) (readied-goes s ok t p room out))
+      (λ i h u w. subst (λ (r : Line). In (r .seat) (queueSeats i) u) (sym e)
+      (ready-others (l .seat) (l .joined) t p whole room out (queueSeats i) (omega arith) (omega arith) u w))
+      unwoken
+
+  task-start-steps : x .call ≡ 4 → Steps s x (taskStart s (x .a))
+  unfolding taskStartAt plain answer
+  task-start-steps at =
+      named s x _ (taskStartAt s)
+      (λ t e. by-choice (Steps s x) _ (λ f. stay s x _ refl refl)
+      (λ f. let room : t < 32 = task-room s ok (x .a) t e in
+      call-steps s x _ refl refl 4 at refl refl refl refl refl
+      (record { serial = refl; live = refl; priority = refl }) (record { serial = refl; live = refl; fifo = refl })
+      (readied-moves _ t (getD (k .priority) t 0) room (idle-nowhere l k m (ok .line) t room f .seat) refl refl)))
