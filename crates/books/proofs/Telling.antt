@@ -9,7 +9,7 @@ use mathlib.Core.List.{List, [], _∷_}
 use lib.ListN.{length, getD, set, length-set}
 use lib.Seq.{getD-set-same, getD-set-other}
 use lib.Dec.{ltb, eqb}
-use borrow.Author.Tests.{ltb-true, leb-false}
+use borrow.Author.Tests.{ltb-true, leb-false, lt-ltb}
 use Rattle.scope.specs.declared.State.{State}
 use Rattle.scope.specs.declared.Line.{Line}
 use Rattle.scope.specs.declared.Answer.{Answer}
@@ -24,7 +24,7 @@ use Rattle.scope.specs.Seats.{queueSeats, waitsOn, firstOf, leaves, becomesRead
 use Rattle.scope.specs.Views.{withLine, withTasks, withSemaphores, withSeats, withWait, readyWith, isReady, runningTask}
 use Rattle.scope.specs.Answers.{answer, plain, gives, badState, wakesWith, onFound}
 use Rattle.scope.specs.Tasks.{taskFound, taskBorn, taskGone, taskCreateAt, taskCreate, taskDeleteAt, taskDelete, taskIdentAt, taskIdent, taskStartAt, taskStart, taskSuspendAt, taskSuspend, taskResumeAt, taskResume, taskSetPriorityAt, taskSetPriority}
-use Rattle.scope.specs.Semaphores.{semFound, semBorn, semGone, noneWoken, wakeNext, wakeAll, semCreateAt, semCreate, semDeleteAt, semDelete, semIdentAt, semIdent, waits, semWaitAt, semClaimAt, semClaim, semReleaseAt, semRelease, semInfoAt, semInfo}
+use Rattle.scope.specs.Semaphores.{semFound, semBorn, semGone, withUnits, noneWoken, wakeNext, wakeAll, semCreateAt, semCreate, semDeleteAt, semDelete, semIdentAt, semIdent, waits, semWaitAt, semClaimAt, semClaim, semReleaseAt, semRelease, semInfoAt, semInfo}
 use Rattle.scope.specs.Pools.{poolCreateAt, poolCreate, poolDeleteAt, poolDelete, poolIdentAt, poolIdent, poolGetBuffer, poolGetBuffAt, poolGetBuff, poolRetBuffer, poolRetBuffAt, poolRetBuff, poolInfoAt, poolInfo}
 use Rattle.scope.specs.Ticks.{ticked, wakeDue, tick}
 use Rattle.scope.specs.Calls.{Call, calls, callAt}
@@ -45,7 +45,7 @@ use Rattle.histories.proofs.Semaphores.{runs-ready, sem-delete-at}
 use Rattle.histories.proofs.Staying.{Good, Fewer, stays-same, stays-then, leaves-stays, leaves-good, ready-stays, fewer-same, fewer-then, left-fewer, next-fewer, all-fewer, due-fewer, ticked-fewer}
 use Rattle.histories.proofs.Turns.{dead-nobody, good, task-room, slot-room, readied-goes, not-pending}
 use Rattle.histories.proofs.Ledger.{event-keeps}
-use Rattle.books.specs.Past.{Turn, isAnswer, value, pastFrom}
+use Rattle.books.specs.Past.{Turn, isAnswer, value, runningIn, pastFrom}
 use Rattle.books.proofs.Woken.{ready-others, Left, leaves-left, ready-left, none-woke, next-woke, all-woke, due-woke}
 use Rattle.books.proofs.Agreeing.{taskId, semId, turnOf, Agrees, is-answer, not-call, not-of, not-creates, not-done}
 use Rattle.books.proofs.Claiming.{waiters-more, claim-stays, claim-came, claim-new, claim-kept, claim-joined}
@@ -186,3 +186,199 @@ module _ (s : State) (ok : Sound s) (x : Event) where
       call-steps s x _ refl refl 4 at refl refl refl refl refl
       (record { serial = refl; live = refl; priority = refl }) (record { serial = refl; live = refl; fifo = refl })
       (readied-moves _ t (getD (k .priority) t 0) room (idle-nowhere l k m (ok .line) t room f .seat) refl refl)))
+
+  -- a task that does not wait leaves where it stands, and may become ready: nobody's wait ends
+  off-other : (t : ℕ) → waitsOn (getD (l .seat) t 0) ≡ false → (i : ℕ) → i < 16 → (u : ℕ) → In (l .seat) (queueSeats i) u → u ≡ t → ⊥
+  off-other t off i h u w e = true-false (waiter-seen (l .seat) i h u w) (ap (λ (v : ℕ). waitsOn (getD (l .seat) v 0)) e ∙ off)
+
+  task-suspend-steps : x .call ≡ 5 → Steps s x (taskSuspend s (x .a))
+  unfolding taskSuspendAt plain answer
+  task-suspend-steps at =
+      named s x _ (taskSuspendAt s)
+      (λ t e. by-choice (Steps s x) _
+      (λ f. by-choice (Steps s x) _ (λ g. stay s x _ refl refl)
+      (λ g. by-choice (Steps s x) _
+      (λ h. call-steps s x _ refl refl 5 at refl refl refl refl refl
+      (record { serial = refl; live = refl; priority = refl }) (record { serial = refl; live = refl; fifo = refl }) (line-moves s x _ refl refl))
+      (λ h. call-steps s x _ refl refl 5 at refl refl refl refl refl
+      (record { serial = refl; live = refl; priority = refl }) (record { serial = refl; live = refl; fifo = refl })
+      (moves-none s _ (record { seats = leaves-stays (l .seat) whole t; joined = λ o a b u i. refl })
+      (λ i c u w. leaves-left (l .seat) whole t .others i c u (off-other t h i c u w) w) refl))))
+      (λ f. stay s x _ refl refl))
+
+  task-resume-steps : x .call ≡ 6 → Steps s x (taskResume s (x .a))
+  unfolding taskResumeAt plain answer
+  task-resume-steps at =
+      named s x _ (taskResumeAt s)
+      (λ t e. by-choice (Steps s x) _
+      (λ f. by-choice (Steps s x) _
+      (λ g. by-choice (Steps s x) _
+      (λ h. call-steps s x _ refl refl 6 at refl refl refl refl refl
+      (record { serial = refl; live = refl; priority = refl }) (record { serial = refl; live = refl; fifo = refl }) (line-moves s x _ refl refl))
+      (λ h. let room : t < 32 = task-room s ok (x .a) t e in
+      call-steps s x _ refl refl 6 at refl refl refl refl refl
+      (record { serial = refl; live = refl; priority = refl }) (record { serial = refl; live = refl; fifo = refl })
+      (readied-moves _ t (getD (k .priority) t 0) room (off-nowhere l k m (ok .line) t room h g .seat) refl refl)))
+      (λ g. stay s x _ refl refl))
+      (λ f. stay s x _ refl refl))
+
+  task-set-priority-steps : x .call ≡ 7 → Steps s x (taskSetPriority s (x .a) (x .b))
+  unfolding taskSetPriorityAt gives answer
+  task-set-priority-steps at =
+      named s x _ (taskSetPriorityAt s (x .b))
+      (λ t e. let room : t < 32 = task-room s ok (x .a) t e in
+      let urgent : getD (set (k .priority) t (x .b)) t 0 ≡ x .b = getD-set-same (k .priority) t (x .b) 0 (omega (arith, ok .tasks .priorities)) in
+      by-choice (Steps s x) _ (λ f. stay s x _ refl refl)
+      (λ f. by-choice (Steps s x) _
+      (λ g. set-steps s x _ refl refl at refl t room e urgent refl refl (λ u ne. getD-set-other (k .priority) t u (x .b) 0 ne)
+      (record { serial = refl; live = refl; fifo = refl })
+      (moves-none s _
+      (record {
+        seats = stays-then (l .seat) (leaves (l .seat) t) _ (leaves-stays (l .seat) whole t)
+            (ready-stays (leaves (l .seat) t) (l .joined) t (x .b) (leaves-good (l .seat) whole t) room (leaves-out (l .seat) t));
+        joined = λ o a b u h. refl;
+      })
+      (λ i c u w. ready-left (l .seat) whole (l .joined) t (x .b) room .others i c u (off-other t (ready-off _ _ _ g) i c u w) w) refl))
+      (λ g. set-steps s x _ refl refl at refl t room e urgent refl refl (λ u ne. getD-set-other (k .priority) t u (x .b) 0 ne)
+      (record { serial = refl; live = refl; fifo = refl }) (line-moves s x _ refl refl))))
+
+  -- the semaphore calls
+  sem-create-at : x .call ≡ 8 → (i : ℕ) → i < 16 → getD (m .live) i false ≡ false
+      → Steps s x (gives (withSemaphores s (semBorn m i (x .a) (x .b) (eqb (x .c) 1))) (identifier (getD (m .serial) i 0 + 1) i))
+  unfolding gives answer
+  sem-create-at at i room free =
+      born-steps s x (gives (withSemaphores s (semBorn m i (x .a) (x .b) (eqb (x .c) 1))) (identifier (getD (m .serial) i 0 + 1) i)) refl refl at refl i room
+      (getD (m .serial) i 0 + 1) refl
+      (getD-set-same (m .serial) i (getD (m .serial) i 0 + 1) 0 (omega (arith, ok .semaphores .serials)))
+      (getD-set-same (m .fifo) i (eqb (x .c) 1) false (omega (arith, ok .semaphores .fifos)))
+      (λ j ne. (
+        ap (λ (v : ℕ). identifier v j) (getD-set-other (m .serial) i j (getD (m .serial) i 0 + 1) 0 ne),
+        getD-set-other (m .live) i j true false ne,
+        getD-set-other (m .fifo) i j (eqb (x .c) 1) false ne,
+      ))
+      (dead-nobody s ok i room free)
+      (record { serial = refl; live = refl; priority = refl })
+      (line-moves s x _ refl refl)
+
+  sem-create-steps : x .call ≡ 8 → Steps s x (semCreate s (x .a) (x .b) (x .c))
+  unfolding semCreate semCreateAt
+  sem-create-steps at =
+      by-choice (Steps s x) _ (λ e. stay s x _ refl refl)
+      (λ e. by-choice (Steps s x) _ (λ f. stay s x _ refl refl)
+      (λ f. by-choice (Steps s x) _ (λ g. stay s x _ refl refl)
+      (λ g. let h = leb-false (length (m .serial)) (lowestUsable (m .serial) (m .live)) g in
+      sem-create-at at (lowestUsable (m .serial) (m .live)) (omega (arith, h, ok .semaphores .serials))
+      (usable-free (m .serial) (m .live) _ (usable-at (m .serial) (m .live) h)))))
+
+  sem-delete-steps : x .call ≡ 9 → Steps s x (semDelete s (x .a))
+  unfolding semDeleteAt wakesWith
+  sem-delete-steps at =
+      named s x _ (semDeleteAt s)
+      (λ i e. let hi : i < 16 = slot-room s ok (x .a) i e in
+      let dead : getD (set (m .live) i false) i false ≡ false = getD-set-same (m .live) i false false (omega (arith, ok .semaphores .lives)) in
+      gone-steps s x (semDeleteAt s i) refl refl at i hi (found-identifier (m .serial) (m .live) (x .a) e) refl
+      (λ j alive. ⊎-elim
+      (λ d. absurd (true-false alive (ap (λ (v : ℕ). getD (set (m .live) i false) v false) d ∙ dead)))
+      (λ ne. (sym (getD-set-other (m .live) i j false false ne) ∙ alive, getD-set-other (m .fifo) i j false false ne))
+      (eq-or-not j i))
+      (dead-nobody (semDeleteAt s i .state) (sem-delete-at s ok i hi (found-live (m .serial) (m .live) (x .a) e)) i hi dead)
+      (record { serial = refl; live = refl; priority = refl })
+      (moves-woke s ok (withSemaphores s (semGone m i)) l (wakeAll k i 32 (noneWoken l)) _ refl (all-fewer k i 32 (noneWoken l) whole)
+      (all-woke k l i 32 (noneWoken l) (omega arith) (none-woke k l whole))))
+
+  sem-ident-steps : x .call ≡ 10 → Steps s x (semIdent s (x .a))
+  unfolding semIdent semIdentAt gives answer
+  sem-ident-steps at =
+      by-choice (Steps s x) _ (λ e. stay s x _ refl refl)
+      (λ e. quiet s x (gives s _) refl refl 10 at refl refl refl refl refl refl (record { serial = refl; live = refl; fifo = refl }) refl refl)
+
+  runs-told : s .running < 32 → runningTask s ≡ taskId s (s .running)
+  unfolding runningTask
+  runs-told h = picked-yes _ _ _ (lt-ltb (s .running) 32 h)
+
+  -- the first of a queue is woken
+  woken-steps : x .call ≡ 12 → (t : ℕ) → t < 32 → Steps s x (wakesWith s (wakeNext k (noneWoken l) t) OK)
+  unfolding wakesWith
+  woken-steps at t room =
+      call-steps s x (wakesWith s (wakeNext k (noneWoken l) t) OK) refl refl 12 at refl refl refl refl refl
+      (record { serial = refl; live = refl; priority = refl }) (record { serial = refl; live = refl; fifo = refl })
+      (moves-woke s ok s l (wakeNext k (noneWoken l) t) OK refl (next-fewer k (noneWoken l) t room whole)
+      (next-woke k l (noneWoken l) t room (omega arith) (none-woke k l whole)))
+
+  -- a semaphore's units change
+  units-steps : (c : ℕ) → x .call ≡ c → (i n : ℕ) → eqb c 1 ≡ false → eqb c 2 ≡ false → eqb c 7 ≡ false → eqb c 8 ≡ false → eqb c 9 ≡ false
+      → Steps s x (plain (withSemaphores s (withUnits m i n)) OK)
+  unfolding plain answer
+  units-steps c at i n e1 e2 e7 e8 e9 =
+      quiet s x (plain (withSemaphores s (withUnits m i n)) OK) refl refl c at e1 e2 e7 e8 e9 refl
+      (record { serial = refl; live = refl; fifo = refl }) refl refl
+
+  -- the caller waits for semaphore i
+  module _ (at : x .call ≡ 11) (ticks i : ℕ) (names : semFound s (x .a) ≡ At i) (h : s .running < 32) where
+    abbrev r : ℕ
+    r = s .running
+
+    abbrev now : ℕ
+    now = getD (k .priority) r 0
+
+    abbrev joined : Line
+    joined = waits l i (getD (m .fifo) i false) now ticks r
+
+    not-now : (j status : ℕ) → eqb 11 j ≡ false → isAnswer j status (turnOf x (plain (withLine s joined) PENDING)) ≡ false
+    not-now j status e = not-call (turnOf x (plain (withLine s joined) PENDING)) j status (ap (λ (v : ℕ). eqb v j) at ∙ e)
+
+    pending-steps : Steps s x (plain (withLine s joined) PENDING)
+    unfolding plain answer arrives
+    pending-steps =
+        let hi : i < 16 = slot-room s ok (x .a) i names in
+        let ready : Ready l k r = runs-ready s ok h in
+        let y : Turn = turnOf x (plain (withLine s joined) PENDING) in
+        record {
+          steps = λ p past told ag.
+              let runs : runningIn past ≡ taskId s r = ag .running ∙ runs-told h in
+              subst (λ (v : Arrivals). Agrees p (withLine s joined) (y ∷ past) v)
+              (sym (picked-yes (eqb PENDING PENDING) (arrival told r (suc (length past)) now) told refl))
+              (record {
+                times = length-set (told .time) r (suc (length past)) ∙ ag .times;
+                running = refl;
+                priority = λ t a live. picked-no _ _ _ (not-creates y 1 _ (not-now 1 OK refl)) ∙ picked-no _ _ _ (not-done y past 7 _ (not-now 7 OK refl))
+                    ∙ ag .priority t a live;
+                fifo = λ j a live. picked-no _ _ _ (not-creates y 8 _ (not-now 8 OK refl)) ∙ ag .fifo j a live;
+                waiters = waiters-more p s joined y past told (ag .waiters) (ok .line .queues) (ag .times) r i h hi
+                    (is-answer y 11 PENDING at refl)
+                    (found-identifier (m .serial) (m .live) (x .a) names)
+                    (λ id. not-of y 9 id OK (not-now 9 OK refl))
+                    (λ z. ends-woken past y z (not-now 2 OK refl))
+                    runs
+                    (ag .priority r h (started-live s ok r h (ready .started)) ∙ sym (claim-joined s ok r i h hi ready _ now ticks))
+                    (claim-stays s ok r i h hi ready _ now ticks)
+                    (claim-came s ok r i h hi ready _ now ticks)
+                    (claim-kept s ok r i h hi ready _ now ticks)
+                    (claim-new s ok r i h hi ready _ now ticks)
+                    now;
+              });
+        }
+
+  sem-claim-steps : x .call ≡ 11 → Steps s x (semClaim s (x .a) (x .b) (x .c))
+  unfolding semClaimAt semWaitAt
+  sem-claim-steps at =
+      named s x _ (semClaimAt s (x .b) (x .c))
+      (λ i e. by-choice (Steps s x) _ (λ f. stay s x _ refl refl)
+      (λ f. by-choice (Steps s x) _ (λ g. stay s x _ refl refl)
+      (λ g. by-choice (Steps s x) _ (λ h. units-steps 11 at i _ refl refl refl refl refl)
+      (λ h. by-choice (Steps s x) _ (λ j. stay s x _ refl refl)
+      (λ j. by-choice (Steps s x) _ (λ n. pending-steps at (x .c) i e (ltb-true (s .running) 32 n)) (λ n. stay s x _ refl refl))))))
+
+  sem-release-steps : x .call ≡ 12 → Steps s x (semRelease s (x .a))
+  unfolding semReleaseAt
+  sem-release-steps at =
+      named s x _ (semReleaseAt s)
+      (λ i e. by-choice (Steps s x) _
+      (λ f. woken-steps at (firstOf (l .seat) (queueSeats i)) (ltb-true _ 32 f))
+      (λ f. by-choice (Steps s x) _ (λ g. stay s x _ refl refl) (λ g. units-steps 12 at i _ refl refl refl refl refl)))
+
+  sem-info-steps : x .call ≡ 13 → Steps s x (semInfo s (x .a))
+  unfolding semInfoAt answer
+  sem-info-steps at =
+      named s x _ (semInfoAt s)
+      (λ i e. quiet s x (semInfoAt s i) refl refl 13 at refl refl refl refl refl refl (record { serial = refl; live = refl; fifo = refl }) refl refl)
