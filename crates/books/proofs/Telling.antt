@@ -15,13 +15,14 @@ use Rattle.scope.specs.declared.Line.{Line}
 use Rattle.scope.specs.declared.Answer.{Answer}
 use Rattle.scope.specs.declared.Tasks.{Tasks}
 use Rattle.scope.specs.declared.Semaphores.{Semaphores}
+use Rattle.scope.specs.declared.Pools.{Pools}
 use Rattle.scope.specs.declared.Found.{Found}
 use Rattle.scope.specs.declared.Found.the-variants.{At, Deleted, Invalid}
 use Rattle.scope.specs.Choice.{pick}
 use Rattle.scope.specs.Statuses.{OK, PENDING, TIME-OUT, BAD-CALL}
 use Rattle.scope.specs.Identifiers.{identifier, lowestUsable}
 use Rattle.scope.specs.Seats.{queueSeats, waitsOn, firstOf, leaves, becomesReady}
-use Rattle.scope.specs.Views.{withLine, withTasks, withSemaphores, withSeats, withWait, readyWith, isReady, runningTask}
+use Rattle.scope.specs.Views.{withLine, withTasks, withSemaphores, withPools, withSeats, withWait, readyWith, isReady, runningTask}
 use Rattle.scope.specs.Answers.{answer, plain, gives, badState, wakesWith, onFound}
 use Rattle.scope.specs.Tasks.{taskFound, taskBorn, taskGone, taskCreateAt, taskCreate, taskDeleteAt, taskDelete, taskIdentAt, taskIdent, taskStartAt, taskStart, taskSuspendAt, taskSuspend, taskResumeAt, taskResume, taskSetPriorityAt, taskSetPriority}
 use Rattle.scope.specs.Semaphores.{semFound, semBorn, semGone, withUnits, noneWoken, wakeNext, wakeAll, semCreateAt, semCreate, semDeleteAt, semDelete, semIdentAt, semIdent, waits, semWaitAt, semClaimAt, semClaim, semReleaseAt, semRelease, semInfoAt, semInfo}
@@ -382,3 +383,102 @@ module _ (s : State) (ok : Sound s) (x : Event) where
   sem-info-steps at =
       named s x _ (semInfoAt s)
       (λ i e. quiet s x (semInfoAt s i) refl refl 13 at refl refl refl refl refl refl (record { serial = refl; live = refl; fifo = refl }) refl refl)
+
+  -- the pool calls
+  pools-steps : (c : ℕ) → x .call ≡ c → eqb c 1 ≡ false → eqb c 2 ≡ false → eqb c 7 ≡ false → eqb c 8 ≡ false → eqb c 9 ≡ false
+      → (q : Pools) (status a b d e : ℕ) (negative : Bool) → eqb status PENDING ≡ false → Steps s x (answer (withPools s q) status a b d e negative)
+  unfolding answer
+  pools-steps c at e1 e2 e7 e8 e9 q status a b d e negative mute =
+      quiet s x (answer (withPools s q) status a b d e negative) mute refl c at e1 e2 e7 e8 e9 refl
+      (record { serial = refl; live = refl; fifo = refl }) refl refl
+
+  pool-create-steps : x .call ≡ 14 → Steps s x (poolCreate s (x .a) (x .b) (x .c) (x .d) (x .e))
+  unfolding poolCreate poolCreateAt gives
+  pool-create-steps at =
+      by-choice (Steps s x) _
+      (λ a. by-choice (Steps s x) _
+      (λ b. by-choice (Steps s x) _ (λ c. stay s x _ refl refl)
+      (λ c. by-choice (Steps s x) _ (λ d. stay s x _ refl refl)
+      (λ d. by-choice (Steps s x) _ (λ e. stay s x _ refl refl) (λ e. pools-steps 14 at refl refl refl refl refl _ OK _ _ _ _ _ refl))))
+      (λ b. stay s x _ refl refl))
+      (λ a. stay s x _ refl refl)
+
+  pool-delete-steps : x .call ≡ 15 → Steps s x (poolDelete s (x .a))
+  unfolding poolDeleteAt plain
+  pool-delete-steps at =
+      named s x _ (poolDeleteAt s)
+      (λ i e. by-choice (Steps s x) _ (λ f. stay s x _ refl refl) (λ f. pools-steps 15 at refl refl refl refl refl _ OK _ _ _ _ _ refl))
+
+  pool-ident-steps : x .call ≡ 16 → Steps s x (poolIdent s (x .a))
+  unfolding poolIdent poolIdentAt gives
+  pool-ident-steps at =
+      by-choice (Steps s x) _ (λ e. stay s x _ refl refl) (λ e. pools-steps 16 at refl refl refl refl refl (s .pools) OK _ _ _ _ _ refl)
+
+  pool-get-steps : x .call ≡ 17 → Steps s x (poolGetBuff s (x .a))
+  unfolding poolGetBuffAt poolGetBuffer gives
+  pool-get-steps at =
+      named s x _ (poolGetBuffAt s)
+      (λ i e. by-choice (Steps s x) _ (λ f. stay s x _ refl refl) (λ f. pools-steps 17 at refl refl refl refl refl _ OK _ _ _ _ _ refl))
+
+  pool-return-steps : x .call ≡ 18 → Steps s x (poolRetBuff s (x .a) (x .b))
+  unfolding poolRetBuffAt poolRetBuffer plain
+  pool-return-steps at =
+      named s x _ (poolRetBuffAt s (x .b))
+      (λ i e. by-choice (Steps s x) _ (λ f. pools-steps 18 at refl refl refl refl refl _ OK _ _ _ _ _ refl) (λ f. stay s x _ refl refl))
+
+  pool-info-steps : x .call ≡ 19 → Steps s x (poolInfo s (x .a))
+  unfolding poolInfoAt
+  pool-info-steps at =
+      named s x _ (poolInfoAt s) (λ i e. pools-steps 19 at refl refl refl refl refl (s .pools) OK _ _ _ _ _ refl)
+
+  -- each row of the table
+  abbrev Row : ℕ → Call → Type 0
+  Row n c = x .call ≡ n → Steps s x (c .does s (x .a) (x .b) (x .c) (x .d) (x .e))
+
+  all-rows : Rows Row 0 calls
+  all-rows =
+      more tick-steps
+      (more task-create-steps
+      (more task-delete-steps
+      (more task-ident-steps
+      (more task-start-steps
+      (more task-suspend-steps
+      (more task-resume-steps
+      (more task-set-priority-steps
+      (more sem-create-steps
+      (more sem-delete-steps
+      (more sem-ident-steps
+      (more sem-claim-steps
+      (more sem-release-steps
+      (more sem-info-steps
+      (more pool-create-steps
+      (more pool-delete-steps
+      (more pool-ident-steps
+      (more pool-get-steps
+      (more pool-return-steps
+      (more pool-info-steps
+      none)))))))))))))))))))
+
+  -- every event's answer
+  pub event-steps : Steps s x (answerTo s x)
+  unfolding answered
+  event-steps =
+      by-rules s (x .call) (x .mark) (x .a) (x .b) (x .c) (x .d) (x .e) (Steps s x)
+      (λ h. go (eqb refused OK) refl)
+      (λ h. absurd (true-false (sound-right s ok) h))
+    where
+      refused : ℕ
+      refused = callerRefusal (x .call) (x .mark) (s .running)
+
+      go : (b : Bool) → eqb refused OK ≡ b
+          → Steps s x (elim b as (λ v. Answer) [ true ↦ callAt (x .call) .does s (x .a) (x .b) (x .c) (x .d) (x .e) | false ↦ plain s refused ])
+      go true e = row-at Row 0 calls all-rows (λ n f. stay s x BAD-CALL refl refl) (x .call) (omega arith)
+      go false e = stay s x refused e (not-pending (x .call) (x .mark) (s .running))
+
+-- so does every history
+pub agrees-after : (p : ℕ) (s : State) → Sound s → (xs : List Event) (past : List Turn) (told : Arrivals) → Agrees p s past told
+    → Agrees p (after s xs) (pastFrom past s xs) (arrivedAfter told (suc (length past)) s xs)
+agrees-after p s ok [] past told ag = ag
+agrees-after p s ok (x ∷ xs) past told ag =
+    agrees-after p (answerTo s x .state) (event-keeps s ok x) xs (turnOf x (answerTo s x) ∷ past) (arrives told (suc (length past)) s (answerTo s x))
+    (event-steps s ok x .steps p past told ag)
