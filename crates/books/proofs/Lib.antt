@@ -14,3 +14,4 @@ pub mod Agreeing
 pub mod Claiming
 pub mod Steps
 pub mod Telling
+pub mod Told
