@@ -15,3 +15,4 @@ pub mod Claiming
 pub mod Steps
 pub mod Telling
 pub mod Told
+pub mod Releasing

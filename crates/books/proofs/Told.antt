@@ -216,7 +216,7 @@ module _ (p : ℕ) (s : State) (ok : Sound s) (past : List Turn) (told : Arrival
       }
 
 -- the fresh state that is asked for
-fresh-same : (p : ℕ) → p ≤ 15 → fresh p .state ≡ freshState p
+pub fresh-same : (p : ℕ) → p ≤ 15 → fresh p .state ≡ freshState p
 unfolding fresh
 fresh-same p h = ap (λ (f : Fresh). f .state) (picked-no (ltb 15 p) _ _ (le-ltb 15 p h))
 
@@ -234,7 +234,7 @@ module _ (p : ℕ) (h : p ≤ 15) (xs : List Event) where
   pub history-agrees : Agrees p now past told
   history-agrees = agrees-after p (freshState p) (fresh-sound p h) xs [] noArrivals (fresh-agrees p h)
 
-  in-order : InOrder now told
+  pub in-order : InOrder now told
   in-order = subst (λ (s : State). InOrder (after s xs) (arrivals s xs)) (fresh-same p h) (history-in-order p xs)
 
   -- the seats, joining priorities and options say what the history tells
