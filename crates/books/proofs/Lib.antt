@@ -16,3 +16,4 @@ pub mod Steps
 pub mod Telling
 pub mod Told
 pub mod Releasing
+pub mod Totals

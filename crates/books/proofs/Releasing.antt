@@ -88,7 +88,7 @@ module _ (s : State) where
       (by-name (λ (a : Answer). a .status ≡ OK → Released s (x .a) a) s (refused (x .a)) (semFound s (x .a)) (semReleaseAt s) (λ i e. release-at (x .a) i e))
 
 -- one task on the wake list
-wakes-one : (n : ℕ) (tasks : List ℕ) (why y : ℕ) → n ≡ 1 → why ≡ OK → getD tasks 0 0 ≡ y → wakesFrom n 0 tasks why ≡ record { task = y; status = OK } ∷ []
+pub wakes-one : (n : ℕ) (tasks : List ℕ) (why y : ℕ) → n ≡ 1 → why ≡ OK → getD tasks 0 0 ≡ y → wakesFrom n 0 tasks why ≡ record { task = y; status = OK } ∷ []
 wakes-one n tasks why y a b c =
     ap (λ (m : ℕ). wakesFrom m 0 tasks why) a
     ∙ ap {B = List Wake} (λ (v : ℕ). record { task = getD tasks 0 0; status = v } ∷ []) b

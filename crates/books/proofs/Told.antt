@@ -27,7 +27,7 @@ use Rattle.laws.proofs.Searches.{least-true}
 use Rattle.tables.proofs.Laws.{identifier-found, found-identifier, found-below, found-live}
 use Rattle.histories.specs.Sound.{Waits, Sound}
 use Rattle.histories.specs.History.{Event, answerTo, after, SemaphoreAt}
-use Rattle.histories.specs.Order.{Arrivals, noArrivals, arrivals, WaitsFor, InOrder}
+use Rattle.histories.specs.Order.{Arrivals, noArrivals, arrivals, WaitsFor, InOrder, Ahead as AheadBySlot, Precedes as PrecedesBySlot}
 use Rattle.histories.proofs.Fresh.{fresh-sound}
 use Rattle.histories.proofs.Moves.{queue-waits}
 use Rattle.histories.proofs.Order.{history-in-order, history-grants}
@@ -79,7 +79,7 @@ unfolding pick
 fresh-priority p zero h e = refl
 fresh-priority p (suc t) h e = absurd (true-false e (getD-replicate 31 t false false (omega arith)))
 
-fresh-agrees : (p : ℕ) → p ≤ 15 → Agrees p (freshState p) [] noArrivals
+pub fresh-agrees : (p : ℕ) → p ≤ 15 → Agrees p (freshState p) [] noArrivals
 unfolding freshState runningTask pick
 fresh-agrees p h =
     record {
@@ -171,7 +171,7 @@ module _ (p : ℕ) (s : State) (ok : Sound s) (past : List Turn) (told : Arrival
     with-u : joinedWith p past (taskId s u) ≡ getD (told .priority) u 0
     with-u = ag .waiters .joined i h u b ∙ order .joined i h u b
 
-    ahead-told : (f : Bool) → Rattle.histories.specs.Order.Ahead f told t u → Ahead f p past (taskId s t) (taskId s u)
+    ahead-told : (f : Bool) → AheadBySlot f told t u → Ahead f p past (taskId s t) (taskId s u)
     ahead-told true c = omega (arith, c, since-t, since-u)
     ahead-told false c =
         ⊎-elim
@@ -179,7 +179,7 @@ module _ (p : ℕ) (s : State) (ok : Sound s) (past : List Turn) (told : Arrival
         (λ d. inr (omega (arith, d .0, with-t, with-u), omega (arith, d .1, since-t, since-u)))
         c
 
-    told-ahead : (f : Bool) → Ahead f p past (taskId s t) (taskId s u) → Rattle.histories.specs.Order.Ahead f told t u
+    told-ahead : (f : Bool) → Ahead f p past (taskId s t) (taskId s u) → AheadBySlot f told t u
     told-ahead true c = omega (arith, c, since-t, since-u)
     told-ahead false c =
         ⊎-elim
@@ -190,11 +190,11 @@ module _ (p : ℕ) (s : State) (ok : Sound s) (past : List Turn) (told : Arrival
     option : isFifo past (semId s i) ≡ getD (s .semaphores .fifo) i false
     option = ag .fifo i h (waited-live i h t a)
 
-    pub precedes-told : Rattle.histories.specs.Order.Precedes s told i t u → Precedes p past (semId s i) (taskId s t) (taskId s u)
+    pub precedes-told : PrecedesBySlot s told i t u → Precedes p past (semId s i) (taskId s t) (taskId s u)
     precedes-told c =
         subst (λ (f : Bool). Ahead f p past (taskId s t) (taskId s u)) (sym option) (ahead-told (getD (s .semaphores .fifo) i false) c)
 
-    told-precedes : Precedes p past (semId s i) (taskId s t) (taskId s u) → Rattle.histories.specs.Order.Precedes s told i t u
+    told-precedes : Precedes p past (semId s i) (taskId s t) (taskId s u) → PrecedesBySlot s told i t u
     told-precedes c =
         told-ahead (getD (s .semaphores .fifo) i false) (subst (λ (f : Bool). Ahead f p past (taskId s t) (taskId s u)) option c)
 

@@ -1,0 +1,159 @@
+-- What the answers tell of releases, grants and initial counts agrees with the totals over a history: turn by turn, since a wake
+-- with 0 is a grant of the semaphore that the woken task waited for, and an identifier is given out once.
+-- Assumes nothing.
+use Prim.Native.Nat.{ℕ, _+_, _/_, _%_, _≤_, _<_}
+use native.Mathlib.Omega.{arith}
+use mathlib.Core.Path.{_≡_, refl, sym, subst, ap, _∙_}
+use mathlib.Core.Logic.{⊎-elim}
+use mathlib.Core.Bool.{Bool, true, false, _&&_}
+use mathlib.Core.List.{List, [], _∷_, _++_}
+use lib.ListN.{length, getD}
+use lib.Dec.{ltb, eqb}
+use borrow.Author.Tests.{leb-false, eq-eqb, ne-eqb, eqb-true, eqb-false}
+use Rattle.scope.specs.declared.State.{State}
+use Rattle.scope.specs.declared.Answer.{Answer}
+use Rattle.scope.specs.Choice.{pick}
+use Rattle.scope.specs.Statuses.{OK}
+use Rattle.scope.specs.Identifiers.{identifier, lowestUsable}
+use Rattle.scope.specs.Answers.{answer, plain, gives, badState, wakesWith}
+use Rattle.scope.specs.Semaphores.{semFound, semCreateAt, semCreate, semReleaseAt}
+use Rattle.scope.specs.Replies.{Wake, wakesFrom, wakeList}
+use Rattle.scope.specs.Fresh.{freshState}
+use Rattle.laws.proofs.Branches.{both, both-true, first-fails, true-false, true-or-false, eq-or-not, picked-yes, picked-no}
+use Rattle.tables.proofs.Laws.{found-below, found-identifier}
+use Rattle.histories.specs.Sound.{Sound}
+use Rattle.histories.specs.History.{Event, answerTo, after, total, SemaphoreAt}
+use Rattle.histories.specs.Order.{Arrivals, arrives, noArrivals}
+use Rattle.histories.specs.Books.{answeredOK, releases as releasesOf, grants as grantsOf}
+use Rattle.histories.proofs.Refused.{by-choice}
+use Rattle.histories.proofs.Answered.{by-name, by-number, by-call, by-other, by-status, counts-as, Creates}
+use Rattle.histories.proofs.Tables.{issued-still, live-issued}
+use Rattle.histories.proofs.Units.{semaphores-booked}
+use Rattle.histories.proofs.Created.{semaphore-created}
+use Rattle.histories.proofs.Ledger.{Creation, event-keeps}
+use Rattle.histories.proofs.Fresh.{fresh-sound}
+use Rattle.books.specs.Past.{Turn, isAnswer, isAnswerOf, value, creates, pastFrom, pastOf}
+use Rattle.books.specs.Waiting.{initialCount, claimed, releases, grantedTo, grants}
+use Rattle.books.proofs.Granting.{NoGrant, nobody, only-releases-grant}
+use Rattle.books.proofs.Agreeing.{taskId, semId, turnOf, Agrees, is-answer, is-new, not-of, not-call}
+use Rattle.books.proofs.Telling.{event-steps}
+use Rattle.books.proofs.Told.{fresh-agrees}
+use Rattle.books.proofs.Releasing.{Released, release-done, wakes-one}
+
+and-swap : (a b c : Bool) → ((a && b) && c) ≡ (a && (c && b))
+and-swap true true true = refl
+and-swap true true false = refl
+and-swap true false true = refl
+and-swap true false false = refl
+and-swap false b c = refl
+
+-- the two tests of an answer say the same
+same-test : (call id : ℕ) (x : Event) (a : Answer) → isAnswerOf call id OK (turnOf x a) ≡ answeredOK call id x a
+unfolding isAnswerOf isAnswer answeredOK
+same-test call id x a = and-swap (eqb (x .call) call) (eqb (a .status) OK) (eqb (x .a) id)
+
+releases-turn : (id : ℕ) (x : Event) (a : Answer) → pick {A = ℕ} (isAnswerOf 12 id OK (turnOf x a)) 1 0 ≡ releasesOf id x a
+unfolding releasesOf
+releases-turn id x a = ap (λ (b : Bool). pick {A = ℕ} b 1 0) (same-test 12 id x a)
+
+none-granted : (past : List Turn) (id : ℕ) (ws : List Wake) → NoGrant ws → grantedTo past id ws ≡ 0
+none-granted past id [] n = refl
+none-granted past id (w ∷ ws) n =
+    omega (arith, picked-no {A = ℕ} (eqb (w .status) OK && eqb (claimed past (w .task)) id) 1 0 (first-fails _ _ (ne-eqb _ _ (n .0))), none-granted past id ws (n .1))
+
+module _ (s : State) where
+  -- a release that is refused wakes nobody
+  abbrev Quiet : Answer → Type 0
+  Quiet a = (a .status ≡ OK → ⊥) → a .woken ≡ 0
+
+  refused : (status : ℕ) → Quiet (plain s status)
+  unfolding plain answer
+  refused status e = refl
+
+  release-quiet : (x : Event) → x .call ≡ 12 → Quiet (answerTo s x)
+  unfolding badState semReleaseAt wakesWith plain answer
+  release-quiet x at =
+      by-number Quiet s (λ status e. refused status) x 12 at (λ e. refl)
+      (by-name Quiet s (λ status e. refused status) (semFound s (x .a)) (semReleaseAt s)
+      (λ i d. by-choice Quiet _ (λ e n. absurd (n refl)) (λ e. by-choice Quiet _ (λ f. refused _) (λ f n. refl))))
+
+module _ (p : ℕ) (s : State) (ok : Sound s) (past : List Turn) (told : Arrivals) (ag : Agrees p s past told) (x : Event) (id : ℕ) where
+  abbrev a : Answer
+  a = answerTo s x
+
+  -- the grants of a release
+  released-one : x .call ≡ 12 → a .status ≡ OK → Released s (x .a) a → grantedTo past id (wakeList a) ≡ pick (answeredOK 12 id x a && eqb (a .why) OK) (a .woken) 0
+  released-one at done r =
+      ⊎-elim
+      (λ z. ap (grantedTo past id) (nobody (a .woken) z (a .wakes) (a .why)) ∙ nothing z)
+      (λ z. let hi : r .slot < 16 = omega (arith, found-below (s .semaphores .serial) (s .semaphores .live) (x .a) (r .names), ok .semaphores .serials) in
+      let c : claimed past (taskId s (z .0)) ≡ x .a =
+      ag .waiters .claim (r .slot) hi (z .0) (z .1) ∙ sym (found-identifier (s .semaphores .serial) (s .semaphores .live) (x .a) (r .names)) in
+      ap (grantedTo past id) (wakes-one (a .woken) (a .wakes) (a .why) (taskId s (z .0)) (z .2) (r .why) (z .3))
+      ∙ one (taskId s (z .0)) c (z .2))
+      (r .woke)
+    where
+      nothing : a .woken ≡ 0 → 0 ≡ pick (answeredOK 12 id x a && eqb (a .why) OK) (a .woken) 0
+      nothing z =
+          ⊎-elim (λ e. sym (picked-yes _ _ _ e ∙ z)) (λ e. sym (picked-no {A = ℕ} _ (a .woken) 0 e)) (true-or-false (answeredOK 12 id x a && eqb (a .why) OK))
+
+      one : (t : ℕ) → claimed past t ≡ x .a → a .woken ≡ 1
+          → grantedTo past id (record { task = t; status = OK } ∷ []) ≡ pick (answeredOK 12 id x a && eqb (a .why) OK) (a .woken) 0
+      one t c w =
+          ⊎-elim
+          (λ e. omega (
+            arith,
+            picked-yes {A = ℕ} (eqb OK OK && eqb (claimed past t) id) 1 0 (both (eqb OK OK) _ refl (eq-eqb _ _ (c ∙ e))),
+            picked-yes {A = ℕ} (answeredOK 12 id x a && eqb (a .why) OK) (a .woken) 0 (both _ _ (counts-as 12 id x a at e done) (eq-eqb _ _ (r .why))),
+            w,
+          ))
+          (λ ne. omega (
+            arith,
+            picked-no {A = ℕ} (eqb OK OK && eqb (claimed past t) id) 1 0 (ne-eqb _ _ (λ e. ne (sym c ∙ e))),
+            picked-no {A = ℕ} (answeredOK 12 id x a && eqb (a .why) OK) (a .woken) 0 (first-fails _ _ (by-other 12 id x a ne)),
+          ))
+          (eq-or-not (x .a) id)
+
+  by-release : x .call ≡ 12 → grantedTo past id (wakeList a) ≡ pick (answeredOK 12 id x a && eqb (a .why) OK) (a .woken) 0
+  by-release at =
+      ⊎-elim
+      (λ done. released-one at done (release-done s x at done))
+      (λ n. ap (grantedTo past id) (nobody (a .woken) (release-quiet s x at n) (a .wakes) (a .why))
+      ∙ sym (picked-no {A = ℕ} _ (a .woken) 0 (first-fails _ _ (by-status 12 id x a (ne-eqb _ _ n)))))
+      (eq-or-not (a .status) OK)
+
+  grants-turn : pick (isAnswerOf 11 id OK (turnOf x a)) 1 0 + grantedTo past id (wakeList a) ≡ grantsOf id x a
+  unfolding grantsOf
+  grants-turn =
+      ⊎-elim
+      (λ at. let none : answeredOK 11 id x a ≡ false = by-call 11 id x a (ap (λ (k : ℕ). eqb k 11) at) in
+      omega (
+        arith,
+        picked-no {A = ℕ} (isAnswerOf 11 id OK (turnOf x a)) 1 0 (same-test 11 id x a ∙ none),
+        picked-no {A = ℕ} (answeredOK 11 id x a) 1 (pick (answeredOK 12 id x a && eqb (a .why) OK) (a .woken) 0) none,
+        by-release at,
+      ))
+      (λ ne. let e : pick {A = ℕ} (answeredOK 12 id x a && eqb (a .why) OK) (a .woken) 0 ≡ 0 =
+      picked-no {A = ℕ} _ (a .woken) 0 (first-fails _ _ (by-call 12 id x a (ne-eqb _ _ ne))) in
+      omega (
+        arith,
+        none-granted past id (wakeList a) (only-releases-grant s x ne),
+        ap (λ (b : Bool). pick {A = ℕ} b 1 0) (same-test 11 id x a),
+        ap (λ (n : ℕ). pick {A = ℕ} (answeredOK 11 id x a) 1 n) e,
+      ))
+      (eq-or-not (x .call) 12)
+
+pub releases-after : (id : ℕ) (s : State) (xs : List Event) (past : List Turn) → releases (pastFrom past s xs) id ≡ releases past id + total (releasesOf id) s xs
+releases-after id s [] past = omega arith
+releases-after id s (x ∷ xs) past =
+    omega (arith, releases-after id (answerTo s x .state) xs (turnOf x (answerTo s x) ∷ past), releases-turn id x (answerTo s x))
+
+pub grants-after : (p id : ℕ) (s : State) → Sound s → (xs : List Event) (past : List Turn) (told : Arrivals) → Agrees p s past told
+    → grants (pastFrom past s xs) id ≡ grants past id + total (grantsOf id) s xs
+grants-after p id s ok [] past told ag = omega arith
+grants-after p id s ok (x ∷ xs) past told ag =
+    omega (
+      arith,
+      grants-after p id (answerTo s x .state) (event-keeps s ok x) xs (turnOf x (answerTo s x) ∷ past) _ (event-steps s ok x .steps p past told ag),
+      grants-turn p s ok past told ag x id,
+    )
