@@ -17,3 +17,4 @@ pub mod Telling
 pub mod Told
 pub mod Releasing
 pub mod Totals
+pub mod Info

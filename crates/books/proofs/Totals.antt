@@ -157,3 +157,73 @@ grants-after p id s ok (x ∷ xs) past told ag =
       grants-after p id (answerTo s x .state) (event-keeps s ok x) xs (turnOf x (answerTo s x) ∷ past) _ (event-steps s ok x .steps p past told ag),
       grants-turn p s ok past told ag x id,
     )
+
+-- an identifier that a creation gives has not been given out
+module _ (s : State) (ok : Sound s) where
+  abbrev Unissued : Answer → Type 0
+  Unissued a = a .status ≡ OK → getD (s .semaphores .serial) (getD (a .values) 0 0 % 64) 0 < getD (a .values) 0 0 / 64
+
+  not-given : (status : ℕ) → eqb status OK ≡ false → Unissued (plain s status)
+  unfolding plain answer
+  not-given status e d = absurd (eqb-false status OK e d)
+
+  new-later : (i : ℕ) → i < 16 → getD (s .semaphores .serial) (identifier (getD (s .semaphores .serial) i 0 + 1) i % 64) 0
+      < identifier (getD (s .semaphores .serial) i 0 + 1) i / 64
+  new-later i h =
+      let id : ℕ = identifier (getD (s .semaphores .serial) i 0 + 1) i in
+      let slot : id % 64 ≡ i = omega arith in
+      let part : id / 64 ≡ getD (s .semaphores .serial) i 0 + 1 = omega arith in
+      omega (arith, part, ap (λ (v : ℕ). getD (s .semaphores .serial) v 0) slot)
+
+  create-new : (name count options : ℕ) → Unissued (semCreate s name count options)
+  unfolding semCreate semCreateAt gives answer
+  create-new name count options =
+      by-choice Unissued _ (λ e. not-given _ refl)
+      (λ e. by-choice Unissued _ (λ f. not-given _ refl)
+      (λ f. by-choice Unissued _ (λ g. not-given _ refl)
+      (λ g d. new-later (lowestUsable (s .semaphores .serial) (s .semaphores .live))
+      (omega (arith, leb-false (length (s .semaphores .serial)) (lowestUsable (s .semaphores .serial) (s .semaphores .live)) g, ok .semaphores .serials)))))
+
+  issued-once : (x : Event) (id : ℕ) → id / 64 ≤ getD (s .semaphores .serial) (id % 64) 0 → creates 8 id (turnOf x (answerTo s x)) ≡ false
+  unfolding creates isAnswer badState
+  issued-once x id issued =
+      ⊎-elim
+      (λ e. let b = both-true (eqb (x .call) 8 && eqb (answerTo s x .status) OK) _ e in
+      let c = both-true (eqb (x .call) 8) _ (b .0) in
+      let late : getD (s .semaphores .serial) (getD (answerTo s x .values) 0 0 % 64) 0 < getD (answerTo s x .values) 0 0 / 64 =
+      by-number Unissued s not-given x 8 (eqb-true _ _ (c .0)) (λ d. absurd (omega (arith, d))) (create-new (x .a) (x .b) (x .c)) (eqb-true _ _ (c .1)) in
+      absurd (let l : getD (s .semaphores .serial) (id % 64) 0 < id / 64 =
+      subst (λ (v : ℕ). getD (s .semaphores .serial) (v % 64) 0 < v / 64) (eqb-true (getD (answerTo s x .values) 0 0) id (b .1)) late in omega (arith, l)))
+      (λ e. e)
+      (true-or-false (creates 8 id (turnOf x (answerTo s x))))
+
+-- so what its creation asked for stays told
+initial-after : (id : ℕ) (s : State) → Sound s → (xs : List Event) (past : List Turn) → id / 64 ≤ getD (s .semaphores .serial) (id % 64) 0
+    → initialCount (pastFrom past s xs) id ≡ initialCount past id
+initial-after id s ok [] past issued = refl
+initial-after id s ok (x ∷ xs) past issued =
+    initial-after id (answerTo s x .state) (event-keeps s ok x) xs (turnOf x (answerTo s x) ∷ past) (issued-still (semaphores-booked s ok x .later) id issued)
+    ∙ picked-no _ _ _ (issued-once s ok x id issued)
+
+initial-from : (id : ℕ) (s : State) → Sound s → (before : List Event) (x : Event) (later : List Event) (past : List Turn)
+    → Creates 8 id x (answerTo (after s before) x) → initialCount (pastFrom past s (before ++ (x ∷ later))) id ≡ x .b
+initial-from id s ok [] x later past c =
+    let m : (i : ℕ) × SemaphoreAt (answerTo s x .state) id i × (getD (answerTo s x .state .semaphores .units) i 0 ≡ x .b) = semaphore-created s ok x id c in
+    initial-after id (answerTo s x .state) (event-keeps s ok x) later (turnOf x (answerTo s x) ∷ past)
+    (live-issued (answerTo s x .state .semaphores .serial) (answerTo s x .state .semaphores .live) id (m .1))
+    ∙ picked-yes _ _ _ (is-new (turnOf x (answerTo s x)) 8 id (is-answer (turnOf x (answerTo s x)) 8 OK (c .called) (c .done)) (c .value))
+initial-from id s ok (z ∷ before) x later past c =
+    initial-from id (answerTo s z .state) (event-keeps s ok z) before x later (turnOf z (answerTo s z) ∷ past) c
+
+-- "For any history from a fresh state"
+module _ (p : ℕ) (h : p ≤ 15) (xs : List Event) (id : ℕ) where
+  pub releases-told : releases (pastOf p xs) id ≡ total (releasesOf id) (freshState p) xs
+  releases-told = omega (arith, releases-after id (freshState p) xs [])
+
+  pub grants-told : grants (pastOf p xs) id ≡ total (grantsOf id) (freshState p) xs
+  grants-told = omega (arith, grants-after p id (freshState p) (fresh-sound p h) xs [] noArrivals (fresh-agrees p h))
+
+  pub initial-told : (c : Creation 8 (freshState p) xs id) → initialCount (pastOf p xs) id ≡ c .event .b
+  initial-told c =
+      ap (λ (l : List Event). initialCount (pastOf p l) id) (c .whole)
+      ∙ initial-from id (freshState p) (fresh-sound p h) (c .before) (c .event) (c .later) [] (c .creates)
