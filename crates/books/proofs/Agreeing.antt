@@ -2,11 +2,11 @@
 -- since when and with which priority. And how that is kept: by a turn at which nobody joins a queue, and by one at which the caller
 -- does.
 -- Assumes nothing.
-use Prim.Native.Nat.{ℕ, suc, _+_, _<_}
+use Prim.Native.Nat.{ℕ, _<_}
 use native.Mathlib.Omega.{arith}
 use mathlib.Core.Path.{_≡_, refl, sym, subst, ap, _∙_}
-use mathlib.Core.Logic.{_⊎_, inl, inr, ⊎-elim}
-use mathlib.Core.Bool.{Bool, true, false, not}
+use mathlib.Core.Logic.{_⊎_, ⊎-elim}
+use mathlib.Core.Bool.{true, false, not}
 use mathlib.Core.List.{List, [], _∷_, _++_}
 use lib.ListN.{length, getD}
 use lib.Dec.{eqb}
@@ -25,7 +25,7 @@ use Rattle.histories.specs.Order.{Arrivals, WaitsFor}
 use Rattle.histories.proofs.Staying.{Fewer}
 use Rattle.books.specs.Past.{Turn, isAnswer, isAnswerOf, value, creates, runningIn}
 use Rattle.books.specs.Waiting.{isFifo, target, doneTo, priorityIn, pends, claimed, joinedWith, arrivedAt, endsWait, waiting}
-use Rattle.books.proofs.Members.{Once, has-before, has-last, has-grown, once-grown, has-kept, kept-has, once-kept, none-has}
+use Rattle.books.proofs.Members.{Once, has-kept, kept-has, once-kept}
 
 -- a live task's identifier, a live semaphore's
 abbrev pub taskId : State → ℕ → ℕ

@@ -1,11 +1,11 @@
 -- The caller of a claim that is answered PENDING joins the queue of the semaphore that it named: all others go on waiting, and the
 -- answers tell of the caller what the state says.
 -- Assumes nothing.
-use Prim.Native.Nat.{ℕ, suc, _+_, _*_, _%_, _≤_, _<_}
+use Prim.Native.Nat.{ℕ, suc, _+_, _%_, _≤_, _<_}
 use native.Mathlib.Omega.{arith}
-use mathlib.Core.Path.{_≡_, refl, sym, subst, ap, _∙_}
-use mathlib.Core.Logic.{_⊎_, inl, inr, ⊎-elim}
-use mathlib.Core.Bool.{Bool, true, false, not}
+use mathlib.Core.Path.{_≡_, sym, subst, _∙_}
+use mathlib.Core.Logic.{⊎-elim}
+use mathlib.Core.Bool.{Bool, true, false}
 use mathlib.Core.List.{List, [], _∷_, _++_}
 use lib.ListN.{length, getD}
 use lib.Seq.{getD-set-same, getD-set-other}
@@ -16,9 +16,9 @@ use Rattle.scope.specs.Identifiers.{identifier}
 use Rattle.scope.specs.Seats.{queueSeats, standing, leaves, joins}
 use Rattle.scope.specs.Lists.{has}
 use Rattle.scope.specs.Views.{withLine}
-use Rattle.scope.specs.Semaphores.{queueKey, waits}
+use Rattle.scope.specs.Semaphores.{waits}
 use Rattle.scope.proofs.Seats.{ahead-from}
-use Rattle.laws.proofs.Branches.{true-false, true-or-false, eq-or-not, not-of-false, picked-yes, picked-no}
+use Rattle.laws.proofs.Branches.{true-or-false, eq-or-not, not-of-false, picked-yes, picked-no}
 use Rattle.laws.proofs.Arrays.{inside}
 use Rattle.seats.specs.Rule.{In, Queues}
 use Rattle.seats.proofs.Leaving.{leaves-out}

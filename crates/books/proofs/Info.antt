@@ -4,7 +4,7 @@
 use Prim.Native.Nat.{ℕ, _+_, _≤_, _<_}
 use native.Mathlib.Omega.{arith}
 use mathlib.Core.Path.{_≡_, refl, sym, subst, ap, _∙_}
-use mathlib.Core.Bool.{Bool, true, false}
+use mathlib.Core.Bool.{true, false}
 use mathlib.Core.List.{List}
 use lib.ListN.{length, getD}
 use lib.Dec.{eqb}
@@ -12,7 +12,7 @@ use borrow.Author.Tests.{eqb-false}
 use Rattle.scope.specs.declared.State.{State}
 use Rattle.scope.specs.declared.Answer.{Answer}
 use Rattle.scope.specs.Statuses.{OK}
-use Rattle.scope.specs.Views.{waitersOf, countNegative, countSize}
+use Rattle.scope.specs.Views.{waitersOf}
 use Rattle.scope.specs.Answers.{bitOf, answer, plain, badState}
 use Rattle.scope.specs.Semaphores.{semFound, semInfoAt}
 use Rattle.scope.specs.Replies.{Reply, replyOf}

@@ -10,9 +10,9 @@ use mathlib.Core.List.{List, [], _∷_, _++_}
 use lib.ListN.{length}
 use lib.Dec.{eqb}
 use borrow.Author.Tests.{eq-eqb, ne-eqb, eqb-true}
-use Rattle.scope.specs.Choice.{pick, number}
+use Rattle.scope.specs.Choice.{number}
 use Rattle.scope.specs.Lists.{has, keep}
-use Rattle.laws.proofs.Branches.{true-false, true-or-false, eq-or-not, picked-yes, picked-no, both, both-true, first-fails, second-fails, not-of-true, not-of-false}
+use Rattle.laws.proofs.Branches.{true-false, true-or-false, picked-yes, picked-no, both, both-true, first-fails, second-fails, not-of-true, not-of-false}
 use Rattle.scope.proofs.Seats.{number-more}
 
 -- each is on the list once

@@ -5,30 +5,28 @@ use Prim.Native.Nat.{ℕ, _+_, _≤_, _<_}
 use native.Mathlib.Omega.{arith}
 use mathlib.Core.Path.{_≡_, refl, sym, subst, ap, _∙_}
 use mathlib.Core.Logic.{_⊎_, inl, inr, ⊎-elim}
-use mathlib.Core.Bool.{Bool, true, false}
+use mathlib.Core.Bool.{true, false}
 use mathlib.Core.List.{List, [], _∷_}
 use lib.ListN.{length, getD}
-use lib.Dec.{ltb, eqb}
+use lib.Dec.{eqb}
 use borrow.Author.Tests.{ltb-true, eqb-true, eqb-false}
 use Rattle.scope.specs.declared.State.{State}
 use Rattle.scope.specs.declared.Answer.{Answer}
 use Rattle.scope.specs.declared.Waking.{Waking}
-use Rattle.scope.specs.declared.Found.the-variants.{At}
 use Rattle.scope.specs.Statuses.{OK}
 use Rattle.scope.specs.Lists.{has}
 use Rattle.scope.specs.Seats.{queueSeats, isOn, onSeat, firstOf}
 use Rattle.scope.specs.Views.{waitersOf}
 use Rattle.scope.specs.Answers.{answer, plain, badState, wakesWith}
 use Rattle.scope.specs.Semaphores.{semFound, wakeNext, semReleaseAt}
-use Rattle.scope.specs.Replies.{Wake, wakesFrom, wakeList, replyOf}
+use Rattle.scope.specs.Replies.{Wake, wakesFrom, replyOf}
 use Rattle.scope.specs.Fresh.{freshState}
-use Rattle.laws.proofs.Branches.{lt-or-le, true-false}
+use Rattle.laws.proofs.Branches.{true-false}
 use Rattle.laws.proofs.Searches.{least-true}
 use Rattle.tables.proofs.Laws.{found-below, found-slot, found-identifier}
 use Rattle.seats.specs.Rule.{In}
-use Rattle.histories.specs.Sound.{Sound}
 use Rattle.histories.specs.History.{Event, answerTo, after, SemaphoreAt}
-use Rattle.histories.specs.Order.{Arrivals, arrivals, WaitsFor, Grant}
+use Rattle.histories.specs.Order.{arrivals, WaitsFor, Grant}
 use Rattle.histories.proofs.Refused.{by-choice}
 use Rattle.histories.proofs.Answered.{by-name, by-number}
 use Rattle.histories.proofs.Order.{history-grants}

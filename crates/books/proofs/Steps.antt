@@ -1,27 +1,25 @@
 -- A turn keeps a state in agreement with what is told, by kinds of turn: nothing is created, deleted or re-prioritised and at most
 -- some are woken; a task is created, deleted or given another priority; a semaphore is created or deleted; the caller waits.
 -- Assumes nothing.
-use Prim.Native.Nat.{ℕ, suc, _+_, _<_}
+use Prim.Native.Nat.{ℕ, suc, _<_}
 use native.Mathlib.Omega.{arith}
 use mathlib.Core.Path.{_≡_, refl, sym, subst, ap, _∙_}
 use mathlib.Core.Logic.{_⊎_, inl, inr, ⊎-elim}
-use mathlib.Core.Bool.{Bool, true, false, not, _||_}
+use mathlib.Core.Bool.{Bool, true, false, _||_}
 use mathlib.Core.List.{List, [], _∷_}
-use lib.ListN.{length, getD, set, length-set}
-use lib.Seq.{getD-set-same, getD-set-other}
+use lib.ListN.{length, getD}
 use lib.Dec.{ltb, eqb}
-use borrow.Author.Tests.{ltb-true, lt-ltb}
+use borrow.Author.Tests.{lt-ltb}
 use Rattle.scope.specs.declared.State.{State}
 use Rattle.scope.specs.declared.Line.{Line}
 use Rattle.scope.specs.declared.Answer.{Answer}
 use Rattle.scope.specs.declared.Waking.{Waking}
-use Rattle.scope.specs.declared.Found.{Found}
-use Rattle.scope.specs.declared.Found.the-variants.{At, Deleted, Invalid}
+use Rattle.scope.specs.declared.Found.the-variants.{At, Invalid}
 use Rattle.scope.specs.Choice.{pick}
 use Rattle.scope.specs.Statuses.{OK, PENDING}
 use Rattle.scope.specs.Identifiers.{identifier, found}
 use Rattle.scope.specs.Seats.{queueSeats, waitsOn}
-use Rattle.scope.specs.Views.{withLine, runningTask}
+use Rattle.scope.specs.Views.{runningTask}
 use Rattle.scope.specs.Answers.{wakesWith}
 use Rattle.scope.specs.Tasks.{taskFound}
 use Rattle.scope.specs.Replies.{wakeList}
@@ -30,7 +28,7 @@ use Rattle.tables.proofs.Laws.{found-identifier}
 use Rattle.seats.specs.Rule.{In}
 use Rattle.histories.specs.Sound.{Waits, Sound}
 use Rattle.histories.specs.History.{Event}
-use Rattle.histories.specs.Order.{Arrivals, arrival, arrives, WaitsFor}
+use Rattle.histories.specs.Order.{Arrivals, arrives, WaitsFor}
 use Rattle.histories.proofs.Moves.{queue-waits}
 use Rattle.histories.proofs.Staying.{Fewer}
 use Rattle.books.specs.Past.{Turn, isAnswer, isAnswerOf, value, runningIn}

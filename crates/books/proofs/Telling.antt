@@ -3,12 +3,12 @@
 use Prim.Native.Nat.{ℕ, suc, _+_, _<_}
 use native.Mathlib.Omega.{arith}
 use mathlib.Core.Path.{_≡_, refl, sym, subst, ap, _∙_}
-use mathlib.Core.Logic.{_⊎_, inl, inr, ⊎-elim}
+use mathlib.Core.Logic.{⊎-elim}
 use mathlib.Core.Bool.{Bool, true, false, not}
 use mathlib.Core.List.{List, [], _∷_}
 use lib.ListN.{length, getD, set, length-set}
 use lib.Seq.{getD-set-same, getD-set-other}
-use lib.Dec.{ltb, eqb}
+use lib.Dec.{eqb}
 use borrow.Author.Tests.{ltb-true, leb-false, lt-ltb}
 use Rattle.scope.specs.declared.State.{State}
 use Rattle.scope.specs.declared.Line.{Line}
@@ -18,25 +18,24 @@ use Rattle.scope.specs.declared.Semaphores.{Semaphores}
 use Rattle.scope.specs.declared.Pools.{Pools}
 use Rattle.scope.specs.declared.Found.{Found}
 use Rattle.scope.specs.declared.Found.the-variants.{At, Deleted, Invalid}
-use Rattle.scope.specs.Choice.{pick}
 use Rattle.scope.specs.Statuses.{OK, PENDING, TIME-OUT, BAD-CALL}
 use Rattle.scope.specs.Identifiers.{identifier, lowestUsable}
 use Rattle.scope.specs.Seats.{queueSeats, waitsOn, firstOf, leaves, becomesReady}
-use Rattle.scope.specs.Views.{withLine, withTasks, withSemaphores, withPools, withSeats, withWait, readyWith, isReady, runningTask}
-use Rattle.scope.specs.Answers.{answer, plain, gives, badState, wakesWith, onFound}
-use Rattle.scope.specs.Tasks.{taskFound, taskBorn, taskGone, taskCreateAt, taskCreate, taskDeleteAt, taskDelete, taskIdentAt, taskIdent, taskStartAt, taskStart, taskSuspendAt, taskSuspend, taskResumeAt, taskResume, taskSetPriorityAt, taskSetPriority}
+use Rattle.scope.specs.Views.{withLine, withTasks, withSemaphores, withPools, withSeats, readyWith, runningTask}
+use Rattle.scope.specs.Answers.{answer, plain, gives, wakesWith, onFound}
+use Rattle.scope.specs.Tasks.{taskBorn, taskCreateAt, taskCreate, taskDeleteAt, taskDelete, taskIdentAt, taskIdent, taskStartAt, taskStart, taskSuspendAt, taskSuspend, taskResumeAt, taskResume, taskSetPriorityAt, taskSetPriority}
 use Rattle.scope.specs.Semaphores.{semFound, semBorn, semGone, withUnits, noneWoken, wakeNext, wakeAll, semCreateAt, semCreate, semDeleteAt, semDelete, semIdentAt, semIdent, waits, semWaitAt, semClaimAt, semClaim, semReleaseAt, semRelease, semInfoAt, semInfo}
 use Rattle.scope.specs.Pools.{poolCreateAt, poolCreate, poolDeleteAt, poolDelete, poolIdentAt, poolIdent, poolGetBuffer, poolGetBuffAt, poolGetBuff, poolRetBuffer, poolRetBuffAt, poolRetBuff, poolInfoAt, poolInfo}
 use Rattle.scope.specs.Ticks.{ticked, wakeDue, tick}
 use Rattle.scope.specs.Calls.{Call, calls, callAt}
-use Rattle.scope.specs.Step.{callerRefusal, answered, stepped}
+use Rattle.scope.specs.Step.{callerRefusal, answered}
 use Rattle.laws.proofs.Branches.{both-true, not-of-true, true-false, true-or-false, eq-or-not, picked-yes, picked-no}
 use Rattle.tables.proofs.Laws.{found-live, found-identifier, usable-at, usable-free}
 use Rattle.seats.specs.Rule.{In}
 use Rattle.seats.proofs.Leaving.{leaves-out}
 use Rattle.histories.specs.Sound.{Ready, Sound}
 use Rattle.histories.specs.History.{Event, answerTo, after}
-use Rattle.histories.specs.Order.{Arrivals, arrival, arrives, arrivedAfter, WaitsFor}
+use Rattle.histories.specs.Order.{Arrivals, arrival, arrives, arrivedAfter}
 use Rattle.histories.proofs.Refused.{by-choice}
 use Rattle.histories.proofs.Refusals.{by-rules}
 use Rattle.histories.proofs.Answered.{Rows, none, more, row-at}
@@ -46,11 +45,11 @@ use Rattle.histories.proofs.Semaphores.{runs-ready, sem-delete-at}
 use Rattle.histories.proofs.Staying.{Good, Fewer, stays-same, stays-then, leaves-stays, leaves-good, ready-stays, fewer-same, fewer-then, left-fewer, next-fewer, all-fewer, due-fewer, ticked-fewer}
 use Rattle.histories.proofs.Turns.{dead-nobody, good, task-room, slot-room, readied-goes, not-pending}
 use Rattle.histories.proofs.Ledger.{event-keeps}
-use Rattle.books.specs.Past.{Turn, isAnswer, value, runningIn, pastFrom}
+use Rattle.books.specs.Past.{Turn, isAnswer, runningIn, pastFrom}
 use Rattle.books.proofs.Woken.{ready-others, Left, leaves-left, ready-left, none-woke, next-woke, all-woke, due-woke}
-use Rattle.books.proofs.Agreeing.{taskId, semId, turnOf, Agrees, is-answer, not-call, not-of, not-creates, not-done}
+use Rattle.books.proofs.Agreeing.{taskId, turnOf, Agrees, is-answer, not-call, not-of, not-creates, not-done}
 use Rattle.books.proofs.Claiming.{waiters-more, claim-stays, claim-came, claim-new, claim-kept, claim-joined}
-use Rattle.books.proofs.Steps.{Steps, waiter-live, waiter-seen, ends-woken, SameTasks, SameSems, Moves, moves-none, moves-woke, plain-steps, status-steps, call-steps, create-steps, set-steps, delete-steps, born-steps, gone-steps}
+use Rattle.books.proofs.Steps.{Steps, waiter-live, waiter-seen, ends-woken, SameSems, Moves, moves-none, moves-woke, status-steps, call-steps, create-steps, set-steps, delete-steps, born-steps, gone-steps}
 
 module _ (s : State) (x : Event) where
   line-moves : (a : Answer) → a .state .line ≡ s .line → a .woken ≡ 0 → Moves s a

@@ -4,33 +4,28 @@
 use Prim.Native.Nat.{ℕ, zero, suc, _+_, _≤_, _<_}
 use native.Mathlib.Omega.{arith}
 use mathlib.Core.Path.{_≡_, refl, sym, subst, ap, _∙_}
-use mathlib.Core.Logic.{_⊎_, inl, inr, ⊎-elim}
+use mathlib.Core.Logic.{inl, inr, ⊎-elim}
 use mathlib.Core.Bool.{Bool, true, false}
 use mathlib.Core.List.{List, [], _∷_}
 use lib.ListN.{length, getD, replicate, getD-replicate}
-use lib.Dec.{ltb, eqb}
-use borrow.Author.Tests.{ltb-true, lt-ltb, le-ltb, eqb-true, eqb-false}
+use lib.Dec.{ltb}
+use borrow.Author.Tests.{ltb-true, lt-ltb, le-ltb}
 use Rattle.scope.specs.declared.State.{State}
-use Rattle.scope.specs.declared.Answer.{Answer}
 use Rattle.scope.specs.declared.Fresh.{Fresh}
-use Rattle.scope.specs.declared.Found.{Found}
-use Rattle.scope.specs.declared.Found.the-variants.{At}
 use Rattle.scope.specs.Choice.{pick, number}
-use Rattle.scope.specs.Statuses.{OK}
 use Rattle.scope.specs.Identifiers.{identifier}
 use Rattle.scope.specs.Lists.{has}
-use Rattle.scope.specs.Seats.{queueSeats, onSeat, firstOf, isOn, standsIn, standing}
+use Rattle.scope.specs.Seats.{queueSeats, standsIn, standing}
 use Rattle.scope.specs.Views.{runningTask, waitersOf}
 use Rattle.scope.specs.Fresh.{freshState, fresh}
-use Rattle.laws.proofs.Branches.{lt-or-le, both, both-true, true-false, picked-no}
-use Rattle.laws.proofs.Searches.{least-true}
-use Rattle.tables.proofs.Laws.{identifier-found, found-identifier, found-below, found-live}
+use Rattle.laws.proofs.Branches.{both, both-true, true-false, picked-no}
+use Rattle.tables.proofs.Laws.{identifier-found}
 use Rattle.histories.specs.Sound.{Waits, Sound}
-use Rattle.histories.specs.History.{Event, answerTo, after, SemaphoreAt}
+use Rattle.histories.specs.History.{Event, after, SemaphoreAt}
 use Rattle.histories.specs.Order.{Arrivals, noArrivals, arrivals, WaitsFor, InOrder, Ahead as AheadBySlot, Precedes as PrecedesBySlot}
 use Rattle.histories.proofs.Fresh.{fresh-sound}
 use Rattle.histories.proofs.Moves.{queue-waits}
-use Rattle.histories.proofs.Order.{history-in-order, history-grants}
+use Rattle.histories.proofs.Order.{history-in-order}
 use Rattle.histories.proofs.Turns.{dead-nobody}
 use Rattle.histories.proofs.Demand.{end-sound}
 use Rattle.books.specs.Past.{Turn, runningIn, pastOf}

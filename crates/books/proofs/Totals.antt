@@ -8,7 +8,7 @@ use mathlib.Core.Logic.{⊎-elim}
 use mathlib.Core.Bool.{Bool, true, false, _&&_}
 use mathlib.Core.List.{List, [], _∷_, _++_}
 use lib.ListN.{length, getD}
-use lib.Dec.{ltb, eqb}
+use lib.Dec.{eqb}
 use borrow.Author.Tests.{leb-false, eq-eqb, ne-eqb, eqb-true, eqb-false}
 use Rattle.scope.specs.declared.State.{State}
 use Rattle.scope.specs.declared.Answer.{Answer}
@@ -17,13 +17,13 @@ use Rattle.scope.specs.Statuses.{OK}
 use Rattle.scope.specs.Identifiers.{identifier, lowestUsable}
 use Rattle.scope.specs.Answers.{answer, plain, gives, badState, wakesWith}
 use Rattle.scope.specs.Semaphores.{semFound, semCreateAt, semCreate, semReleaseAt}
-use Rattle.scope.specs.Replies.{Wake, wakesFrom, wakeList}
+use Rattle.scope.specs.Replies.{Wake, wakeList}
 use Rattle.scope.specs.Fresh.{freshState}
-use Rattle.laws.proofs.Branches.{both, both-true, first-fails, true-false, true-or-false, eq-or-not, picked-yes, picked-no}
+use Rattle.laws.proofs.Branches.{both, both-true, first-fails, true-or-false, eq-or-not, picked-yes, picked-no}
 use Rattle.tables.proofs.Laws.{found-below, found-identifier}
 use Rattle.histories.specs.Sound.{Sound}
 use Rattle.histories.specs.History.{Event, answerTo, after, total, SemaphoreAt}
-use Rattle.histories.specs.Order.{Arrivals, arrives, noArrivals}
+use Rattle.histories.specs.Order.{Arrivals, noArrivals}
 use Rattle.histories.specs.Books.{answeredOK, releases as releasesOf, grants as grantsOf}
 use Rattle.histories.proofs.Refused.{by-choice}
 use Rattle.histories.proofs.Answered.{by-name, by-number, by-call, by-other, by-status, counts-as, Creates}
@@ -35,7 +35,7 @@ use Rattle.histories.proofs.Fresh.{fresh-sound}
 use Rattle.books.specs.Past.{Turn, isAnswer, isAnswerOf, value, creates, pastFrom, pastOf}
 use Rattle.books.specs.Waiting.{initialCount, claimed, releases, grantedTo, grants}
 use Rattle.books.proofs.Granting.{NoGrant, nobody, only-releases-grant}
-use Rattle.books.proofs.Agreeing.{taskId, semId, turnOf, Agrees, is-answer, is-new, not-of, not-call}
+use Rattle.books.proofs.Agreeing.{taskId, turnOf, Agrees, is-answer, is-new}
 use Rattle.books.proofs.Telling.{event-steps}
 use Rattle.books.proofs.Told.{fresh-agrees}
 use Rattle.books.proofs.Releasing.{Released, release-done, wakes-one}

@@ -23,9 +23,9 @@ use Rattle.scope.specs.Replies.{wakesFrom}
 use Rattle.laws.proofs.Branches.{lt-or-le, eq-or-not, true-false, true-or-false, picked-yes, picked-no}
 use Rattle.seats.specs.Rule.{In}
 use Rattle.seats.proofs.Leaving.{leaves-out, leaves-nowhere, leaves-is}
-use Rattle.seats.proofs.Joining.{joins-untouched, joins-in}
+use Rattle.seats.proofs.Joining.{joins-untouched}
 use Rattle.seats.proofs.Rule.{stands-in}
-use Rattle.histories.proofs.Staying.{Good, Fewer, leaves-stays, leaves-good, ready-stays, ready-good, next-fewer}
+use Rattle.histories.proofs.Staying.{Good, leaves-good, ready-stays, ready-good, next-fewer}
 use Rattle.books.specs.Waiting.{wakes}
 
 -- who is on the wake list, by place
