@@ -92,11 +92,11 @@ module _ (s : State) where
 
   task-suspend-spares : (id : ℕ) → Spares (taskSuspend s id)
   unfolding taskSuspendAt
-  task-suspend-spares id = named _ _ (λ t. either _ (either _ (refused _) (either _ (done _ _) (done _ _))) (refused _))
+  task-suspend-spares id = named _ _ (λ t. either _ (refused _) (either _ (refused _) (either _ (done _ _) (done _ _))))
 
   task-resume-spares : (id : ℕ) → Spares (taskResume s id)
   unfolding taskResumeAt
-  task-resume-spares id = named _ _ (λ t. either _ (either _ (either _ (done _ _) (done _ _)) (refused _)) (refused _))
+  task-resume-spares id = named _ _ (λ t. either _ (refused _) (either _ (refused _) (either _ (done _ _) (done _ _))))
 
   task-set-priority-spares : (id priority : ℕ) → Spares (taskSetPriority s id priority)
   unfolding taskSetPriorityAt
@@ -118,7 +118,7 @@ module _ (s : State) where
   unfolding semClaimAt semWaitAt
   sem-claim-spares id options ticks =
       named _ _
-      (λ i. either _ (refused _) (either _ (refused _) (either _ (done _ _) (either _ (refused _) (either _ (done _ _) (refused _))))))
+      (λ i. either _ (refused _) (either _ (refused _) (either _ (refused _) (either _ (done _ _) (either _ (refused _) (done _ _))))))
 
   sem-info-spares : (id : ℕ) → Spares (semInfo s id)
   unfolding semInfoAt
@@ -127,7 +127,7 @@ module _ (s : State) where
   pool-create-spares : (name address n size options : ℕ) → Spares (poolCreate s name address n size options)
   unfolding poolCreate poolCreateAt
   pool-create-spares name address n size options =
-      either _ (either _ (either _ (refused _) (either _ (refused _) (either _ (refused _) (given _ _)))) (refused _)) (refused _)
+      either _ (refused _) (either _ (refused _) (either _ (refused _) (either _ (refused _) (either _ (refused _) (given _ _)))))
 
   pool-delete-spares : (id : ℕ) → Spares (poolDelete s id)
   unfolding poolDeleteAt
@@ -143,7 +143,7 @@ module _ (s : State) where
 
   pool-return-spares : (id x : ℕ) → Spares (poolRetBuff s id x)
   unfolding poolRetBuffAt poolRetBuffer
-  pool-return-spares id x = named _ _ (λ i. either _ (done _ _) (refused _))
+  pool-return-spares id x = named _ _ (λ i. either _ (refused _) (done _ _))
 
   pool-info-spares : (id : ℕ) → Spares (poolInfo s id)
   unfolding poolInfoAt

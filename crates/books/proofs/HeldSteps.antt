@@ -10,7 +10,7 @@ use mathlib.Core.List.{List, [], _∷_}
 use lib.ListN.{length, getD, length-set}
 use lib.Seq.{getD-set-same, getD-set-other}
 use lib.Dec.{ltb, eqb}
-use borrow.Author.Tests.{leb-false, ltb-true}
+use borrow.Author.Tests.{leb-false, ltb-true, not-false}
 use Rattle.scope.specs.declared.State.{State}
 use Rattle.scope.specs.declared.Answer.{Answer}
 use Rattle.scope.specs.declared.Pools.{Pools}
@@ -337,11 +337,10 @@ module _ (s : State) (ok : Sound s) (past : List Turn) (agrees : Agrees (s .pool
     ret-at : x .call ≡ 18 → Fair (poolRetBuffAt s (x .b) i)
     unfolding poolRetBuffAt poolRetBuffer
     ret-at at =
-        by-choice Fair _
-        (λ e. let b = both-true (ltb at-address 64) (isOut out at-address) e in
+        by-choice Fair _ (λ e. plain-fair _ refl)
+        (λ e. let b = both-true (ltb at-address 64) (isOut out at-address) (not-false _ e) in
         let f = address-is (ltb-true at-address 64 (b .0)) in
         returned-agrees at at-address (f .0) (b .1) (f .1))
-        (λ e. plain-fair _ refl)
 
   lowest-free : lowestUsable (p .serial) (p .live) < 8 → getD (p .live) (lowestUsable (p .serial) (p .live)) false ≡ false
   lowest-free h = usable-free (p .serial) (p .live) _ (usable-at (p .serial) (p .live) (omega (arith, h, ok .pools .serials)))
@@ -360,11 +359,9 @@ module _ (s : State) (ok : Sound s) (past : List Turn) (agrees : Agrees (s .pool
   create-fair : x .call ≡ 14 → Fair (poolCreate s (x .a) (x .b) (x .c) (x .d) (x .e))
   unfolding poolCreate
   create-fair at =
-      by-choice Fair _
-      (λ e. by-choice Fair _
-      (λ f. by-choice Fair _ (λ g. plain-fair _ refl) (λ g. create-at at _ lowest-free))
-      (λ f. plain-fair _ refl))
-      (λ e. plain-fair _ refl)
+      by-choice Fair _ (λ e. plain-fair _ refl)
+      (λ e. by-choice Fair _ (λ f. plain-fair _ refl)
+      (λ f. by-choice Fair _ (λ g. plain-fair _ refl) (λ g. create-at at _ lowest-free)))
 
   -- every answer keeps the agreement
   pub turn-agrees : Agrees (answerTo s x .state .pools) (turnOf x (answerTo s x) ∷ past)

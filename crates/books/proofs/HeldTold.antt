@@ -187,7 +187,7 @@ module _ (s : State) (ok : Sound s) (past : List Turn) (agrees : Agrees (s .pool
     unfolding poolRetBuffAt poolRetBuffer
     names-held at =
         by-pool Told 18 (poolRetBuffAt s (x .b)) at refl
-        (λ i names. by-choice (IfDone Told) _ (λ e d. told i names e) (λ e. not-done Told _ refl))
+        (λ i names. by-choice (IfDone Told) _ (λ e. not-done Told _ refl) (λ e d. told i names (not-false _ e)))
       where
         Told : Answer → Type 0
         Told a = has (held past (x .a)) (x .b) ≡ true

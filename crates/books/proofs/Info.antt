@@ -12,14 +12,14 @@ use borrow.Author.Tests.{eqb-false}
 use Rattle.scope.specs.declared.State.{State}
 use Rattle.scope.specs.declared.Answer.{Answer}
 use Rattle.scope.specs.Statuses.{OK}
-use Rattle.scope.specs.Views.{waitersOf}
+use Rattle.scope.specs.Views.{waitersOf, less}
 use Rattle.scope.specs.Answers.{bitOf, answer, plain, badState}
 use Rattle.scope.specs.Semaphores.{semFound, semInfoAt}
 use Rattle.scope.specs.Replies.{Reply, replyOf}
 use Rattle.scope.specs.Fresh.{freshState}
 use Rattle.tables.proofs.Laws.{found-below, found-live, found-identifier}
 use Rattle.histories.specs.History.{Event, answerTo, after, total, SemaphoreAt}
-use Rattle.histories.specs.Books.{CountPlus, releases as releasesOf, grants as grantsOf}
+use Rattle.histories.specs.Books.{Counted, releases as releasesOf, grants as grantsOf}
 use Rattle.histories.proofs.Answered.{by-name, by-number}
 use Rattle.histories.proofs.Ledger.{Creation}
 use Rattle.histories.proofs.Demand.{WaitingNegative, end-sound, count-of-history, waiting-of-history}
@@ -32,12 +32,14 @@ use Rattle.books.proofs.Totals.{releases-told, grants-told, initial-tol
 -- "sem_info gives options, count, tasks waiting": what it gives of semaphore id. A negative count's size is the second value.
 pub record InfoTold (past : List Turn) (id : ℕ) (reply : Reply) : Type 0 where
   pub option : getD (reply .values) 0 0 ≡ bitOf (isFifo past id)
-  pub below : reply .negative ≡ true → grants past id + length (waiting past id) ≡ initialCount past id + releases past id + getD (reply .values) 1 0
-  pub above : reply .negative ≡ false → getD (reply .values) 1 0 + grants past id + length (waiting past id) ≡ initialCount past id + releases past id
+  pub counted : record { negative = reply .negative; size = getD (reply .values) 1 0 } ≡ less (initialCount past id + releases past id) (grants past id + length (waiting past id))
   pub waiters : getD (reply .values) 2 0 ≡ length (waiting past id)
   pub minus : 0 < length (waiting past id) → reply .negative ≡ true
   pub some : reply .negative ≡ true → 0 < length (waiting past id)
   pub size : reply .negative ≡ true → getD (reply .values) 1 0 ≡ length (waiting past id)
+
+less-of : {a b c d : ℕ} → a ≡ c → b ≡ d → less a b ≡ less c d
+less-of p q = rw (p, q)
 
 -- the call named a live semaphore, and was answered with what its slot holds
 record Asked (s : State) (id : ℕ) (a : Answer) : Type 0 where
@@ -74,15 +76,15 @@ module _ (p : ℕ) (h : p ≤ 15) (xs : List Event) where
       let number : length (waiting past id) ≡ waitersOf (now .line) i = ap (λ (v : ℕ). length (waiting past v)) e ∙ all .number i hi in
       let w : WaitingNegative now i = waiting-of-history p h xs i hi in
       let r : (c : Creation 8 (freshState p) xs id)
-      × CountPlus now i (total (grantsOf id) (freshState p) xs + waitersOf (now .line) i) (c .event .b + total (releasesOf id) (freshState p) xs) =
+      × Counted now i (c .event .b) (total (releasesOf id) (freshState p) xs) (total (grantsOf id) (freshState p) xs) =
       count-of-history p h xs id i names in
       let g = grants-told p h xs id in
       let f = releases-told p h xs id in
       let b = initial-told p h xs id (r .0) in
       record {
         option = ap bitOf (sym (all .fifo i hi (found-live (now .semaphores .serial) (now .semaphores .live) id names)) ∙ ap (isFifo past) (sym e));
-        below = λ d. omega (arith, r .1 .below d, g, f, b, number);
-        above = λ d. omega (arith, r .1 .above d, g, f, b, number);
+        counted = r .1
+            ∙ less-of (omega (arith, f, b)) (omega (arith, g, number));
         waiters = sym number;
         minus = λ d. w .waiting (omega (arith, d, number));
         some = λ d. omega (arith, w .some d, number);

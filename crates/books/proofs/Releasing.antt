@@ -71,9 +71,10 @@ module _ (s : State) where
     release-at : semReleaseAt s i .status ≡ OK → Released s id (semReleaseAt s i)
     unfolding semReleaseAt wakeNext plain answer
     release-at =
-        by-choice (λ (a : Answer). a .status ≡ OK → Released s id a) _
-        (λ e d. released-one _ (firstOf (s .line .seat) (queueSeats i)) (first-stands (s .line .seat) (queueSeats i) (ltb-true _ 32 e)) refl refl)
-        (λ e. by-choice (λ (a : Answer). a .status ≡ OK → Released s id a) _ (λ f d. absurd (omega (arith, d))) (λ f d. released-none _))
+        by-choice (λ (a : Answer). a .status ≡ OK → Released s id a) _ (λ e d. absurd (omega (arith, d)))
+        (λ e. by-choice (λ (a : Answer). a .status ≡ OK → Released s id a) _
+        (λ f d. released-one _ (firstOf (s .line .seat) (queueSeats i)) (first-stands (s .line .seat) (queueSeats i) (ltb-true _ 32 f)) refl refl)
+        (λ f d. released-none _))
 
   refused : (id : ℕ) (status : ℕ) → eqb status OK ≡ false → plain s status .status ≡ OK → Released s id (plain s status)
   unfolding plain answer

@@ -9,7 +9,7 @@ use mathlib.Core.List.{List, [], _∷_}
 use lib.ListN.{length, getD, set, length-set}
 use lib.Seq.{getD-set-same, getD-set-other}
 use lib.Dec.{eqb}
-use borrow.Author.Tests.{ltb-true, leb-false, lt-ltb}
+use borrow.Author.Tests.{ltb-true, leb-false, lt-ltb, not-false}
 use Rattle.scope.specs.declared.State.{State}
 use Rattle.scope.specs.declared.Line.{Line}
 use Rattle.scope.specs.declared.Answer.{Answer}
@@ -195,7 +195,7 @@ module _ (s : State) (ok : Sound s) (x : Event) where
   unfolding taskSuspendAt plain answer
   task-suspend-steps at =
       named s x _ (taskSuspendAt s)
-      (λ t e. by-choice (Steps s x) _
+      (λ t e. by-choice (Steps s x) _ (λ f. stay s x _ refl refl)
       (λ f. by-choice (Steps s x) _ (λ g. stay s x _ refl refl)
       (λ g. by-choice (Steps s x) _
       (λ h. call-steps s x _ refl refl 5 at refl refl refl refl refl
@@ -203,24 +203,21 @@ module _ (s : State) (ok : Sound s) (x : Event) where
       (λ h. call-steps s x _ refl refl 5 at refl refl refl refl refl
       (record { serial = refl; live = refl; priority = refl }) (record { serial = refl; live = refl; fifo = refl })
       (moves-none s _ (record { seats = leaves-stays (l .seat) whole t; joined = λ o a b u i. refl })
-      (λ i c u w. leaves-left (l .seat) whole t .others i c u (off-other t h i c u w) w) refl))))
-      (λ f. stay s x _ refl refl))
+      (λ i c u w. leaves-left (l .seat) whole t .others i c u (off-other t h i c u w) w) refl)))))
 
   task-resume-steps : x .call ≡ 6 → Steps s x (taskResume s (x .a))
   unfolding taskResumeAt plain answer
   task-resume-steps at =
       named s x _ (taskResumeAt s)
-      (λ t e. by-choice (Steps s x) _
-      (λ f. by-choice (Steps s x) _
+      (λ t e. by-choice (Steps s x) _ (λ f. stay s x _ refl refl)
+      (λ f. by-choice (Steps s x) _ (λ g. stay s x _ refl refl)
       (λ g. by-choice (Steps s x) _
       (λ h. call-steps s x _ refl refl 6 at refl refl refl refl refl
       (record { serial = refl; live = refl; priority = refl }) (record { serial = refl; live = refl; fifo = refl }) (line-moves s x _ refl refl))
       (λ h. let room : t < 32 = task-room s ok (x .a) t e in
       call-steps s x _ refl refl 6 at refl refl refl refl refl
       (record { serial = refl; live = refl; priority = refl }) (record { serial = refl; live = refl; fifo = refl })
-      (readied-moves _ t (getD (k .priority) t 0) room (off-nowhere l k m (ok .line) t room h g .seat) refl refl)))
-      (λ g. stay s x _ refl refl))
-      (λ f. stay s x _ refl refl))
+      (readied-moves _ t (getD (k .priority) t 0) room (off-nowhere l k m (ok .line) t room h (not-false (getD (k .suspended) t false) g) .seat) refl refl)))))
 
   task-set-priority-steps : x .call ≡ 7 → Steps s x (taskSetPriority s (x .a) (x .b))
   unfolding taskSetPriorityAt gives answer
@@ -365,17 +362,18 @@ module _ (s : State) (ok : Sound s) (x : Event) where
       named s x _ (semClaimAt s (x .b) (x .c))
       (λ i e. by-choice (Steps s x) _ (λ f. stay s x _ refl refl)
       (λ f. by-choice (Steps s x) _ (λ g. stay s x _ refl refl)
-      (λ g. by-choice (Steps s x) _ (λ h. units-steps 11 at i _ refl refl refl refl refl)
-      (λ h. by-choice (Steps s x) _ (λ j. stay s x _ refl refl)
-      (λ j. by-choice (Steps s x) _ (λ n. pending-steps at (x .c) i e (ltb-true (s .running) 32 n)) (λ n. stay s x _ refl refl))))))
+      (λ g. by-choice (Steps s x) _ (λ h. stay s x _ refl refl)
+      (λ h. by-choice (Steps s x) _ (λ j. units-steps 11 at i _ refl refl refl refl refl)
+      (λ j. by-choice (Steps s x) _ (λ n. stay s x _ refl refl) (λ n. pending-steps at (x .c) i e (leb-false 32 (s .running) n)))))))
 
   sem-release-steps : x .call ≡ 12 → Steps s x (semRelease s (x .a))
   unfolding semReleaseAt
   sem-release-steps at =
       named s x _ (semReleaseAt s)
-      (λ i e. by-choice (Steps s x) _
-      (λ f. woken-steps at (firstOf (l .seat) (queueSeats i)) (ltb-true _ 32 f))
-      (λ f. by-choice (Steps s x) _ (λ g. stay s x _ refl refl) (λ g. units-steps 12 at i _ refl refl refl refl refl)))
+      (λ i e. by-choice (Steps s x) _ (λ f. stay s x _ refl refl)
+      (λ f. by-choice (Steps s x) _
+      (λ g. woken-steps at (firstOf (l .seat) (queueSeats i)) (ltb-true _ 32 g))
+      (λ g. units-steps 12 at i _ refl refl refl refl refl)))
 
   sem-info-steps : x .call ≡ 13 → Steps s x (semInfo s (x .a))
   unfolding semInfoAt answer
@@ -394,13 +392,11 @@ module _ (s : State) (ok : Sound s) (x : Event) where
   pool-create-steps : x .call ≡ 14 → Steps s x (poolCreate s (x .a) (x .b) (x .c) (x .d) (x .e))
   unfolding poolCreate poolCreateAt gives
   pool-create-steps at =
-      by-choice (Steps s x) _
-      (λ a. by-choice (Steps s x) _
+      by-choice (Steps s x) _ (λ a. stay s x _ refl refl)
+      (λ a. by-choice (Steps s x) _ (λ b. stay s x _ refl refl)
       (λ b. by-choice (Steps s x) _ (λ c. stay s x _ refl refl)
       (λ c. by-choice (Steps s x) _ (λ d. stay s x _ refl refl)
-      (λ d. by-choice (Steps s x) _ (λ e. stay s x _ refl refl) (λ e. pools-steps 14 at refl refl refl refl refl _ OK _ _ _ _ _ refl))))
-      (λ b. stay s x _ refl refl))
-      (λ a. stay s x _ refl refl)
+      (λ d. by-choice (Steps s x) _ (λ e. stay s x _ refl refl) (λ e. pools-steps 14 at refl refl refl refl refl _ OK _ _ _ _ _ refl)))))
 
   pool-delete-steps : x .call ≡ 15 → Steps s x (poolDelete s (x .a))
   unfolding poolDeleteAt plain
@@ -423,7 +419,7 @@ module _ (s : State) (ok : Sound s) (x : Event) where
   unfolding poolRetBuffAt poolRetBuffer plain
   pool-return-steps at =
       named s x _ (poolRetBuffAt s (x .b))
-      (λ i e. by-choice (Steps s x) _ (λ f. pools-steps 18 at refl refl refl refl refl _ OK _ _ _ _ _ refl) (λ f. stay s x _ refl refl))
+      (λ i e. by-choice (Steps s x) _ (λ f. stay s x _ refl refl) (λ f. pools-steps 18 at refl refl refl refl refl _ OK _ _ _ _ _ refl))
 
   pool-info-steps : x .call ≡ 19 → Steps s x (poolInfo s (x .a))
   unfolding poolInfoAt

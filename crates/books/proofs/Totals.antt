@@ -75,7 +75,7 @@ module _ (s : State) where
   release-quiet x at =
       by-number Quiet s (λ status e. refused status) x 12 at (λ e. refl)
       (by-name Quiet s (λ status e. refused status) (semFound s (x .a)) (semReleaseAt s)
-      (λ i d. by-choice Quiet _ (λ e n. absurd (n refl)) (λ e. by-choice Quiet _ (λ f. refused _) (λ f n. refl))))
+      (λ i d. by-choice Quiet _ (λ e. refused _) (λ e. by-choice Quiet _ (λ f n. absurd (n refl)) (λ f n. refl))))
 
 module _ (p : ℕ) (s : State) (ok : Sound s) (past : List Turn) (told : Arrivals) (ag : Agrees p s past told) (x : Event) (id : ℕ) where
   abbrev a : Answer

@@ -8,7 +8,7 @@ use Rattle.scope.specs.declared.State.{State}
 use lib.Dec.{T}
 use Rattle.scope.specs.Choice.{pick, least, every, number}
 use Rattle.scope.specs.Seats.{waitsOn, onSeat, standsIn, standing, lower, leaves, raise, laterOf, aheadOf, joins, greater, topOf, runnerOf}
-use Rattle.scope.specs.Views.{readyWith, runningTask}
+use Rattle.scope.specs.Views.{readyWith, less, runningTask}
 use Rattle.scope.specs.Answers.{answer, plain, badState, wakesWith}
 use Rattle.scope.specs.Areas.{isArea, isSize, buffersOf, shareByte}
 use Rattle.scope.specs.Semaphores.{wokenSeats, wake, wakeNext, isTimeOut}
@@ -20,17 +20,17 @@ use Rattle.cases.specs.Broken.{good, broken, allBroken, allCalls, accept
 
 -- the good state is accepted
 pub good-accepted : T (accepted good)
-unfolding pick least every number waitsOn onSeat standsIn standing lower leaves raise laterOf aheadOf joins greater topOf runnerOf readyWith runningTask answer plain badState wakesWith isArea isSize buffersOf shareByte wokenSeats wake wakeNext isTimeOut timeLeft timesLeft isDue wakeDue tick seatRight seatsRight readyRight readyOrderRight waitRight waitsRight joinedRight queuesSorted countRight countsRight startRight startsRight taskRight tasksRight semRight semsRight admitted poolRight poolsRight pairShares poolsApart runningRight sound mayCall callerRefusal answered stepped
+unfolding pick least every number waitsOn onSeat standsIn standing lower leaves raise laterOf aheadOf joins greater topOf runnerOf readyWith less runningTask answer plain badState wakesWith isArea isSize buffersOf shareByte wokenSeats wake wakeNext isTimeOut timeLeft timesLeft isDue wakeDue tick seatRight seatsRight readyRight readyOrderRight waitRight waitsRight joinedRight queuesSorted countRight countsRight startRight startsRight taskRight tasksRight semRight semsRight admitted poolRight poolsRight pairShares poolsApart runningRight sound mayCall callerRefusal answered stepped
 good-accepted = tt
 
 -- each broken state is refused
 pub every-broken : T (allBroken broken)
-unfolding pick least every number waitsOn onSeat standsIn standing greater topOf runnerOf readyWith badState isArea isSize buffersOf shareByte isTimeOut seatRight seatsRight readyRight readyOrderRight waitRight waitsRight joinedRight queuesSorted countRight countsRight startRight startsRight taskRight tasksRight semRight semsRight admitted poolRight poolsRight pairShares poolsApart runningRight sound stepped
+unfolding pick least every number waitsOn onSeat standsIn standing greater topOf runnerOf readyWith less badState isArea isSize buffersOf shareByte isTimeOut seatRight seatsRight readyRight readyOrderRight waitRight waitsRight joinedRight queuesSorted countRight countsRight startRight startsRight taskRight tasksRight semRight semsRight admitted poolRight poolsRight pairShares poolsApart runningRight sound stepped
 every-broken = tt
 
 -- the twenty calls and an unknown one, by either caller, on one broken state
 pub every-call : T (allCalls 21 oneBroken)
-unfolding pick least every number waitsOn onSeat standsIn standing greater topOf runnerOf readyWith badState isArea isSize buffersOf shareByte isTimeOut seatRight seatsRight readyRight readyOrderRight waitRight waitsRight joinedRight queuesSorted countRight countsRight startRight startsRight taskRight tasksRight semRight semsRight admitted poolRight poolsRight pairShares poolsApart runningRight sound stepped
+unfolding pick least every number waitsOn onSeat standsIn standing greater topOf runnerOf readyWith less badState isArea isSize buffersOf shareByte isTimeOut seatRight seatsRight readyRight readyOrderRight waitRight waitsRight joinedRight queuesSorted countRight countsRight startRight startsRight taskRight tasksRight semRight semsRight admitted poolRight poolsRight pairShares poolsApart runningRight sound stepped
 every-call = tt
 
 -- and any call by any caller, on any state that breaks a rule

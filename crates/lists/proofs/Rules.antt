@@ -12,9 +12,10 @@ use borrow.Author.Tests.{eq-eqb, eqb-true}
 use Rattle.scope.specs.declared.State.{State}
 use Rattle.scope.specs.Lists.{has}
 use Rattle.scope.specs.Seats.{queueSeats, ringSeats, firstRing, queueOf, standing, queue, runnerOf}
-use Rattle.scope.specs.Views.{isReady}
-use Rattle.scope.specs.Semaphores.{isTimeOut}
+use Rattle.scope.specs.Views.{Signed, less, isReady, waitersOf, count}
+use Rattle.scope.specs.Semaphores.{lastCount, isTimeOut}
 use Rattle.scope.specs.Rules.{seatsRight, readyRight, readyOrderRight, waitRight, waitsRight, joinedRight, queuesSorted, countRight, countsRight, startRight, startsRight, taskRight, tasksRight, runningRight}
+use Rattle.scope.proofs.Counts.{minus, natural, less-below, less-above, less-negative, less-not-negative, right-says, says-right}
 use Rattle.laws.proofs.Branches.{true-false, true-or-false, lt-or-le}
 use Rattle.laws.proofs.Searches.{every-yes, every-at}
 use Rattle.laws.proofs.Arrays.{past, inside}
@@ -27,7 +28,7 @@ use Rattle.lists.specs.Rules.{readyOf, queueIn, waiting, HoldsTheReady, 
 use Rattle.lists.proofs.Plain.{same-test, along-turn, along-at}
 use Rattle.lists.proofs.Members.{queue-rising, queue-once, queue-says, queue-has, queue-length}
 use Rattle.lists.proofs.Ready.{order-says, order-once, order-falls, order-has, order-first}
-use Rattle.lists.proofs.Tests.{waits-is, waits-says, ready-says, idle-says, ready-right, ready-started, start-says, start-right, wait-says, rest-says, wait-right, joined-says, joined-right, count-says, empty-says, count-right, task-range}
+use Rattle.lists.proofs.Tests.{waits-is, waits-says, ready-says, idle-says, ready-right, ready-started, start-says, start-right, wait-says, rest-says, wait-right, joined-says, joined-right, task-range}
 
 -- a state whose arrays have their sizes, whose seats say queues, and whose priorities are in range
 module _ (s : State) (sized : Sized s) (seats : seatsRight (s .line .seat) ≡ true) (tasks : tasksRight (s .tasks) ≡ true) where
@@ -39,6 +40,9 @@ module _ (s : State) (sized : Sized s) (seats : seatsRight (s .line .seat) ≡ t
 
   abbrev priority : ℕ → ℕ
   priority t = getD (s .tasks .priority) t 0
+
+  abbrev units : ℕ → ℕ
+  units i = getD (s .semaphores .units) i 0
 
   rule : Queues q
   rule = queues-from-rule q (sized .seat) seats
@@ -119,9 +123,11 @@ module _ (s : State) (sized : Sized s) (seats : seatsRight (s .line .seat) ≡ t
     joined-at t h =
         every-at (λ u. joinedRight q (s .line .joined) (s .semaphores .fifo) (seat u) (getD (s .line .joined) u 0)) 32 (passed .sorted) t h
 
-    count-at : (i : ℕ) → i < 16 → countRight q i (getD (s .semaphores .units) i 0) ≡ true
+    count-at : (i : ℕ) → i < 16 → (units i ≤ lastCount) × (0 < waitersOf (s .line) i → units i ≡ 0)
     unfolding countsRight
-    count-at i h = every-at (λ j. countRight q j (getD (s .semaphores .units) j 0)) 16 (passed .counts) i h
+    count-at i h =
+        right-says (waitersOf (s .line) i) (units i)
+        (every-at (λ j. countRight (waitersOf (s .line) j) (count (s .line) (s .semaphores) j)) 16 (passed .counts) i h)
 
     start-at : (t : ℕ) → t < 32 → startRight (getD (s .tasks .started) t false) (getD (s .tasks .suspended) t false) (seat t) ≡ true
     unfolding startsRight
@@ -205,10 +211,15 @@ module _ (s : State) (sized : Sized s) (seats : seatsRight (s .line .seat) ≡ t
 
     count-below : CountBelow s
     count-below i n l e h =
-        omega (arith, e, count-says q i (getD (s .semaphores .units) i 0) (count-at i l) (omega (arith, h, e, long i)))
+        let some : 0 < waitersOf (s .line) i = omega (arith, h, e, long i) in
+        let none : units i ≡ 0 = count-at i l .1 some in
+        less-below (units i) (waitersOf (s .line) i) n (omega (arith, none, some)) (omega (arith, none, e, long i))
 
     count-empty : CountEmpty s
-    count-empty i l e = empty-says q i (getD (s .semaphores .units) i 0) (count-at i l) (omega (arith, e, long i))
+    count-empty i l e =
+        let is : less (units i) (waitersOf (s .line) i) ≡ natural (units i) =
+        less-above (units i) (waitersOf (s .line) i) (units i) (omega (arith, e, long i)) in
+        (ap (λ (c : Signed). c .negative) is, omega (arith, ap (λ (c : Signed). c .size) is, count-at i l .0))
 
     -- "Rules of a state", of the lists
     pub tests-say : Ordered s
@@ -266,13 +277,28 @@ module _ (s : State) (sized : Sized s) (seats : seatsRight (s .line .seat) ≡ t
         (sorted-from (r .0) (rules .sorted (r .0) (r .1) (sym (ap (λ (j : ℕ). getD (s .semaphores .fifo) j false) d) ∙ f)))
         t a (omega (arith, a, b))))
 
+    none-left : (i : ℕ) → i < 16 → 0 < waitersOf (s .line) i → units i ≡ 0
+    none-left i l h =
+        let is : less (units i) (waitersOf (s .line) i) ≡ minus (waitersOf (s .line) i) = rules .below i (waitersOf (s .line) i) l (long i) h in
+        omega (
+          arith,
+          less-negative (units i) (waitersOf (s .line) i) (ap (λ (c : Signed). c .negative) is) .1,
+          ap (λ (c : Signed). c .size) is,
+        )
+
+    few-left : (i : ℕ) → i < 16 → waitersOf (s .line) i ≡ 0 → units i ≤ lastCount
+    few-left i l e =
+        let r = rules .empty i l (long i ∙ e) in
+        omega (arith, less-not-negative (units i) (waitersOf (s .line) i) (r .0), r .1, e)
+
     counts-right : countsRight (s .line) (s .semaphores) ≡ true
     unfolding countsRight
     counts-right =
-        every-yes (λ i. countRight q i (getD (s .semaphores .units) i 0)) 16
-        (λ i l. count-right q i (getD (s .semaphores .units) i 0)
-        (λ h. omega (arith, rules .below i (standing q (queueSeats i)) l (long i) h, long i))
-        (λ e. rules .empty i l (long i ∙ e)))
+        every-yes (λ i. countRight (waitersOf (s .line) i) (count (s .line) (s .semaphores) i)) 16
+        (λ i l. let taken : 0 < waitersOf (s .line) i → units i ≡ 0 = none-left i l in
+        says-right (waitersOf (s .line) i) (units i)
+        (⊎-elim (λ h. omega (arith, taken h)) (λ h. few-left i l (omega (arith, h))) (lt-or-le 0 (waitersOf (s .line) i)))
+        taken)
 
     starts-right : startsRight (s .line) (s .tasks) ≡ true
     unfolding startsRight

@@ -9,7 +9,7 @@ use mathlib.Core.Bool.{Bool, true, false, not, _&&_}
 use mathlib.Core.List.{List, [], _∷_, _++_, map}
 use lib.ListN.{length, getD, length-replicate}
 use lib.Dec.{ltb, leb, eqb}
-use borrow.Author.Tests.{ltb-true, lt-ltb, eq-eqb, ne-eqb}
+use borrow.Author.Tests.{ltb-true, lt-ltb, leb-true, eq-eqb, ne-eqb}
 use Rattle.scope.specs.declared.State.{State}
 use Rattle.scope.specs.declared.Answer.{Answer}
 use Rattle.scope.specs.Lists.{has, without, insert}
@@ -19,7 +19,7 @@ use Rattle.scope.specs.Views.{withSeats}
 use Rattle.scope.specs.Answers.{answer, plain, wakesWith}
 use Rattle.scope.specs.Replies.{wakeList}
 use Rattle.scope.specs.Semaphores.{isTimeOut, wakeNext, noneWoken, wakeAll, semDeleteAt, queueKey, waits, semWaitAt, semClaimAt, semReleaseAt}
-use Rattle.laws.proofs.Branches.{eq-or-not, true-false, true-or-false, picked-yes, picked-no}
+use Rattle.laws.proofs.Branches.{eq-or-not, true-false, true-or-false, first-fails, not-of-true, picked-yes, picked-no}
 use Rattle.seats.proofs.Counting.{standing-le}
 use Rattle.histories.specs.Sound.{Ready, Sound}
 use Rattle.histories.proofs.Refused.{by-choice}
@@ -80,7 +80,8 @@ module _ (s : State) (ok : Sound s) (i : ℕ) (hi : i < 16) where
     granted : semReleaseAt s i ≡ wakesWith s (wakeNext (s .tasks) (noneWoken (s .line)) t) OK
     unfolding semReleaseAt
     granted =
-        picked-yes (ltb (firstOf (s .line .seat) (queueSeats i)) 32) _ _ (lt-ltb _ _ some)
+        picked-no _ _ _ (first-fails (not (ltb (firstOf (s .line .seat) (queueSeats i)) 32)) _ (not-of-true _ (lt-ltb _ _ some)))
+        ∙ picked-yes (ltb (firstOf (s .line .seat) (queueSeats i)) 32) _ _ (lt-ltb _ _ some)
         ∙ ap (λ (u : ℕ). wakesWith s (wakeNext (s .tasks) (noneWoken (s .line)) u) OK) first
 
     granted-wakes : wakeList (wakesWith s (wakeNext (s .tasks) (noneWoken (s .line)) t) OK) ≡ wakeOf (s .tasks) OK t ∷ []
@@ -112,11 +113,10 @@ module _ (s : State) (ok : Sound s) (i : ℕ) (hi : i < 16) where
   sem-release-empty e =
       let none : firstOf (s .line .seat) (queueSeats i) ≡ 32 = first-of (s .line .seat) i ∙ ap firstIn e in
       let Still : Answer → Type 0 = λ a. (wakeList a ≡ []) × ListsAfter a (readyOf s) (queueIn s) in
-      by-choice Still (ltb (firstOf (s .line .seat) (queueSeats i)) 32)
+      by-choice Still _ (λ z. (refl, record { ready = refl; waiting = λ j h. refl }))
+      (λ z. by-choice Still (ltb (firstOf (s .line .seat) (queueSeats i)) 32)
       (λ y. absurd (omega (arith, none, ltb-true (firstOf (s .line .seat) (queueSeats i)) 32 y)))
-      (λ y. by-choice Still (leb 32767 (getD (s .semaphores .units) i 0))
-      (λ z. (refl, record { ready = refl; waiting = λ j h. refl }))
-      (λ z. (refl, record { ready = refl; waiting = λ j h. refl })))
+      (λ y. (refl, record { ready = refl; waiting = λ j h. refl })))
 
   -- "below 0 the caller joins the queue"
   module _ (run : s .running < 32) where
@@ -170,7 +170,7 @@ module _ (s : State) (ok : Sound s) (i : ℕ) (hi : i < 16) where
     wait-lists : (ticks : ℕ) → Joined (semWaitAt s ticks i)
     unfolding semWaitAt waits plain answer
     wait-lists ticks =
-        by-choice Joined (ltb t 32)
+        by-choice Joined (leb 32 t) (λ y. absurd (omega (arith, run, leb-true 32 t y)))
         (λ y. record {
           ready = joins-queue-order left (s .line .joined) t i (queueKey fifo p) (out .queues) run (out .seat) hi
               ∙ leaves-order (s .line .seat) (ok .line .queues) (good-line (s .line) (s .tasks) (s .semaphores) (ok .line) .low) t;
@@ -178,7 +178,6 @@ module _ (s : State) (ok : Sound s) (i : ℕ) (hi : i < 16) where
               (joinedBy fifo (s .line .joined) p t (queueIn s i)) joined-queue
               (λ j h ne. joins-queue-other left (s .line .joined) t i (queueKey fifo p) (out .queues) run (out .seat) j ne ∙ left-queue j h);
         })
-        (λ y. absurd (true-false (lt-ltb _ _ run) y))
 
     abbrev Pends : Answer → Type 0
     Pends a = a .status ≡ PENDING → Joined a
@@ -189,8 +188,8 @@ module _ (s : State) (ok : Sound s) (i : ℕ) (hi : i < 16) where
     sem-claim-lists options ticks =
         by-choice Pends (ltb 1 options) (λ y e. absurd (omega (arith, e)))
         (λ y. by-choice Pends (eqb options 0 && not (isTimeOut ticks)) (λ z e. absurd (omega (arith, e)))
-        (λ z. by-choice Pends (ltb 0 (getD (s .semaphores .units) i 0)) (λ w e. absurd (omega (arith, e)))
-        (λ w. by-choice Pends (eqb options 1) (λ v e. absurd (omega (arith, e))) (λ v e. wait-lists ticks))))
+        (λ z. by-choice Pends (eqb options 1 && not (ltb 0 (getD (s .semaphores .units) i 0))) (λ w e. absurd (omega (arith, e)))
+        (λ w. by-choice Pends (ltb 0 (getD (s .semaphores .units) i 0)) (λ v e. absurd (omega (arith, e))) (λ v e. wait-lists ticks))))
 
   -- a claim that is not answered PENDING moves nobody
   abbrev Stays : Answer → Type 0
@@ -202,12 +201,12 @@ module _ (s : State) (ok : Sound s) (i : ℕ) (hi : i < 16) where
 
   wait-stays : (ticks : ℕ) → Stays (semWaitAt s ticks i)
   unfolding semWaitAt plain answer
-  wait-stays ticks = by-choice Stays (ltb (s .running) 32) (λ r e. absurd (e refl)) (λ r. still NO-CALLER)
+  wait-stays ticks = by-choice Stays (leb 32 (s .running)) (λ r. still NO-CALLER) (λ r e. absurd (e refl))
 
   pub sem-claim-stays : (options ticks : ℕ) → (semClaimAt s options ticks i .status ≡ PENDING → ⊥) → ListsAfter (semClaimAt s options ticks i) (readyOf s) (queueIn s)
   unfolding semClaimAt plain answer
   sem-claim-stays options ticks =
       by-choice Stays (ltb 1 options) (λ y. still INVALID-OPTIONS)
       (λ y. by-choice Stays (eqb options 0 && not (isTimeOut ticks)) (λ z. still INVALID-PARAMETER)
-      (λ z. by-choice Stays (ltb 0 (getD (s .semaphores .units) i 0)) (λ w e. record { ready = refl; waiting = λ j h. refl })
-      (λ w. by-choice Stays (eqb options 1) (λ v. still SEMAPHORE-NOT-AVAILABLE) (λ v. wait-stays ticks))))
+      (λ z. by-choice Stays (eqb options 1 && not (ltb 0 (getD (s .semaphores .units) i 0))) (λ w. still SEMAPHORE-NOT-AVAILABLE)
+      (λ w. by-choice Stays (ltb 0 (getD (s .semaphores .units) i 0)) (λ v e. record { ready = refl; waiting = λ j h. refl }) (λ v. wait-stays ticks))))

@@ -75,34 +75,28 @@ module _ (s : State) (ok : Sound s) where
         → ListsAfter (taskResumeAt s t) (madeReady (s .tasks) p t (readyOf s)) (queueIn s)
     unfolding taskResumeAt plain answer
     task-resume-lists e f g =
-        by-choice Comes (getD (s .tasks .started) t false)
-        (λ y. by-choice Comes (getD (s .tasks .suspended) t false)
+        by-choice Comes _ (λ y. absurd (true-false e (not-true _ y)))
+        (λ y. by-choice Comes _ (λ u. absurd (true-false f (not-true _ u)))
         (λ u. by-choice Comes (waitsOn (getD (s .line .seat) t 0)) (λ w. absurd (true-false w g))
         (λ w. let z : getD (s .line .seat) t 0 ≡ 0 = off-nowhere (s .line) (s .tasks) (s .semaphores) (ok .line) t room g f .seat in
-        record { ready = came-order t room z; waiting = came-queue t room z }))
-        (λ u. absurd (true-false f u)))
-        (λ y. absurd (true-false e y))
+        record { ready = came-order t room z; waiting = came-queue t room z })))
 
     -- "A suspended waiter keeps its place"
     pub resume-waiter-lists : waitsOn (getD (s .line .seat) t 0) ≡ true → ListsAfter (taskResumeAt s t) (readyOf s) (queueIn s)
     unfolding taskResumeAt plain answer
     resume-waiter-lists g =
-        by-choice Same (getD (s .tasks .started) t false)
-        (λ y. by-choice Same (getD (s .tasks .suspended) t false)
+        by-choice Same _ (λ y. record { ready = refl; waiting = λ i h. refl })
+        (λ y. by-choice Same _ (λ u. record { ready = refl; waiting = λ i h. refl })
         (λ u. by-choice Same (waitsOn (getD (s .line .seat) t 0)) (λ w. record { ready = refl; waiting = λ i h. refl })
-        (λ w. absurd (true-false g w)))
-        (λ u. record { ready = refl; waiting = λ i h. refl }))
-        (λ y. record { ready = refl; waiting = λ i h. refl })
+        (λ w. absurd (true-false g w))))
 
     pub suspend-waiter-lists : waitsOn (getD (s .line .seat) t 0) ≡ true → ListsAfter (taskSuspendAt s t) (readyOf s) (queueIn s)
     unfolding taskSuspendAt plain answer
     suspend-waiter-lists g =
-        by-choice Same (getD (s .tasks .started) t false)
-        (λ y. by-choice Same (getD (s .tasks .suspended) t false)
-        (λ u. record { ready = refl; waiting = λ i h. refl })
+        by-choice Same _ (λ y. record { ready = refl; waiting = λ i h. refl })
+        (λ y. by-choice Same _ (λ u. record { ready = refl; waiting = λ i h. refl })
         (λ u. by-choice Same (waitsOn (getD (s .line .seat) t 0)) (λ w. record { ready = refl; waiting = λ i h. refl })
         (λ w. absurd (true-false g w))))
-        (λ y. record { ready = refl; waiting = λ i h. refl })
 
     flags : isReady (s .line) (s .tasks) t ≡ true
         → (getD (s .tasks .started) t false ≡ true) × (getD (s .tasks .suspended) t false ≡ false) × (waitsOn (getD (s .line .seat) t 0) ≡ false)
@@ -113,15 +107,13 @@ module _ (s : State) (ok : Sound s) where
     unfolding taskSuspendAt plain answer
     task-suspend-lists r =
         let Out : Answer → Type 0 = λ a. ListsAfter a (without t (readyOf s)) (queueIn s) in
-        by-choice Out (getD (s .tasks .started) t false)
-        (λ y. by-choice Out (getD (s .tasks .suspended) t false)
-        (λ u. absurd (true-false u (flags r .1)))
+        by-choice Out _ (λ y. absurd (true-false (flags r .0) (not-true _ y)))
+        (λ y. by-choice Out (getD (s .tasks .suspended) t false) (λ u. absurd (true-false u (flags r .1)))
         (λ u. by-choice Out (waitsOn (getD (s .line .seat) t 0)) (λ w. absurd (true-false w (flags r .2)))
         (λ w. record {
           ready = leaves-order (s .line .seat) (ok .line .queues) (good-seats .low) t;
           waiting = λ i h. leaves-queue (s .line .seat) (ok .line .queues) (good-seats .low) t i ∙ off-queue (s .line .seat) t i h (ready-high t r);
         })))
-        (λ y. absurd (true-false (flags r .0) y))
 
     pub task-delete-lists : ListsAfter (taskDeleteAt s t) (without t (readyOf s)) (λ i. without t (queueIn s i))
     unfolding taskDeleteAt plain answer

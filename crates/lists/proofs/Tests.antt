@@ -11,10 +11,10 @@ use lib.Dec.{ltb, leb, eqb}
 use borrow.Author.Tests.{lt-ltb, le-ltb, le-leb, eq-eqb, ltb-true, leb-true, eqb-true, not-true}
 use Rattle.scope.specs.declared.Tasks.{Tasks}
 use Rattle.scope.specs.Choice.{pick}
-use Rattle.scope.specs.Seats.{ringSeats, queueSeats, waitsOn, queueOf, onSeat, standing}
+use Rattle.scope.specs.Seats.{ringSeats, waitsOn, queueOf, onSeat}
 use Rattle.scope.specs.Views.{readyWith}
 use Rattle.scope.specs.Semaphores.{isTimeOut}
-use Rattle.scope.specs.Rules.{readyRight, waitRight, joinedRight, countRight, startRight, taskRight}
+use Rattle.scope.specs.Rules.{readyRight, waitRight, joinedRight, startRight, taskRight}
 use Rattle.laws.proofs.Branches.{picked-yes, picked-no, both, both-true, not-of-false, true-or-false, lt-or-le}
 use Rattle.histories.proofs.Refused.{by-choice}
 
@@ -108,24 +108,6 @@ module _ (q joined : List ℕ) (fifo : List Bool) (x priority : ℕ) where
       (λ e. let b = both-true (waitsOn x) _ e in
       choose (getD fifo (queueOf x) false) (λ a. refl) (λ a. le-leb _ _ (f (b .0) (ltb-true _ _ (b .1)) a)))
       (λ e. refl)
-
-module _ (q : List ℕ) (i units : ℕ) where
-  pub count-says : countRight q i units ≡ true → 0 < standing q (queueSeats i) → units ≡ 0
-  unfolding countRight
-  count-says e h = eqb-true _ _ (chosen-yes (ltb 0 (standing q (queueSeats i))) _ _ e (lt-ltb _ _ h))
-
-  pub empty-says : countRight q i units ≡ true → standing q (queueSeats i) ≡ 0 → units ≤ 32767
-  unfolding countRight
-  empty-says e h =
-      leb-true _ _ (chosen-no (ltb 0 (standing q (queueSeats i))) _ _ e (le-ltb 0 (standing q (queueSeats i)) (omega (arith, h))))
-
-  pub count-right : (0 < standing q (queueSeats i) → units ≡ 0) → (standing q (queueSeats i) ≡ 0 → units ≤ 32767) → countRight q i units ≡ true
-  unfolding countRight
-  count-right f g =
-      ⊎-elim
-      (λ l. picked-yes (ltb 0 (standing q (queueSeats i))) _ _ (lt-ltb _ _ l) ∙ eq-eqb _ _ (f l))
-      (λ l. picked-no (ltb 0 (standing q (queueSeats i))) _ _ (le-ltb 0 (standing q (queueSeats i)) l) ∙ le-leb _ _ (g (omega arith)))
-      (lt-or-le 0 (standing q (queueSeats i)))
 
 -- a slot's priority is in range
 pub task-range : (k : Tasks) (t : ℕ) → taskRight k t ≡ true → getD (k .priority) t 0 ≤ 15

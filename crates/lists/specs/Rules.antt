@@ -8,7 +8,7 @@ use lib.ListN.{length, getD}
 use Rattle.scope.specs.declared.State.{State}
 use Rattle.scope.specs.Lists.{has}
 use Rattle.scope.specs.Seats.{ringSeats, firstRing, waitsOn, queue, readyOrder}
-use Rattle.scope.specs.Views.{isReady}
+use Rattle.scope.specs.Views.{isReady, count}
 use Rattle.scope.specs.Tasks.{lastPriority}
 use Rattle.scope.specs.Semaphores.{lastCount, isTimeOut}
 use Rattle.scope.specs.Rules.{readyOrderRight, waitsRight, queuesSorted, countsRight, startsRight, runningRight}
@@ -62,14 +62,15 @@ NoOther s = (i : ℕ) → i < 16 → (t : ℕ) → has (queueIn s i) t ≡ true 
 abbrev pub JoinedFall : State → Type 0
 JoinedFall s = (i : ℕ) → i < 16 → getD (s .semaphores .fifo) i false ≡ false → NeverRising (s .line .joined) (queueIn s i)
 
--- "A queue with n tasks, n above 0, has count −n; .." The count is the free units less the tasks in the queue, so it is −n just if
--- the units and n make these.
+-- "A queue with n tasks, n above 0, has count −n; .."
 abbrev pub CountBelow : State → Type 0
-CountBelow s = (i n : ℕ) → i < 16 → length (queueIn s i) ≡ n → 0 < n → getD (s .semaphores .units) i 0 + n ≡ length (queueIn s i)
+CountBelow s = (i n : ℕ) → i < 16 → length (queueIn s i) ≡ n → 0 < n
+    → count (s .line) (s .semaphores) i ≡ record { negative = true; size = n }
 
 -- ".. an empty queue has count 0 to 32,767."
 abbrev pub CountEmpty : State → Type 0
-CountEmpty s = (i : ℕ) → i < 16 → length (queueIn s i) ≡ 0 → getD (s .semaphores .units) i 0 ≤ lastCount
+CountEmpty s = (i : ℕ) → i < 16 → length (queueIn s i) ≡ 0
+    → (count (s .line) (s .semaphores) i .negative ≡ false) × (count (s .line) (s .semaphores) i .size ≤ lastCount)
 
 -- "Tasks not started neither wait nor are suspended."
 abbrev pub NotStarted : State → Type 0
