@@ -3,20 +3,19 @@
 -- Assumes nothing.
 use Prim.Native.Nat.{ℕ}
 use mathlib.Core.Path.{_≡_, refl}
-use mathlib.Core.Bool.{Bool, true, false}
 use Rattle.scope.specs.declared.State.{State}
 use Rattle.scope.specs.declared.Answer.{Answer}
 use Rattle.scope.specs.declared.Semaphores.{Semaphores}
 use Rattle.scope.specs.declared.Pools.{Pools}
 use Rattle.scope.specs.declared.Found.{Found}
-use Rattle.scope.specs.Choice.{pick}
 use Rattle.scope.specs.Answers.{answer, plain, gives, badState, wakesWith, onFound}
 use Rattle.scope.specs.Tasks.{taskCreateAt, taskCreate, taskDeleteAt, taskDelete, taskIdentAt, taskIdent, taskStartAt, taskStart, taskSuspendAt, taskSuspend, taskResumeAt, taskResume, taskSetPriorityAt, taskSetPriority}
 use Rattle.scope.specs.Semaphores.{semCreateAt, semCreate, semDeleteAt, semDelete, semIdentAt, semIdent, semWaitAt, semClaimAt, semClaim, semReleaseAt, semRelease, semInfoAt, semInfo}
 use Rattle.scope.specs.Pools.{poolCreateAt, poolCreate, poolDeleteAt, poolDelete, poolIdentAt, poolIdent, poolGetBuffer, poolGetBuffAt, poolGetBuff, poolRetBuffer, poolRetBuffAt, poolRetBuff, poolInfoAt, poolInfo}
 use Rattle.scope.specs.Ticks.{tick}
+use Rattle.scope.proofs.Rows.{none, more, either, by-name}
 use Rattle.histories.specs.History.{Event, answerTo}
-use Rattle.histories.proofs.Answered.{none, more, by-name, by-row}
+use Rattle.histories.proofs.Answered.{by-row}
 
 module _ (s : State) where
   abbrev pub SameSemaphores : Answer → Type 0
@@ -28,12 +27,7 @@ module _ (s : State) where
   abbrev pub SameBoth : Answer → Type 0
   SameBoth a = SameSemaphores a × SamePools a
 
-  -- a choice of two answers, and a call by identifier
-  either : (P : Answer → Type 0) (b : Bool) {x y : Answer} → P x → P y → P (pick b x y)
-  unfolding pick
-  either P true p q = p
-  either P false p q = q
-
+  -- a call by identifier
   both-named : (o : Found) (f : ℕ → Answer) → ((i : ℕ) → SameBoth (f i)) → SameBoth (onFound o s f)
   unfolding plain answer
   both-named o f g = by-name SameBoth s (λ status e. (refl, refl)) o f (λ i e. g i)

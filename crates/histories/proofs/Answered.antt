@@ -1,46 +1,28 @@
 -- What an event is answered with: a refusal, which gives the state back, or what the call's row of the table does. So what holds
 -- of the refusals and of each row holds of every answer.
 -- Assumes nothing.
-use Prim.Native.Nat.{ℕ, zero, suc, _+_}
+use Prim.Native.Nat.{ℕ, _+_}
 use native.Mathlib.Omega.{arith}
 use mathlib.Core.Path.{_≡_, refl, sym, subst}
 use mathlib.Core.Bool.{Bool, true, false}
-use mathlib.Core.List.{List, [], _∷_}
+use mathlib.Core.List.{[], _∷_}
 use lib.ListN.{getD}
 use lib.Dec.{eqb}
 use borrow.Author.Tests.{eq-eqb, ne-eqb}
 use Rattle.scope.specs.declared.State.{State}
 use Rattle.scope.specs.declared.Answer.{Answer}
-use Rattle.scope.specs.declared.Found.{Found}
-use Rattle.scope.specs.declared.Found.the-variants.{At, Deleted, Invalid}
 use Rattle.scope.specs.Statuses.{OK}
-use Rattle.scope.specs.Answers.{plain, badState, onFound}
-use Rattle.scope.specs.Calls.{Call, noCall, calls, callAt}
+use Rattle.scope.specs.Answers.{plain, badState}
+use Rattle.scope.specs.Calls.{Call, calls, callAt}
 use Rattle.scope.specs.Rules.{sound}
 use Rattle.scope.specs.Step.{callerRefusal, answered, stepped}
+pub use Rattle.scope.proofs.Rows.{Rows, none, more, row-at, by-name}
 use Rattle.laws.proofs.Branches.{both, first-fails, second-fails}
 use Rattle.histories.specs.History.{Event, answerTo}
 use Rattle.histories.specs.Books.{answeredOK}
 
--- what holds of each row of a table, whose first row is row n
-pub data Rows (P : ℕ → Call → Type 0) : ℕ → List Call → Type 0 where
-  none : {n : ℕ} → Rows P n []
-  more : {n : ℕ} {c : Call} {cs : List Call} → P n c → Rows P (suc n) cs → Rows P n (c ∷ cs)
-
-pub row-at : (P : ℕ → Call → Type 0) (n : ℕ) (cs : List Call) → Rows P n cs → ((k : ℕ) → P k noCall) → (k : ℕ) → P (n + k) (getD cs k noCall)
-row-at P n [] rows other k = other (n + k)
-row-at P n (c ∷ cs) (more p rows) other zero = subst (λ (j : ℕ). P j c) {x = n} (omega arith) p
-row-at P n (c ∷ cs) (more p rows) other (suc k) =
-    subst (λ (j : ℕ). P j (getD cs k noCall)) {x = suc n + k} (omega arith) (row-at P (suc n) cs rows other k)
-
--- a call by identifier
+-- the answer to an event
 module _ (P : Answer → Type 0) (s : State) (refused : (status : ℕ) → eqb status OK ≡ false → P (plain s status)) where
-  pub by-name : (o : Found) (f : ℕ → Answer) → ((i : ℕ) → o ≡ At i → P (f i)) → P (onFound o s f)
-  unfolding onFound
-  by-name (At i) f g = g i refl
-  by-name Deleted f g = refused _ refl
-  by-name Invalid f g = refused _ refl
-
   -- the answer to x, by what its own row does
   pub by-own : (x : Event) → P (badState s) → P (callAt (x .call) .does s (x .a) (x .b) (x .c) (x .d) (x .e)) → P (answerTo s x)
   unfolding stepped answered

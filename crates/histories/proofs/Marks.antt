@@ -7,11 +7,11 @@ use native.Mathlib.Omega.{arith}
 use native.Mathlib.Nat.{zero-div}
 use mathlib.Core.Path.{_≡_, refl, sym, subst, ap, _∙_}
 use mathlib.Core.Logic.{inl, inr, ⊎-elim}
-use mathlib.Core.Bool.{Bool, true, false, not, _&&_}
+use mathlib.Core.Bool.{Bool, true, false, not}
 use lib.ListN.{length, getD}
 use lib.Seq.{getD-set-same, getD-set-other}
 use lib.Dec.{ltb, eqb}
-use borrow.Author.Tests.{leb-false, ne-eqb, not-false}
+use borrow.Author.Tests.{leb-false, ne-eqb}
 use Rattle.scope.specs.declared.State.{State}
 use Rattle.scope.specs.declared.Answer.{Answer}
 use Rattle.scope.specs.declared.Pools.{Pools}
@@ -27,6 +27,7 @@ use Rattle.scope.specs.Pools.{poolFound, poolBuffers, poolBorn, poolGone, withO
 use Rattle.laws.proofs.Branches.{both-true, true-false, picked-yes, picked-no, eq-or-not}
 use Rattle.laws.proofs.Searches.{least-true}
 use Rattle.tables.proofs.Laws.{found-names, usable-at, usable-free}
+pub use Rattle.scope.proofs.Marks.{free-or-out}
 use Rattle.areas.proofs.Marks.{out-below, take-free, back-free}
 use Rattle.histories.specs.Sound.{Sound}
 use Rattle.histories.specs.History.{Event, answerTo}
@@ -36,17 +37,6 @@ use Rattle.histories.proofs.Pools.{row-says}
 use Rattle.histories.proofs.Tables.{later-same, later-born, later-gone, came-kept, came-born, Booked, booked-none, booked-one}
 use Rattle.histories.proofs.Answered.{by-name, by-number, by-call, by-other, by-status, counts-as, Creates}
 use Rattle.histories.proofs.Alone.{SamePools, pools-alone}
-
--- each of n buffers is free or out
-pub free-or-out : (out n : ℕ) → freeOf out n + number (isOut out) n ≡ n
-unfolding freeOf isFree number pick
-free-or-out out zero = refl
-free-or-out out (suc n) = go (isOut out n) (free-or-out out n)
-  where
-    go : (b : Bool) → number (isFree out) n + number (isOut out) n ≡ n
-        → (number (isFree out) n + pick (not b) 1 0) + (number (isOut out) n + pick b 1 0) ≡ suc n
-    go true e = omega arith
-    go false e = omega arith
 
 pub taken : (out k n : ℕ) → isFree out k ≡ true → k < n → number (isOut (out + 2 ^ k)) n ≡ number (isOut out) n + 1
 taken out k n e h = omega (arith, take-free out k n e h, free-or-out out n, free-or-out (out + 2 ^ k) n)
@@ -151,9 +141,11 @@ module _ (s : State) (ok : Sound s) (x : Event) where
     create-fair : (options : ℕ) → Fair (poolCreate s name address n size options)
     unfolding poolCreate
     create-fair options =
-        by-choice Fair _ (λ e. plain-fair _ refl)
-        (λ e. by-choice Fair _ (λ f. plain-fair _ refl)
-        (λ f. by-choice Fair _ (λ g. plain-fair _ refl) (λ g. create-at options _ lowest-free)))
+        by-choice Fair _
+        (λ e. by-choice Fair _
+        (λ f. by-choice Fair _ (λ g. plain-fair _ refl) (λ g. create-at options _ lowest-free))
+        (λ f. plain-fair _ refl))
+        (λ e. plain-fair _ refl)
 
   -- the slot that an identifier names
   slot : (id i : ℕ) → poolFound s id ≡ At i → i < 8
@@ -218,7 +210,7 @@ module _ (s : State) (ok : Sound s) (x : Event) where
 
     ret-buffer : x .call ≡ 18 → (k : ℕ) → Fair (poolRetBuffer s i k)
     unfolding poolRetBuffer
-    ret-buffer at k = by-choice Fair _ (λ e. plain-fair _ refl) (λ e. back-fair at k (both-true (ltb k 64) _ (not-false (ltb k 64 && isOut (getD (s .pools .out) i 0) k) e) .1))
+    ret-buffer at k = by-choice Fair _ (λ e. back-fair at k (both-true (ltb k 64) _ e .1)) (λ e. plain-fair _ refl)
 
     ret-at : x .call ≡ 18 → (y : ℕ) → Fair (poolRetBuffAt s y i)
     unfolding poolRetBuffAt

@@ -3,20 +3,14 @@
 -- Assumes nothing.
 use Prim.Native.Nat.{ℕ}
 use mathlib.Core.Path.{_≡_, refl}
-use mathlib.Core.Bool.{Bool, true, false}
+use mathlib.Core.Bool.{Bool}
 use Rattle.scope.specs.declared.State.{State}
 use Rattle.scope.specs.declared.Answer.{Answer}
 use Rattle.scope.specs.declared.Found.{Found}
 use Rattle.scope.specs.declared.Found.the-variants.{At, Deleted, Invalid}
-use Rattle.scope.specs.Choice.{pick}
 use Rattle.scope.specs.Answers.{answer, plain, gives, onFound}
+pub use Rattle.scope.proofs.Rows.{by-choice}
 use Rattle.histories.specs.Sound.{Sound}
-
--- whatever was chosen
-pub by-choice : {A : Type 0} (P : A → Type 0) (b : Bool) {x y : A} → (b ≡ true → P x) → (b ≡ false → P y) → P (pick b x y)
-unfolding pick
-by-choice P true f g = f refl
-by-choice P false f g = g refl
 
 -- an answer whose state is sound
 abbrev pub Kept : Answer → Type 0

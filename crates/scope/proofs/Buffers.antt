@@ -1,7 +1,7 @@
 -- "Buffers = length ÷ size, rounded down, laid from the address, no overhead." In an area that creation admits each buffer ends
 -- by the area's end, so no address wraps, and the next buffer starts a size further on.
 -- Assumes nothing.
-use Prim.Native.Nat.{ℕ, suc, _+_, _*_, _/_, _≤_, _<_, min}
+use Prim.Native.Nat.{ℕ, _+_, _*_, _/_, _≤_, _<_, min}
 use native.Mathlib.Omega.{arith}
 use native.Mathlib.Nat.{min-le-left, mul-le-mul-right, div-mul-le-self, suc-mul}
 use mathlib.Core.Path.{_≡_, refl}

@@ -3,8 +3,8 @@
 -- Assumes nothing.
 use Prim.Native.Nat.{ℕ, _+_, _-_, _≤_, _<_}
 use native.Mathlib.Omega.{arith}
-use native.Mathlib.Nat.{eq-zero-or-pos}
-use mathlib.Core.Path.{_≡_, refl, sym, _∙_}
+use native.Mathlib.Nat.{add-comm, eq-zero-or-pos}
+use mathlib.Core.Path.{_≡_, refl, sym, ap, _∙_}
 use mathlib.Core.Logic.{⊎-elim}
 use mathlib.Core.Bool.{Bool, true, false, _&&_}
 use lib.Dec.{leb, eqb}
@@ -46,6 +46,39 @@ less-more x y n =
     ⊎-elim (λ z. less-above (x + n) (y + n) (x - y) (omega arith) ∙ sym (less-above x y (x - y) (omega arith)))
     (λ p. less-below (x + n) (y + n) (y - x) (omega arith) (omega arith) ∙ sym (less-below x y (y - x) (omega arith) (omega arith)))
     (eq-zero-or-pos (y - x))
+
+-- one more, and one less
+abbrev pub plusOne : Signed → Signed
+plusOne c = pick (c .negative) (less 1 (c .size)) (natural (c .size + 1))
+
+abbrev pub lessOne : Signed → Signed
+lessOne c = pick (c .negative) (minus (c .size + 1)) (less (c .size) 1)
+
+-- a unit more
+pub unit-more : (x y : ℕ) → less (x + 1) y ≡ plusOne (less x y)
+unfolding pick
+unit-more x y =
+    ⊎-elim (λ z. less-above (x + 1) y (x - y + 1) (omega arith) ∙ rw (less-above x y (x - y) (omega arith)))
+    (λ h. let d : y - x + x ≡ y = omega arith in
+    rw (less-below x y (y - x) (omega arith) (omega arith), ← less-more 1 (y - x) x, d) (ap (λ (v : ℕ). less v y) (add-comm x 1)))
+    (eq-zero-or-pos (y - x))
+
+-- a waiter more
+pub waiter-more : (x y : ℕ) → less x (y + 1) ≡ lessOne (less x y)
+unfolding pick
+waiter-more x y =
+    ⊎-elim
+    (λ z. let d : x - y + y ≡ x = omega arith in
+    rw (less-above x y (x - y) (omega arith), ← less-more (x - y) 1 y, d) (ap (λ (v : ℕ). less x v) (add-comm y 1)))
+    (λ h. less-below x (y + 1) (y - x + 1) (omega arith) (omega arith) ∙ rw (less-below x y (y - x) (omega arith) (omega arith)))
+    (eq-zero-or-pos (y - x))
+
+-- a waiter less, and a unit less
+pub waiter-less : (x y z : ℕ) → z + 1 ≡ y → less x z ≡ plusOne (less x y)
+waiter-less x y z e = sym (less-more x z 1) ∙ ap (λ (v : ℕ). less (x + 1) v) e ∙ unit-more x y
+
+pub unit-less : (x y z : ℕ) → z + 1 ≡ x → less z y ≡ lessOne (less x y)
+unit-less x y z e = sym (less-more z y 1) ∙ ap (λ (v : ℕ). less v (y + 1)) e ∙ waiter-more x y
 
 -- the rule, of a queue of n tasks and u units: where tasks wait, and where none does
 module _ (n u : ℕ) where

@@ -1,5 +1,9 @@
 pub mod Counts
+pub mod Rows
 pub mod Seats
 pub mod Waiters
 pub mod Slots
+pub mod Grants
+pub mod Marks
 pub mod Buffers
+pub mod Gets

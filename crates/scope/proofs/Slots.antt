@@ -7,7 +7,6 @@ use native.Mathlib.Omega.{arith}
 use native.Mathlib.Nat.{eq-or-lt-of-le}
 use mathlib.Core.Path.{_≡_, refl, _∙_}
 use mathlib.Core.Logic.{⊎-elim}
-use mathlib.Core.Bool.{Bool, true, false}
 use mathlib.Core.List.{List}
 use lib.ListN.{length, getD, set, length-set}
 use lib.Seq.{getD-set-same, getD-set-other}
@@ -18,6 +17,7 @@ use Rattle.scope.specs.Identifiers.{identifier, slotOf}
 use Rattle.scope.specs.Semaphores.{wakeNext, noneWoken}
 use Rattle.scope.specs.Answers.{wakesWith}
 use Rattle.scope.specs.Ticks.{ticked, isDue, wakeDue, tick}
+use Rattle.scope.proofs.Rows.{branch}
 
 -- the slots of the first n of a wake list ascend, and all lie below slot t
 record Ascends (wakes : List ℕ) (n t : ℕ) : Type 0 where
@@ -63,16 +63,11 @@ module _ (wakes : List ℕ) (n t u : ℕ) (p : Ascends wakes n t) where
 abbrev Rising : Waking → ℕ → Type 0
 Rising w t = Ascends (w .wakes) (w .woken) t
 
--- what both branches have
-either : {A : Type 0} (P : A → Type 0) (b : Bool) (x y : A) → P x → P y → P (elim b as (λ z. A) [ true ↦ x | false ↦ y ])
-either P true x y p q = p
-either P false x y p q = q
-
 all : (k : Tasks) (n t : ℕ) (w : Waking) → t + n ≤ 32 → Rising w t → Rising (wakeDue k n t w) 32
 unfolding wakeDue wakeNext
 all k zero t w h p = passed _ _ t 32 p (omega arith)
 all k (suc n) t w h p =
-    either (λ (v : Waking). Rising v 32) (isDue (w .line) _) _ _
+    branch (λ (v : Waking). Rising v 32) (isDue (w .line) _) _ _
     (all k n (suc t) _ (omega arith) (woken (w .wakes) (w .woken) t (suc t) p _ _ (omega arith) (omega arith) (omega arith)))
     (all k n (suc t) _ (omega arith) (passed _ _ t (suc t) p (omega arith)))
 
