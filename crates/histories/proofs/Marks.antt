@@ -7,11 +7,11 @@ use native.Mathlib.Omega.{arith}
 use native.Mathlib.Nat.{zero-div}
 use mathlib.Core.Path.{_≡_, refl, sym, subst, ap, _∙_}
 use mathlib.Core.Logic.{inl, inr, ⊎-elim}
-use mathlib.Core.Bool.{Bool, true, false, not}
+use mathlib.Core.Bool.{Bool, true, false, not, _&&_}
 use lib.ListN.{length, getD}
 use lib.Seq.{getD-set-same, getD-set-other}
 use lib.Dec.{ltb, eqb}
-use borrow.Author.Tests.{leb-false, ne-eqb}
+use borrow.Author.Tests.{leb-false, ne-eqb, not-false}
 use Rattle.scope.specs.declared.State.{State}
 use Rattle.scope.specs.declared.Answer.{Answer}
 use Rattle.scope.specs.declared.Pools.{Pools}
@@ -141,11 +141,9 @@ module _ (s : State) (ok : Sound s) (x : Event) where
     create-fair : (options : ℕ) → Fair (poolCreate s name address n size options)
     unfolding poolCreate
     create-fair options =
-        by-choice Fair _
-        (λ e. by-choice Fair _
-        (λ f. by-choice Fair _ (λ g. plain-fair _ refl) (λ g. create-at options _ lowest-free))
-        (λ f. plain-fair _ refl))
-        (λ e. plain-fair _ refl)
+        by-choice Fair _ (λ e. plain-fair _ refl)
+        (λ e. by-choice Fair _ (λ f. plain-fair _ refl)
+        (λ f. by-choice Fair _ (λ g. plain-fair _ refl) (λ g. create-at options _ lowest-free)))
 
   -- the slot that an identifier names
   slot : (id i : ℕ) → poolFound s id ≡ At i → i < 8
@@ -210,7 +208,7 @@ module _ (s : State) (ok : Sound s) (x : Event) where
 
     ret-buffer : x .call ≡ 18 → (k : ℕ) → Fair (poolRetBuffer s i k)
     unfolding poolRetBuffer
-    ret-buffer at k = by-choice Fair _ (λ e. back-fair at k (both-true (ltb k 64) _ e .1)) (λ e. plain-fair _ refl)
+    ret-buffer at k = by-choice Fair _ (λ e. plain-fair _ refl) (λ e. back-fair at k (both-true (ltb k 64) _ (not-false (ltb k 64 && isOut (getD (s .pools .out) i 0) k) e) .1))
 
     ret-at : x .call ≡ 18 → (y : ℕ) → Fair (poolRetBuffAt s y i)
     unfolding poolRetBuffAt

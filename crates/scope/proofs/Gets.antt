@@ -158,7 +158,7 @@ module _ (s : State) (x i : ℕ) (fits : i < length (s .pools .out)) where
   freed k e = go _ (ltb k 64) refl (isOut (marks s i) k) refl e
     where
       go : (y : Answer) (b : Bool) → ltb k 64 ≡ b → (c : Bool) → isOut (marks s i) k ≡ c
-          → pick (b && c) y (plain s INVALID-BUFF) .status ≡ OK → (k < 64) × (isOut (marks s i) k ≡ true)
+          → pick (not (b && c)) (plain s INVALID-BUFF) y .status ≡ OK → (k < 64) × (isOut (marks s i) k ≡ true)
       go y true d true f g = (ltb-true _ _ d, f)
       go y true d false f g = absurd (omega arith)
       go y false d c f g = absurd (omega arith)

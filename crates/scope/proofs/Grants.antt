@@ -70,11 +70,11 @@ module _ (s : State) where
 
   quiet-suspend : (t : ℕ) → Quiet (taskSuspendAt s t)
   unfolding taskSuspendAt plain answer
-  quiet-suspend t = either Quiet _ (either Quiet _ (inl refl) (either Quiet _ (inl refl) (inl refl))) (inl refl)
+  quiet-suspend t = either Quiet _ (inl refl) (either Quiet _ (inl refl) (either Quiet _ (inl refl) (inl refl)))
 
   quiet-resume : (t : ℕ) → Quiet (taskResumeAt s t)
   unfolding taskResumeAt plain answer
-  quiet-resume t = either Quiet _ (either Quiet _ (either Quiet _ (inl refl) (inl refl)) (inl refl)) (inl refl)
+  quiet-resume t = either Quiet _ (inl refl) (either Quiet _ (inl refl) (either Quiet _ (inl refl) (inl refl)))
 
   quiet-set-priority : (priority t : ℕ) → Quiet (taskSetPriorityAt s priority t)
   unfolding taskSetPriorityAt plain gives answer
@@ -101,7 +101,8 @@ module _ (s : State) where
   quiet-pool-create : (name address length size options : ℕ) → Quiet (poolCreate s name address length size options)
   unfolding poolCreate poolCreateAt plain gives answer
   quiet-pool-create name address length size options =
-      either Quiet _ (either Quiet _ (either Quiet _ (inl refl) (either Quiet _ (inl refl) (either Quiet _ (inl refl) (inl refl)))) (inl refl)) (inl refl)
+      either Quiet _ (inl refl)
+      (either Quiet _ (inl refl) (either Quiet _ (inl refl) (either Quiet _ (inl refl) (either Quiet _ (inl refl) (inl refl)))))
 
   quiet-pool-delete : (i : ℕ) → Quiet (poolDeleteAt s i)
   unfolding poolDeleteAt plain answer

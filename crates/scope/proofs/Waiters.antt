@@ -94,8 +94,9 @@ module _ (s : State) (i : ℕ) (fits : i < length (s .semaphores .units)) where
       → semReleaseAt s i .status ≡ OK → countIn (semReleaseAt s i .state) i ≡ plusOne (countIn s i)
   unfolding semReleaseAt wakesWith wakeNext plain answer
   release-plus-one waits =
-      by-choice Released _ (λ e d. woken-gives-back (s .line) i _ (waits (ltb-true _ _ e)) (s .semaphores) _ _)
-      (λ e. by-choice Released _ (λ f d. absurd (omega arith)) (λ f d. with-units (units + 1) ∙ unit-more units (waitersOf (s .line) i)))
+      by-choice Released _ (λ e d. absurd (omega arith))
+      (λ e. by-choice Released _ (λ f d. woken-gives-back (s .line) i _ (waits (ltb-true _ _ f)) (s .semaphores) _ _)
+      (λ f d. with-units (units + 1) ∙ unit-more units (waitersOf (s .line) i)))
 
   abbrev Claimed : Answer → Type 0
   Claimed a = a .status ≡ OK → countIn (a .state) i ≡ lessOne (countIn s i)
@@ -107,9 +108,9 @@ module _ (s : State) (i : ℕ) (fits : i < length (s .semaphores .units)) where
   claim-less-one options ticks =
       by-choice Claimed _ (λ e d. absurd (omega arith))
       (λ e. by-choice Claimed _ (λ f d. absurd (omega arith))
-      (λ f. by-choice Claimed _
-      (λ g d. with-units (units - 1) ∙ unit-less units (waitersOf (s .line) i) (units - 1) (omega (arith, ltb-true 0 units g)))
-      (λ g. by-choice Claimed _ (λ h d. absurd (omega arith))
+      (λ f. by-choice Claimed _ (λ g d. absurd (omega arith))
+      (λ g. by-choice Claimed _
+      (λ h d. with-units (units - 1) ∙ unit-less units (waitersOf (s .line) i) (units - 1) (omega (arith, ltb-true 0 units h)))
       (λ h. by-choice Claimed _ (λ j d. absurd (omega arith)) (λ j d. absurd (omega arith))))))
 
 -- "sem_info gives options, count, tasks waiting"
