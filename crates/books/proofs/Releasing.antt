@@ -34,6 +34,7 @@ use Rattle.histories.proofs.Demand.{end-sound}
 use Rattle.books.specs.Past.{Turn, pastOf}
 use Rattle.books.specs.Waiting.{waiting, Precedes}
 use Rattle.books.proofs.Granting.{nobody}
+use Rattle.books.proofs.Members.{has-here}
 use Rattle.books.proofs.Agreeing.{taskId, semId}
 use Rattle.books.proofs.Told.{StandsAt, SeatsTold, fresh-same, history-agrees, in-order, precedes-told, seats-told}
 
@@ -139,9 +140,9 @@ module _ (p : ℕ) (h : p ≤ 15) (xs : List Event) (x : Event) (at : x .call �
           found-slot (now .semaphores .serial) (now .semaphores .live) (x .a) (w .names)
           ∙ sym (found-slot (now .semaphores .serial) (now .semaphores .live) (x .a) n)
 
-  -- a release answered OK, where tasks wait
-  pub release-told : answerTo now x .status ≡ OK → (u : ℕ) → has (waiting past (x .a)) u ≡ true → GrantTold p past (x .a) (replyOf (answerTo now x) .wakes)
-  release-told done u e =
+  -- a release answered OK, where some task u waits
+  pub release-grants : answerTo now x .status ≡ OK → (u : ℕ) → has (waiting past (x .a)) u ≡ true → GrantTold p past (x .a) (replyOf (answerTo now x) .wakes)
+  release-grants done u e =
       let w : StandsAt now (x .a) u = all .others (x .a) u e in
       let hi : w .slot < 16 = slot-room (w .slot) (w .names) in
       grant-told (w .slot) (w .names) (granted (w .slot) (w .names) (some (w .slot) hi u (subst (λ (v : ℕ). has (waiting past v) u ≡ true)
@@ -154,7 +155,15 @@ module _ (p : ℕ) (h : p ≤ 15) (xs : List Event) (x : Event) (at : x .call �
       some : (i : ℕ) → i < 16 → (v : ℕ) → has (waiting past (semId now i)) v ≡ true → 0 < waitersOf (now .line) i
       some i hi v b = omega (arith, all .number i hi, long (waiting past (semId now i)) v b)
 
-  -- and where nobody does
+  -- so where the list of those who wait is not empty
+  pub release-told : answerTo now x .status ≡ OK → (waiting past (x .a) ≡ [] → ⊥) → GrantTold p past (x .a) (replyOf (answerTo now x) .wakes)
+  release-told done some = go (waiting past (x .a)) refl
+    where
+      go : (l : List ℕ) → waiting past (x .a) ≡ l → GrantTold p past (x .a) (replyOf (answerTo now x) .wakes)
+      go [] e = absurd (some e)
+      go (u ∷ l) e = release-grants done u (subst (λ (v : List ℕ). has v u ≡ true) (sym e) (has-here u l))
+
+  -- and where it is empty nobody is woken
   pub release-empty : answerTo now x .status ≡ OK → waiting past (x .a) ≡ [] → replyOf (answerTo now x) .wakes ≡ []
   release-empty done e =
       let r : Released now (x .a) (answerTo now x) = release-done now x at done in
