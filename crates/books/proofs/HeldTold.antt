@@ -16,7 +16,7 @@ use Rattle.scope.specs.declared.Pools.{Pools}
 use Rattle.scope.specs.Choice.{least, number}
 use Rattle.scope.specs.Statuses.{OK}
 use Rattle.scope.specs.Lists.{has}
-use Rattle.scope.specs.Areas.{isArea, isSize, isOut, isFree, lowestFree, bufferAddress, bufferAt}
+use Rattle.scope.specs.Areas.{isArea, isSize, isOut, isFree, lowestFree, freeOf, bufferAddress, bufferAt}
 use Rattle.scope.specs.Answers.{bitOf, answer, plain, gives, badState, onFound}
 use Rattle.scope.specs.Calls.{callAt}
 use Rattle.scope.specs.Pools.{poolFound, poolBuffers, poolInfoAt, poolDeleteAt, poolGetBuffer, poolGetBuffAt, poolRetBuffer, poolRetBuffAt}
@@ -40,13 +40,12 @@ use Rattle.books.proofs.HeldTurns.{turnOf, is-answer, not-call, is-of, 
 use Rattle.books.proofs.HeldAgrees.{NamedAt, Holds, Agrees, slot-or-none, one-name}
 use Rattle.books.proofs.HeldSteps.{turn-agrees}
 
--- "pool_info gives buffers, free, size, options"
+-- "pool_info gives buffers, free, size, options": these four values, and what is free or held are all
 pub record InfoTold (past : List Turn) (id : ℕ) (values : List ℕ) : Type 0 where
   pub lives : poolLives past id ≡ true
-  pub buffers : getD values 0 0 ≡ buffersIn past id
-  pub free : getD values 1 0 + length (held past id) ≡ buffersIn past id
-  pub size : getD values 2 0 ≡ sizeIn past id
-  pub options : getD values 3 0 ≡ bitOf (isForced past id)
+  pub free : ℕ
+  pub all : free + length (held past id) ≡ buffersIn past id
+  pub four : values ≡ buffersIn past id ∷ free ∷ sizeIn past id ∷ bitOf (isForced past id) ∷ []
 
 -- v is the address of the lowest buffer of pool id that is not held: "Get gives the lowest free buffer"
 pub record LowestFree (past : List Turn) (id v : ℕ) : Type 0 where
@@ -152,10 +151,9 @@ module _ (s : State) (ok : Sound s) (past : List Turn) (agrees : Agrees (s .pool
         (λ i names d. let h : Holds p past (x .a) i = holds (x .a) i names in
         record {
           lives = h .lives;
-          buffers = buffers-told (x .a) i names;
-          free = omega (arith, free-or-out (getD (p .out) i 0) (poolBuffers p i), h .listed .count, buffers-told (x .a) i names);
-          size = sym (h .size);
-          options = ap bitOf (sym (h .forced));
+          free = freeOf (getD (p .out) i 0) (poolBuffers p i);
+          all = omega (arith, free-or-out (getD (p .out) i 0) (poolBuffers p i), h .listed .count, buffers-told (x .a) i names);
+          four = rw (buffers-told (x .a) i names, h .size, h .forced);
         })
 
     pub lowest-told : x .call ≡ 17 → answerTo s x .status ≡ OK → LowestFree past (x .a) (getD (answerTo s x .values) 0 0)

@@ -63,6 +63,11 @@ pub record MarksTold (s : State) (past : List Turn) : Type 0 where
   pub live : (id i : ℕ) → PoolAt s id i → Holds (s .pools) past id i
   pub dead : (id : ℕ) → ((i : ℕ) → PoolAt s id i → ⊥) → Nothing past id
 
+-- What a get answers: "the lowest free buffer", an address that is held of no pool.
+pub record GetTold (past : List Turn) (id v : ℕ) : Type 0 where
+  pub lowest : LowestFree past id v
+  pub unheld : (jd : ℕ) → has (held past jd) v ≡ false
+
 -- "For any history from a fresh state"
 module _ (p : ℕ) (h : p ≤ 15) (xs : List Event) where
   abbrev now : State
@@ -118,13 +123,13 @@ module _ (p : ℕ) (h : p ≤ 15) (xs : List Event) where
     pub pool-info-told : x .call ≡ 19 → reply .status ≡ OK → InfoTold past (x .a) (reply .values)
     pool-info-told = info-told now now-sound past end-agrees x
 
-    -- a get answers an address that is held from no pool
-    pub get-told : x .call ≡ 17 → reply .status ≡ OK → (id : ℕ) → has (held past id) (getD (reply .values) 0 0) ≡ false
-    get-told = not-held now now-sound past end-agrees x
-
-    -- "Get gives the lowest free buffer", of the pool's own
-    pub get-lowest-told : x .call ≡ 17 → reply .status ≡ OK → LowestFree past (x .a) (getD (reply .values) 0 0)
-    get-lowest-told = lowest-told now now-sound past end-agrees x
+    -- a get answers the address of the pool's own lowest buffer that is not held, and of no pool is that address held
+    pub get-told : x .call ≡ 17 → reply .status ≡ OK → GetTold past (x .a) (getD (reply .values) 0 0)
+    get-told at done =
+        record {
+          lowest = lowest-told now now-sound past end-agrees x at done;
+          unheld = not-held now now-sound past end-agrees x at done;
+        }
 
     -- a return answered OK names a buffer that is held
     pub return-told : x .call ≡ 18 → reply .status ≡ OK → has (held past (x .a)) (x .b) ≡ true
