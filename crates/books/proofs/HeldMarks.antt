@@ -13,10 +13,10 @@ use Rattle.scope.specs.Choice.{number}
 use Rattle.scope.specs.Lists.{has, without}
 use Rattle.scope.specs.Areas.{isArea, isSize, buffersOf, isOut, isFree, bufferAddress, bufferAt}
 use Rattle.laws.proofs.Branches.{true-false, true-or-false, eq-or-not}
+use Rattle.laws.proofs.Once.{Once, has-here, has-later, has-cut, has-other, once-cut, length-cut}
 use Rattle.areas.proofs.Marks.{take-same, take-other, back-same, back-other, out-below}
 use Rattle.areas.proofs.Buffers.{found-at}
 use Rattle.histories.proofs.Marks.{taken, given-back, none-out}
-use Rattle.books.proofs.HeldLists.{Once, has-here, has-later, has-cut, has-other, once-cut, length-cut}
 
 -- x is the address of one of n buffers, which is out
 pub record OutAt (address size n out x : ℕ) : Type 0 where

@@ -22,6 +22,7 @@ use Rattle.scope.specs.Calls.{callAt}
 use Rattle.scope.specs.Pools.{poolFound, poolBuffers, poolInfoAt, poolDeleteAt, poolGetBuffer, poolGetBuffAt, poolRetBuffer, poolRetBuffAt}
 use Rattle.laws.proofs.Branches.{both-true, second-decides, not-of-false, picked-yes, picked-no, true-false, true-or-false, eq-or-not}
 use Rattle.laws.proofs.Searches.{least-below}
+use Rattle.laws.proofs.Once.{Once, has-here}
 use Rattle.tables.proofs.Laws.{found-below, found-live}
 use Rattle.areas.proofs.Buffers.{count, starts, found-is}
 use Rattle.histories.specs.Sound.{Sound}
@@ -34,7 +35,6 @@ use Rattle.histories.proofs.Ledger.{event-keeps}
 use Rattle.histories.proofs.Owners.{Out, InBuffer, buffers-out-apart}
 use Rattle.books.specs.Past.{Turn}
 use Rattle.books.specs.Held.{lengthIn, sizeIn, isForced, buffersIn, poolLives, held}
-use Rattle.books.proofs.HeldLists.{Once, has-here}
 use Rattle.books.proofs.HeldMarks.{OutAt}
 use Rattle.books.proofs.HeldTurns.{turnOf, is-answer, not-call, is-of, not-answer, quiet-other, addressIn, held-same}
 use Rattle.books.proofs.HeldAgrees.{NamedAt, Holds, Agrees, slot-or-none, one-name}
