@@ -13,8 +13,9 @@ use Rattle.scope.specs.declared.State.{State}
 use Rattle.scope.specs.declared.Found.the-variants.{Deleted}
 use Rattle.scope.specs.Statuses.{OK}
 use Rattle.scope.specs.Identifiers.{found}
-use Rattle.scope.specs.Views.{Signed, waitersOf, less, count}
+use Rattle.scope.specs.Views.{waitersOf, less}
 use Rattle.scope.specs.Fresh.{freshState}
+use Rattle.scope.proofs.Waiters.{countIn}
 use Rattle.scope.proofs.Counts.{less-below, less-negative, less-not-negative, less-more}
 use Rattle.laws.proofs.Branches.{true-false}
 use Rattle.tables.proofs.Laws.{found-below, found-live}
@@ -48,10 +49,6 @@ poolLive s = s .pools .live
 
 abbrev poolOut : State → ℕ → ℕ
 poolOut s = buffersOut (s .pools)
-
--- the count of semaphore i of a state
-abbrev countIn : State → ℕ → Signed
-countIn s i = count (s .line) (s .semaphores) i
 
 -- semaphore i's count is negative exactly where tasks wait; its size is then their number, and no unit is free
 pub record WaitingNegative (s : State) (i : ℕ) : Type 0 where

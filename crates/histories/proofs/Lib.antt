@@ -26,3 +26,5 @@ pub mod Turns
 pub mod Order
 pub mod Never
 pub mod Scripts
+pub mod Counts
+pub mod Lives

@@ -19,7 +19,7 @@ use Rattle.scope.specs.declared.Found.the-variants.{At}
 use Rattle.scope.specs.Choice.{pick, number}
 use Rattle.scope.specs.Statuses.{OK}
 use Rattle.scope.specs.Identifiers.{identifier, lowestUsable}
-use Rattle.scope.specs.Areas.{isOut, isFree, freeOf, lowestFree}
+use Rattle.scope.specs.Areas.{isOut, isFree, lowestFree}
 use Rattle.scope.specs.Views.{withPools}
 use Rattle.scope.specs.Answers.{answer, plain, gives, badState, onFound}
 use Rattle.scope.specs.Calls.{callAt}

@@ -101,7 +101,7 @@ line-slot l k m n i ok same alive order count =
 
 module _ (l : Line) (k : Tasks) (m : Semaphores) (line : LineSound l k m) (i : ℕ) (hi : i < 16) where
   -- who is found first stands in the queue
-  first-in : firstOf (l .seat) (queueSeats i) < 32 → In (l .seat) (queueSeats i) (firstOf (l .seat) (queueSeats i))
+  pub first-in : firstOf (l .seat) (queueSeats i) < 32 → In (l .seat) (queueSeats i) (firstOf (l .seat) (queueSeats i))
   first-in h =
       let e : getD (l .seat) (firstOf (l .seat) (queueSeats i)) 0 ≡ queueSeats i + 1 = on-seat (l .seat) (queueSeats i + 1) h in
       (omega arith, omega arith)

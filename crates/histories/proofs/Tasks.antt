@@ -375,7 +375,7 @@ module _ (s : State) (ok : Sound s) where
           (ok .line .stands t room))))
 
   -- the calls with a task's identifier: it names a live task, the running one where it is 0
-  named-task : (id t : ℕ) → taskFound s id ≡ At t → (t < 32) × (getD (s .tasks .live) t false ≡ true)
+  pub named-task : (id t : ℕ) → taskFound s id ≡ At t → (t < 32) × (getD (s .tasks .live) t false ≡ true)
   unfolding taskFound pick
   named-task id t = go (eqb id 0) (ltb (s .running) 32) refl
     where

@@ -33,7 +33,10 @@ abbrev pub total : (Event → Answer → ℕ) → State → List Event → ℕ
 total f s [] = 0
 total f s (x ∷ xs) = f x (answerTo s x) + total f (answerTo s x .state) xs
 
--- the identifier names the live semaphore in slot i, the live pool in slot i
+-- the identifier names the live task in slot t, the live semaphore in slot i, the live pool in slot i
+abbrev pub TaskAt : State → ℕ → ℕ → Type 0
+TaskAt s id t = found (s .tasks .serial) (s .tasks .live) id ≡ At t
+
 abbrev pub SemaphoreAt : State → ℕ → ℕ → Type 0
 SemaphoreAt s id i = found (s .semaphores .serial) (s .semaphores .live) id ≡ At i
 

@@ -31,7 +31,7 @@ pub struct Tasks {
 pub struct Semaphores {
     pub name: [u32; 16],
     pub serial: [u16; 16],
-    // The units free to be claimed. The paper's count is these, or minus the number of tasks waiting.
+    // The units free to be claimed. The paper's count is these less the tasks waiting.
     pub units: [u16; 16],
     pub live: [bool; 16],
     pub fifo: [bool; 16],
