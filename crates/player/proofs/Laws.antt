@@ -30,6 +30,7 @@ use Rattle.histories.proofs.Stays.{step-keeps}
 use Rattle.histories.proofs.Fresh.{fresh-sound}
 use Rattle.text.specs.declared.Record.{Record}
 use Rattle.text.specs.Records.{recordAt}
+use Rattle.text.specs.Lines.{replyBy}
 use Rattle.text.proofs.Laws.{line-length}
 use Rattle.player.specs.declared.Place.{Place}
 use Rattle.player.specs.declared.Part.{Part}
@@ -160,13 +161,17 @@ played script p before out k r a h some is room same written put left number at 
 -- what a line was put for is the record's answer
 pub line-told : (script : List ℕ) (at number k id : ℕ) (s n : State) (wakes : List ℕ) (o : Outcome) (before lines : List ℕ) (written : ℕ)
     → answerOf n wakes o ≡ stepAt script at s → id ≡ runningTask (nowRuns n (o .runs))
-    → (written ≡ k + length (lineOf number (replyOf (told (nowRuns n (o .runs)) wakes o id))))
-    × (take written lines ≡ take k before ++ lineOf number (replyOf (told (nowRuns n (o .runs)) wakes o id)))
+    → (written ≡ k + length (lineOf number (replyBy wakes o id)))
+    × (take written lines ≡ take k before ++ lineOf number (replyBy wakes o id))
     → LinePut script at number s before k (nowRuns n (o .runs)) lines written
 unfolding answerOf
 line-told script at number k id s n wakes o before lines written e f p =
     let t : told (nowRuns n (o .runs)) wakes o id ≡ stepAt script at s = rw f e in
-    record { state = ap (λ (a : Answer). a .state) e; grown = rw (← t) (p .0); put = rw (← t) (p .1) }
+    record {
+      state = ap (λ (a : Answer). a .state) e;
+      grown = p .0 ∙ ap (λ (a : Answer). k + length (lineOf number (replyOf a))) t;
+      put = p .1 ∙ ap (λ (a : Answer). take k before ++ lineOf number (replyOf a)) t;
+    }
 
 -- and the place after it
 pub line-played : (script : List ℕ) (p : Place) (n : State) (before lines : List ℕ) (k written : ℕ) → Playing script p → 1 ≤ p .left

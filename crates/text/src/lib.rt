@@ -5,12 +5,11 @@ ghost use mathlib.Core.Bool.{Bool, true, false};
 ghost use mathlib.Core.List.{[], _∷_, _++_};
 ghost use Prim.Native.Nat.{ℕ, _+_, _*_, _≤_, _<_};
 ghost use lib.ListN.{length, take};
-ghost use Rattle.scope.specs.declared.State.{State};
 ghost use Rattle.scope.specs.Script.{number32, isScript};
 ghost use Rattle.text.specs.Records.{recordAt};
-ghost use Rattle.scope.specs.Replies.{wakesFrom, replyOf};
+ghost use Rattle.text.specs.Lines.{replyBy};
+ghost use Rattle.scope.specs.Replies.{wakesFrom};
 ghost use Rattle.scope.specs.Listing.{decimal, signed, field, wakeFields, lineOf, refusedLine};
-ghost use Rattle.answers.specs.Outcomes.{told};
 
 fn wide(b: u8) -> u32
     ensures { λ r. ⌜ (r ≡ b) × (r < 256) ⌝ }
@@ -162,7 +161,7 @@ pub fn put_line(
     running: u32,
 ) -> usize
     requires { ⌜ (at + 782 ≤ length (now out)) × (o .woken ≤ 32) ⌝ }
-    ensures { λ r. ⌜ ((s : State) → (r ≡ at + length (lineOf number (replyOf (told s (now (wakes .entry)) o running)))) × (take r (now (out .exit)) ≡ take at (now (out .entry)) ++ lineOf number (replyOf (told s (now (wakes .entry)) o running)))) ⌝ }
+    ensures { λ r. ⌜ (r ≡ at + length (lineOf number (replyBy (now (wakes .entry)) o running))) × (take r (now (out .exit)) ≡ take at (now (out .entry)) ++ lineOf number (replyBy (now (wakes .entry)) o running)) ⌝ }
 {
     let values = o.values;
     let p0 = put_decimal(out, at, number);

@@ -28,7 +28,7 @@ same-length c = search needs
 
 returns : tie.Need-returns
 unfolding runningTask
-returns c = line-told _ _ _ _ _ _ _ _ _ _ _ _ (record-step _ _ _ (c .before .before .before .before .before .before .before .before .before .before .before .before .before .before .before .before .before .before .before .before .before .before .before .before .before .before .before .before .before .before .before .before .before .before .pre .2) _ (c .before .before .before .before .before .before .before .before .before .before .before .before .before .before .before .before .before .before .before .before .before .before .before .before .before .before .before .before .before .before .before .read-record .ensures) (c .before .before .before .before .before .before .before .perform .ensures)) (c .before .before .before .before .before .running-task .ensures) (c .before .before .put-line .ensures _)
+returns c = line-told _ _ _ _ _ _ _ _ _ _ _ _ (record-step _ _ _ (c .before .before .before .before .before .before .before .before .before .before .before .before .before .before .before .before .before .before .before .before .before .before .before .before .before .before .before .before .before .before .before .before .before .before .pre .2) _ (c .before .before .before .before .before .before .before .before .before .before .before .before .before .before .before .before .before .before .before .before .before .before .before .before .before .before .before .before .before .before .before .read-record .ensures) (c .before .before .before .before .before .before .before .perform .ensures)) (c .before .before .before .before .before .running-task .ensures) (c .before .before .put-line .ensures)
 
 pub play-line-spec : {M : Type 1} → statement M
 play-line-spec =

@@ -98,7 +98,7 @@ same-length c =
 
 returns : tie.Need-returns
 unfolding lineOf
-returns c s =
+returns c =
     let c9 = c .before .before in
     let c8 = c9 .before .before .before .before in
     let c7 = c8 .before .before .before .before .before in
