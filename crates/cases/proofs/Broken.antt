@@ -1,10 +1,6 @@
--- BAD_STATE, proved: every state made from the good one by one change that breaks a rule is refused with 26 and given back, by
--- every call; antt computes it from the definitions. And for every state: what breaks a rule is refused by whatever call.
+-- BAD_STATE, proved: every state made from the good one by one change that breaks a rule is refused with 26 and given back, and
+-- one of them by every call; antt computes it from the definitions. (For any state and call: `stepped-broken` of crate histories.)
 -- Assumes nothing.
-use Prim.Native.Nat.{ℕ}
-use mathlib.Core.Path.{_≡_, refl}
-use mathlib.Core.Bool.{Bool, false}
-use Rattle.scope.specs.declared.State.{State}
 use lib.Dec.{T}
 use Rattle.scope.specs.Choice.{pick, least, every, number}
 use Rattle.scope.specs.Seats.{waitsOn, onSeat, standsIn, standing, lower, leaves, raise, laterOf, aheadOf, joins, greater, topOf, runnerOf}
@@ -32,8 +28,3 @@ every-broken = tt
 pub every-call : T (allCalls 21 oneBroken)
 unfolding pick least every number waitsOn onSeat standsIn standing greater topOf runnerOf readyWith less badState isArea isSize buffersOf shareByte isTimeOut seatRight seatsRight readyRight readyOrderRight waitRight waitsRight joinedRight queuesSorted countRight countsRight startRight startsRight taskRight tasksRight semRight semsRight admitted poolRight poolsRight pairShares poolsApart runningRight sound stepped
 every-call = tt
-
--- and any call by any caller, on any state that breaks a rule
-pub refused-by-all : (s : State) → sound s ≡ false → (call mark a b c d e : ℕ) → stepped s call mark a b c d e ≡ badState s
-unfolding stepped
-refused-by-all s breaks call mark a b c d e = rw (stepped, breaks)
