@@ -7,3 +7,4 @@ pub mod Grants
 pub mod Marks
 pub mod Buffers
 pub mod Gets
+pub mod Named
