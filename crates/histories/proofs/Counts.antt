@@ -9,7 +9,7 @@ use mathlib.Core.Logic.{_⊎_, ⊎-elim}
 use mathlib.Core.Bool.{true, false}
 use mathlib.Core.List.{List}
 use lib.ListN.{length, getD}
-use borrow.Author.Tests.{lt-ltb, ltb-true}
+use borrow.Author.Tests.{lt-ltb, leb-false}
 use Rattle.scope.specs.declared.State.{State}
 use Rattle.scope.specs.declared.Line.{Line}
 use Rattle.scope.specs.declared.Tasks.{Tasks}
@@ -92,12 +92,11 @@ module _ (s : State) (ok : Sound s) (i : ℕ) (hi : i < 16) where
   wait-count : (ticks : ℕ) → Pending (semWaitAt s ticks i)
   unfolding semWaitAt waits plain answer
   wait-count ticks =
-      by-choice Pending _
-      (λ e d. let h : s .running < 32 = ltb-true (s .running) 32 e in
+      by-choice Pending _ (λ e d. absurd (omega arith))
+      (λ e d. let h : s .running < 32 = leb-false 32 (s .running) e in
       ap (λ (n : ℕ). less (getD (s .semaphores .units) i 0) n)
       (joined (s .line) (s .tasks) (s .semaphores) (ok .line) i hi (s .running) _ h (runs-ready s ok h))
       ∙ waiter-more (getD (s .semaphores .units) i 0) (waitersOf (s .line) i))
-      (λ e d. absurd (omega arith))
 
   pending-count : (options ticks : ℕ) → Pending (semClaimAt s options ticks i)
   unfolding semClaimAt plain answer

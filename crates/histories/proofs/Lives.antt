@@ -23,7 +23,7 @@ use Rattle.histories.specs.Sound.{Sound}
 use Rattle.histories.specs.History.{Event, answerTo, after, TaskAt}
 use Rattle.histories.proofs.Tasks.{named-task}
 use Rattle.histories.proofs.Answered.{by-row}
-use Rattle.histories.proofs.Tables.{Later, later-same, later-on, later-born, later-gone, stays-deleted}
+use Rattle.histories.proofs.Tables.{Later, later-same, later-on, later-born, later-gone, stays-deleted, still-deleted}
 use Rattle.histories.proofs.Ledger.{event-keeps}
 
 module _ (s : State) where
@@ -68,11 +68,11 @@ module _ (s : State) where
 
   suspend-on : (t : ℕ) → On (taskSuspendAt s t)
   unfolding taskSuspendAt plain answer
-  suspend-on t = either On _ (either On _ same (either On _ same same)) same
+  suspend-on t = either On _ same (either On _ same (either On _ same same))
 
   resume-on : (t : ℕ) → On (taskResumeAt s t)
   unfolding taskResumeAt plain answer
-  resume-on t = either On _ (either On _ (either On _ same same) same) same
+  resume-on t = either On _ same (either On _ same (either On _ same same))
 
   set-priority-on : (priority t : ℕ) → On (taskSetPriorityAt s priority t)
   unfolding taskSetPriorityAt plain gives answer
@@ -106,7 +106,7 @@ module _ (s : State) where
   pool-create-on : (name address length size options : ℕ) → On (poolCreate s name address length size options)
   unfolding poolCreate poolCreateAt plain gives answer
   pool-create-on name address length size options =
-      either On _ (either On _ (either On _ same (either On _ same (either On _ same same))) same) same
+      either On _ same (either On _ same (either On _ same (either On _ same (either On _ same same))))
 
   pool-delete-on : (i : ℕ) → On (poolDeleteAt s i)
   unfolding poolDeleteAt plain answer
@@ -158,6 +158,10 @@ pub tasks-after : (s : State) → Sound s → (xs : List Event) → Later (s .ta
 tasks-after s ok [] = later-same (s .tasks .serial) (s .tasks .live)
 tasks-after s ok (x ∷ xs) = later-on (tasks-later s ok x) (tasks-after (answerTo s x .state) (event-keeps s ok x) xs)
 
--- an identifier whose task is deleted never names one again
-pub task-stays-deleted : (s : State) → Sound s → (xs : List Event) (id t : ℕ) → found (s .tasks .serial) (s .tasks .live) id ≡ Deleted → TaskAt (after s xs) id t → ⊥
-task-stays-deleted s ok xs id t d e = stays-deleted (tasks-after s ok xs) id t d e
+-- an identifier whose task is deleted never names one again: it stays OBJECT_DELETED
+module _ (s : State) (ok : Sound s) (xs : List Event) (id : ℕ) (gone : found (s .tasks .serial) (s .tasks .live) id ≡ Deleted) where
+  pub task-stays-deleted : (t : ℕ) → TaskAt (after s xs) id t → ⊥
+  task-stays-deleted t e = stays-deleted (tasks-after s ok xs) id t gone e
+
+  pub task-still-deleted : found (after s xs .tasks .serial) (after s xs .tasks .live) id ≡ Deleted
+  task-still-deleted = still-deleted (tasks-after s ok xs) id gone

@@ -10,11 +10,11 @@ use mathlib.Core.List.{List}
 use lib.ListN.{length, getD, set, length-set}
 use lib.Seq.{getD-set-same, getD-set-other}
 use lib.Dec.{ltb, leb, eqb}
-use borrow.Author.Tests.{leb-true, not-false}
+use borrow.Author.Tests.{leb-true, le-leb, eqb-true, eq-eqb, not-false}
 use Rattle.scope.specs.declared.Found.the-variants.{At, Deleted, Invalid}
 use Rattle.scope.specs.Choice.{pick}
 use Rattle.scope.specs.Identifiers.{identifier, found, issued, isLive}
-use Rattle.laws.proofs.Branches.{true-false, eq-or-not}
+use Rattle.laws.proofs.Branches.{true-false, true-or-false, eq-or-not, both, both-true}
 use Rattle.tables.proofs.Laws.{Names, found-names, found-current, found-identifier, identifier-found}
 
 -- the columns of a table, and what they are later
@@ -122,6 +122,40 @@ stays-deleted {serial} {serial2} {live} {live2} later id i d e =
     let a : found serial live id ≡ At i = was-live later id (deleted-issued serial live id d) e in
     let z : _≡_ {A = ℕ} 0 1 = cc in
     omega arith
+
+-- what the tests of a deleted object's identifier said
+deleted-tests : (serial : List ℕ) (live : List Bool) (id : ℕ) → found serial live id ≡ Deleted
+    → (leb (length serial) (id % 64) ≡ false) × (eqb (id / 64) 0 ≡ false) × (isLive serial live id ≡ false)
+unfolding found pick
+deleted-tests serial live id e =
+    go (leb (length serial) (id % 64)) (eqb (id / 64) 0) (not (issued serial id)) (isLive serial live id) e
+  where
+    go : (a b c d : Bool) → pick a Invalid (pick b Invalid (pick c Invalid (pick d (At (id % 64)) Deleted))) ≡ Deleted
+        → (a ≡ false) × (b ≡ false) × (d ≡ false)
+    go true b c d f = let z : _≡_ {A = ℕ} 0 1 = cc in absurd (omega arith)
+    go false true c d f = let z : _≡_ {A = ℕ} 0 1 = cc in absurd (omega arith)
+    go false false true d f = let z : _≡_ {A = ℕ} 0 1 = cc in absurd (omega arith)
+    go false false false true f = let z : _≡_ {A = ℕ} 0 1 = cc in absurd (omega arith)
+    go false false false false f = (refl, refl, refl)
+
+-- once deleted, deleted for good
+pub still-deleted : {serial serial2 : List ℕ} {live live2 : List Bool} → Later serial live serial2 live2 → (id : ℕ)
+    → found serial live id ≡ Deleted → found serial2 live2 id ≡ Deleted
+unfolding found pick
+still-deleted {serial} {serial2} {live} {live2} later id d =
+    let t = deleted-tests serial live id d in
+    let h : id / 64 ≤ getD serial2 (id % 64) 0 = issued-still later id (deleted-issued serial live id d) in
+    rw (later .long, t .0, t .1, le-leb (id / 64) (getD serial2 (id % 64) 0) h, dead (t .2) (deleted-issued serial live id d))
+  where
+    dead : isLive serial live id ≡ false → id / 64 ≤ getD serial (id % 64) 0 → isLive serial2 live2 id ≡ false
+    dead n h =
+        ⊎-elim
+        (λ e. let b = both-true (getD live2 (id % 64) false) _ e in
+        let c : getD serial2 (id % 64) 0 ≡ id / 64 = eqb-true _ _ (b .1) in
+        let g : getD serial (id % 64) 0 ≤ getD serial2 (id % 64) 0 = later .grows (id % 64) in
+        absurd (true-false (both _ _ (later .lived (id % 64) (b .0) (omega arith)) (eq-eqb (getD serial (id % 64) 0) (id / 64) (omega arith))) n))
+        (λ e. e)
+        (true-or-false (isLive serial2 live2 id))
 
 -- what an object that lives came from: where no serial moves it lived before, and a birth brings one identifier
 module _ (serial : List ℕ) (live : List Bool) where

@@ -14,12 +14,13 @@ use lib.Dec.{ltb, leb, eqb}
 use borrow.Author.Tests.{ltb-true, ltb-false, lt-ltb, leb-false, lt-leb, eqb-true, not-true, not-false}
 use Rattle.scope.specs.declared.State.{State}
 use Rattle.scope.specs.declared.Answer.{Answer}
+use Rattle.scope.specs.declared.Found.the-variants.{At}
 use Rattle.scope.specs.Choice.{pick, leastFrom, least, number}
 use Rattle.scope.specs.Statuses.{OK, NO-MORE-MEMORY, INVALID-BUFF}
 use Rattle.scope.specs.Views.{withPools}
-use Rattle.scope.specs.Answers.{answer, plain, gives}
+use Rattle.scope.specs.Answers.{answer, plain, gives, onFound}
 use Rattle.scope.specs.Areas.{isOut, isFree, lowestFree, bufferAddress, bufferAt}
-use Rattle.scope.specs.Pools.{poolBuffers, withOut, poolGetBuffer, poolGetBuffAt, poolRetBuffer, poolRetBuffAt, poolInfoAt}
+use Rattle.scope.specs.Pools.{poolFound, poolBuffers, withOut, poolGetBuffer, poolGetBuffAt, poolRetBuffer, poolRetBuffAt, poolInfoAt, poolGetBuff, poolRetBuff, poolInfo}
 use Rattle.scope.proofs.Marks.{take-same, take-other, back-same, back-other, free-or-out}
 
 -- the marks of pool i
@@ -113,9 +114,9 @@ module _ (s : State) (i : ℕ) (fits : i < length (s .pools .out)) where
       go x true d f = absurd (omega arith)
       go x false d f = leb-false _ _ d
 
-  pub get-answers-its-buffer : poolGetBuffAt s i .status ≡ OK → Gotten s i (poolGetBuffAt s i)
+  get-at : poolGetBuffAt s i .status ≡ OK → Gotten s i (poolGetBuffAt s i)
   unfolding poolGetBuffAt
-  get-answers-its-buffer e =
+  get-at e =
       gotten _ (got _ e) (lowest-says (marks s i) (poolBuffers (s .pools) i) (got _ e))
 
 -- the buffer found at an address starts there
@@ -163,16 +164,25 @@ module _ (s : State) (x i : ℕ) (fits : i < length (s .pools .out)) where
       go y true d false f g = absurd (omega arith)
       go y false d c f g = absurd (omega arith)
 
-  pub return-frees-its-buffer : poolRetBuffAt s x i .status ≡ OK → Returned s i x (poolRetBuffAt s x i)
+  return-at : poolRetBuffAt s x i .status ≡ OK → Returned s i x (poolRetBuffAt s x i)
   unfolding poolRetBuffAt
-  return-frees-its-buffer e =
+  return-at e =
       let f = freed _ e in
       let b = buffer-starts (getD (s .pools .address) i 0) (getD (s .pools .size) i 0) (poolBuffers (s .pools) i) x (f .0) in
       returned _ (b .0) (b .1) (rw (lt-ltb _ _ (f .0)) (f .1)) (f .1)
 
--- "pool_info gives buffers, free, size, options"
-pub info-tells-the-free : (s : State) (i : ℕ)
-    → (getD (poolInfoAt s i .values) 0 0 ≡ poolBuffers (s .pools) i)
-    × (getD (poolInfoAt s i .values) 1 0 + number (isOut (marks s i)) (poolBuffers (s .pools) i) ≡ poolBuffers (s .pools) i)
-unfolding poolInfoAt answer
-info-tells-the-free s i = (refl, free-or-out (marks s i) (poolBuffers (s .pools) i))
+-- by the identifier of pool i
+module _ (s : State) (id i : ℕ) (found : poolFound s id ≡ At i) where
+  pub get-answers-its-buffer : i < length (s .pools .out) → poolGetBuff s id .status ≡ OK → Gotten s i (poolGetBuff s id)
+  unfolding onFound
+  get-answers-its-buffer fits = rw found (get-at s i fits)
+
+  pub return-frees-its-buffer : (x : ℕ) → i < length (s .pools .out) → poolRetBuff s id x .status ≡ OK → Returned s i x (poolRetBuff s id x)
+  unfolding onFound
+  return-frees-its-buffer x fits = rw found (return-at s x i fits)
+
+  -- "pool_info gives buffers, free, size, options"
+  pub info-tells-the-free : (getD (poolInfo s id .values) 0 0 ≡ poolBuffers (s .pools) i)
+      × (getD (poolInfo s id .values) 1 0 + number (isOut (marks s i)) (poolBuffers (s .pools) i) ≡ poolBuffers (s .pools) i)
+  unfolding onFound poolInfoAt answer
+  info-tells-the-free = rw found (refl, free-or-out (marks s i) (poolBuffers (s .pools) i))

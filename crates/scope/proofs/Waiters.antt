@@ -16,13 +16,14 @@ use Rattle.scope.specs.declared.Line.{Line}
 use Rattle.scope.specs.declared.Tasks.{Tasks}
 use Rattle.scope.specs.declared.Waking.{Waking}
 use Rattle.scope.specs.declared.Answer.{Answer}
+use Rattle.scope.specs.declared.Found.the-variants.{At}
 use Rattle.scope.specs.Choice.{pick}
 use Rattle.scope.specs.Statuses.{OK}
 use Rattle.scope.specs.Seats.{queueSeats, firstOf, ringSeats, seatsEnd, standsIn, leaves, seatBehind, joins, becomesReady}
 use Rattle.scope.specs.Views.{withSemaphores, waitersOf, Signed, less, count}
-use Rattle.scope.specs.Answers.{answer, plain, wakesWith}
+use Rattle.scope.specs.Answers.{answer, plain, wakesWith, onFound}
 use Rattle.scope.specs.Tasks.{taskDeleteAt}
-use Rattle.scope.specs.Semaphores.{withUnits, wokenSeats, wake, wakeNext, semWaitAt, semClaimAt, semReleaseAt, semInfoAt}
+use Rattle.scope.specs.Semaphores.{withUnits, wokenSeats, wake, wakeNext, semWaitAt, semClaimAt, semReleaseAt, semInfoAt, semFound, semInfo}
 use Rattle.scope.specs.Ticks.{isDue, wakeDue}
 use Rattle.scope.proofs.Rows.{by-choice}
 use Rattle.scope.proofs.Counts.{plusOne, lessOne, unit-more, unit-less, waiter-less}
@@ -113,9 +114,9 @@ module _ (s : State) (i : ℕ) (fits : i < length (s .semaphores .units)) where
       (λ h d. with-units (units - 1) ∙ unit-less units (waitersOf (s .line) i) (units - 1) (omega (arith, ltb-true 0 units h)))
       (λ h. by-choice Claimed _ (λ j d. absurd (omega arith)) (λ j d. absurd (omega arith))))))
 
--- "sem_info gives options, count, tasks waiting"
-pub info-tells-the-count : (s : State) (i : ℕ)
-    → (getD (semInfoAt s i .values) 1 0 ≡ countIn s i .size) × (semInfoAt s i .negative ≡ countIn s i .negative)
-    × (getD (semInfoAt s i .values) 2 0 ≡ waitersOf (s .line) i)
-unfolding semInfoAt answer
-info-tells-the-count s i = (refl, refl, refl)
+-- "sem_info gives options, count, tasks waiting": by the identifier of semaphore i
+pub info-tells-the-count : (s : State) (id i : ℕ) → semFound s id ≡ At i
+    → (getD (semInfo s id .values) 1 0 ≡ countIn s i .size) × (semInfo s id .negative ≡ countIn s i .negative)
+    × (getD (semInfo s id .values) 2 0 ≡ waitersOf (s .line) i)
+unfolding onFound semInfoAt answer
+info-tells-the-count s id i found = rw found (refl, refl, refl)
