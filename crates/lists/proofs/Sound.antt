@@ -15,7 +15,7 @@ use Rattle.laws.proofs.Branches.{both, both-true}
 use Rattle.histories.specs.Sound.{Sound, Sized}
 use Rattle.histories.proofs.Meaning.{sound-right}
 use Rattle.lists.specs.Along.{Once, NeverRising, firstIn}
-use Rattle.lists.specs.Rules.{readyOf, queueIn, Ordered, OwnRing, Tested}
+use Rattle.lists.specs.Rules.{readyOf, queueIn, Ordered, OwnRing, Tested, Others}
 use Rattle.lists.proofs.Members.{queue-length}
 use Rattle.lists.proofs.Rules.{own-ring, tests-say, rules-right}
 
@@ -46,13 +46,6 @@ sound-sized s h =
       plive = h .pools .lives;
       forced = h .pools .forceds;
     }
-
--- the rules beside those of orders and queues
-pub record Others (s : State) : Type 0 where
-  pub tasks : tasksRight (s .tasks) ≡ true
-  pub semaphores : semsRight (s .semaphores) ≡ true
-  pub pools : poolsRight (s .pools) ≡ true
-  pub apart : poolsApart (s .pools) ≡ true
 
 -- the parts of the test
 record Parts (s : State) : Type 0 where

@@ -11,7 +11,7 @@ use Rattle.scope.specs.Seats.{ringSeats, firstRing, waitsOn, queue, readyOrder}
 use Rattle.scope.specs.Views.{isReady, count}
 use Rattle.scope.specs.Tasks.{lastPriority}
 use Rattle.scope.specs.Semaphores.{lastCount, isTimeOut}
-use Rattle.scope.specs.Rules.{readyOrderRight, waitsRight, queuesSorted, countsRight, startsRight, runningRight}
+use Rattle.scope.specs.Rules.{readyOrderRight, waitsRight, queuesSorted, countsRight, startsRight, tasksRight, semsRight, poolsRight, poolsApart, runningRight}
 use Rattle.seats.specs.Rule.{In}
 use Rattle.lists.specs.Along.{Once, NeverRising, firstIn}
 
@@ -109,3 +109,10 @@ pub record Tested (s : State) : Type 0 where
   pub counts : countsRight (s .line) (s .semaphores) ≡ true
   pub starts : startsRight (s .line) (s .tasks) ≡ true
   pub running : runningRight s ≡ true
+
+-- and those of the other rules: tables, pools
+pub record Others (s : State) : Type 0 where
+  pub tasks : tasksRight (s .tasks) ≡ true
+  pub semaphores : semsRight (s .semaphores) ≡ true
+  pub pools : poolsRight (s .pools) ≡ true
+  pub apart : poolsApart (s .pools) ≡ true
