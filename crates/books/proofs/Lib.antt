@@ -1,5 +1,4 @@
 pub mod Link
-pub mod HeldLists
 pub mod HeldMarks
 pub mod HeldTurns
 pub mod HeldAgrees

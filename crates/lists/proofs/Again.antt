@@ -3,10 +3,10 @@
 -- Assumes nothing.
 use Prim.Native.Nat.{ℕ, _≤_, _<_}
 use native.Mathlib.Omega.{arith}
-use mathlib.Core.Path.{_≡_, subst, ap, _∙_}
+use mathlib.Core.Path.{_≡_, refl, sym, subst, ap, _∙_}
 use mathlib.Core.Logic.{⊎-elim}
 use mathlib.Core.Bool.{true, false}
-use mathlib.Core.List.{List}
+use mathlib.Core.List.{List, [], _∷_, _++_}
 use lib.ListN.{getD}
 use lib.Dec.{leb}
 use Rattle.scope.specs.declared.Line.{Line}
@@ -14,18 +14,18 @@ use Rattle.scope.specs.declared.Tasks.{Tasks}
 use Rattle.scope.specs.declared.Semaphores.{Semaphores}
 use Rattle.scope.specs.Lists.{has, without, insert}
 use Rattle.scope.specs.Seats.{ringSeats, queueSeats, firstRing, standing, leaves, becomesReady, queue, readyOrder}
-use Rattle.laws.proofs.Branches.{true-or-false}
+use Rattle.laws.proofs.Branches.{true-false, true-or-false, eq-or-not}
 use Rattle.laws.proofs.Arrays.{inside}
-use Rattle.seats.specs.Rule.{In}
+use Rattle.seats.specs.Rule.{In, Queues}
 use Rattle.seats.proofs.Leaving.{leaves-out}
 use Rattle.histories.specs.Sound.{LineSound, TasksSound}
 use Rattle.histories.proofs.Moves.{seats-low, ring-ready}
-use Rattle.histories.proofs.Staying.{Good, leaves-good}
+use Rattle.histories.proofs.Staying.{Good, leaves-good, ready-good}
 use Rattle.lists.specs.Along.{queueAbove}
-use Rattle.lists.proofs.Plain.{has-without, without-none}
+use Rattle.lists.proofs.Plain.{has-says, has-append, has-without, without-none}
 use Rattle.lists.proofs.Members.{queue-says, queue-has}
 use Rattle.lists.proofs.Leaving.{leaves-above, leaves-queue, leaves-order}
-use Rattle.lists.proofs.Joining.{ready-order, ready-queue}
+use Rattle.lists.proofs.Joining.{joins-end-above, joins-other-above, ready-order, ready-queue}
 use Rattle.lists.proofs.Ready.{order-says}
 
 -- each stands in the ring of its priority
@@ -34,7 +34,7 @@ Own q priority = (m u : ℕ) → In q (ringSeats m) u → getD priority u 0 ≡ 
 
 -- task t is taken out and put in again
 module _ (q key priority : List ℕ) (good : Good q) (own : Own q priority) (t : ℕ) (room : t < 32) where
-  own-left : Own (leaves q t) priority
+  pub own-left : Own (leaves q t) priority
   own-left m u a =
       let g : Good (leaves q t) = leaves-good q good t in
       let h : has (queueAbove (leaves q t) (ringSeats m)) u ≡ true =
@@ -55,6 +55,34 @@ module _ (q key priority : List ℕ) (good : Good q) (own : Own q priority) (t :
   again-queue p i h =
       ready-queue (leaves q t) key priority t p (leaves-good q good t .queues) room (leaves-out q t) own-left i h
       ∙ leaves-queue q (good .queues) (good .low) t i
+
+  -- all say queues as before, and each stands in the ring of its priority
+  pub again-good : (p : ℕ) → Good (becomesReady (leaves q t) key t p)
+  again-good p = ready-good (leaves q t) key t p (leaves-good q good t) room (leaves-out q t)
+
+  pub again-own : (p : ℕ) → getD priority t 0 ≡ p → Own (becomesReady (leaves q t) key t p) priority
+  again-own p e m u a =
+      let r : List ℕ = becomesReady (leaves q t) key t p in
+      let g : Good r = again-good p in
+      let h : has (queueAbove r (ringSeats m)) u ≡ true =
+      queue-has r (ringSeats m) (standing r (ringSeats m)) (g .queues .tasks) (g .queues .seated (ringSeats m) (omega arith)) u a in
+      let left : Queues (leaves q t) = leaves-good q good t .queues in
+      ⊎-elim
+      (λ d. let z : ringSeats m ≡ ringSeats p = omega (arith, d) in
+      ⊎-elim
+      (λ l. own-left m u (queue-says (leaves q t) (ringSeats m) u l))
+      (λ l. ⊎-elim (λ f. ap (λ (v : ℕ). getD priority v 0) (sym f) ∙ e ∙ sym d) (λ f. absurd (true-false f refl)) (has-says t u [] l))
+      (has-append (queueAbove (leaves q t) (ringSeats m)) (t ∷ []) u
+      (subst (λ (l : List ℕ). has l u ≡ true)
+      (subst (λ (o : ℕ). queueAbove r o ≡ queueAbove (leaves q t) o ++ (t ∷ [])) (sym z)
+      (joins-end-above (leaves q t) key t (ringSeats p) 0 left room (leaves-out q t) (omega arith) refl))
+      h)))
+      (λ ne. own-left m u
+      (queue-says (leaves q t) (ringSeats m) u
+      (subst (λ (l : List ℕ). has l u ≡ true)
+      (joins-other-above (leaves q t) key t (ringSeats p) 0 left room (leaves-out q t) (omega arith) (ringSeats m) (omega arith) (λ d. ne (omega (arith, d))))
+      h)))
+      (eq-or-not m p)
 
 -- who stands in a ring is on no queue, and the other way round
 module _ (q : List ℕ) (t : ℕ) where

@@ -14,15 +14,17 @@ use Rattle.scope.specs.declared.State.{State}
 use Rattle.scope.specs.declared.Answer.{Answer}
 use Rattle.scope.specs.Lists.{has, without, insert}
 use Rattle.scope.specs.Statuses.{OK, PENDING, INVALID-PARAMETER, INVALID-OPTIONS, SEMAPHORE-NOT-AVAILABLE, SEMAPHORE-DELETED, NO-CALLER}
-use Rattle.scope.specs.Seats.{queueSeats, firstOf, leaves, joins, queue}
+use Rattle.scope.specs.Seats.{queueSeats, firstRing, firstOf, leaves, joins, queue}
 use Rattle.scope.specs.Views.{withSeats}
 use Rattle.scope.specs.Answers.{answer, plain, wakesWith}
 use Rattle.scope.specs.Replies.{wakeList}
 use Rattle.scope.specs.Semaphores.{isTimeOut, wakeNext, noneWoken, wakeAll, semDeleteAt, queueKey, waits, semWaitAt, semClaimAt, semReleaseAt}
 use Rattle.laws.proofs.Branches.{eq-or-not, true-false, true-or-false, first-fails, not-of-true, picked-yes, picked-no}
+use Rattle.seats.specs.Rule.{In}
 use Rattle.seats.proofs.Counting.{standing-le}
 use Rattle.histories.specs.Sound.{Ready, Sound}
 use Rattle.histories.proofs.Refused.{by-choice}
+use Rattle.histories.proofs.Staying.{Good}
 use Rattle.histories.proofs.Moves.{Out, agree-same, ready-gone}
 use Rattle.histories.proofs.Semaphores.{runs-ready}
 use Rattle.lists.specs.Along.{Once, firstIn}
@@ -31,7 +33,7 @@ use Rattle.lists.specs.Calls.{ListsAfter, joinedBy, withQueue, wokenInto
 use Rattle.lists.proofs.Plain.{has-head}
 use Rattle.lists.proofs.Leaving.{leaves-queue, leaves-order}
 use Rattle.lists.proofs.Joining.{joins-queue, joins-queue-end, joins-queue-other, joins-queue-order}
-use Rattle.lists.proofs.Again.{off-queue, good-line}
+use Rattle.lists.proofs.Again.{Own, off-queue, good-line, own-line}
 use Rattle.lists.proofs.Sound.{queue-waiters}
 use Rattle.lists.proofs.Wakes.{first-of, on-queue-in, queue-no-doubles, without-first, woken, woken-order, woken-queue, woken-other, next-wakes, AllWoken, all-woken}
 
@@ -45,12 +47,18 @@ queue-at queues now i xs e f j h =
     (eq-or-not j i)
 
 module _ (s : State) (ok : Sound s) (i : ℕ) (hi : i < 16) where
+  good : Good (s .line .seat)
+  good = good-line (s .line) (s .tasks) (s .semaphores) (ok .line)
+
+  own : Own (s .line .seat) (s .tasks .priority)
+  own = own-line (s .line) (s .tasks) (s .semaphores) (ok .line)
+
   short : length (queueIn s i) < 33
   short = omega (arith, queue-waiters s ok i, standing-le (s .line .seat) (queueSeats i))
 
   deleted : AllWoken (s .tasks) i SEMAPHORE-DELETED (queueIn s i) (noneWoken (s .line)) (wakeAll (s .tasks) i 32 (noneWoken (s .line)))
   deleted =
-      all-woken (s .tasks) (s .semaphores) (ok .tasks) i hi SEMAPHORE-DELETED (queueIn s i) 32 (noneWoken (s .line)) (ok .line) refl
+      all-woken (s .tasks) (ok .tasks) i hi SEMAPHORE-DELETED (queueIn s i) 32 (noneWoken (s .line)) good own refl
       (omega (arith, short)) (length-replicate {A = ℕ} 32 0) (omega (arith, short))
 
   -- "Delete wakes all waiters in queue order with 11."
@@ -68,14 +76,17 @@ module _ (s : State) (ok : Sound s) (i : ℕ) (hi : i < 16) where
 
   -- "If there were waiters the first leaves, woken with OK: that is its grant."
   module _ (t : ℕ) (ts : List ℕ) (e : queueIn s i ≡ t ∷ ts) where
-    on : has (queueIn s i) t ≡ true
-    on = subst (λ (l : List ℕ). has l t ≡ true) (sym e) (has-head t ts)
+    on : (t < 32) × In (s .line .seat) (queueSeats i) t
+    on = on-queue-in (s .line .seat) i t (subst (λ (l : List ℕ). has l t ≡ true) (sym e) (has-head t ts))
+
+    low : getD (s .line .seat) t 0 < firstRing
+    low = omega (arith, on .1, hi)
 
     first : firstOf (s .line .seat) (queueSeats i) ≡ t
     first = first-of (s .line .seat) i ∙ ap firstIn e
 
     some : firstOf (s .line .seat) (queueSeats i) < 32
-    some = omega (arith, first, on-queue-in (s .line .seat) i t on .0)
+    some = omega (arith, first, on .0)
 
     granted : semReleaseAt s i ≡ wakesWith s (wakeNext (s .tasks) (noneWoken (s .line)) t) OK
     unfolding semReleaseAt
@@ -92,12 +103,12 @@ module _ (s : State) (ok : Sound s) (i : ℕ) (hi : i < 16) where
     unfolding wakesWith wakeNext
     granted-lists =
         record {
-          ready = woken-order (s .tasks) (s .semaphores) (ok .tasks) (s .line) (ok .line) t i hi on;
-          waiting = queue-at (queueIn s) (queue (woken (s .tasks) (s .semaphores) (ok .tasks) (s .line) (ok .line) t i hi on .seat)) i ts
-              (woken-queue (s .tasks) (s .semaphores) (ok .tasks) (s .line) (ok .line) t i hi on i hi
+          ready = woken-order (s .tasks) (ok .tasks) (s .line) good own t (on .0) low;
+          waiting = queue-at (queueIn s) (queue (woken (s .tasks) (ok .tasks) (s .line) good own t (on .0) low .seat)) i ts
+              (woken-queue (s .tasks) (ok .tasks) (s .line) good own t (on .0) low i hi
               ∙ ap (without t) e
               ∙ without-first t ts (subst (λ (l : List ℕ). Once l) e (queue-no-doubles (s .line .seat) i)))
-              (woken-other (s .tasks) (s .semaphores) (ok .tasks) (s .line) (ok .line) t i hi on);
+              (λ j h ne. woken-other (s .tasks) (ok .tasks) (s .line) good own t (on .0) low i j (on .1) h ne);
         }
 
     pub sem-release-wakes : wakeList (semReleaseAt s i) ≡ wakeOf (s .tasks) OK t ∷ []
@@ -140,7 +151,7 @@ module _ (s : State) (ok : Sound s) (i : ℕ) (hi : i < 16) where
 
     left-queue : (j : ℕ) → j < 16 → queue left j ≡ queueIn s j
     left-queue j h =
-        leaves-queue (s .line .seat) (ok .line .queues) (good-line (s .line) (s .tasks) (s .semaphores) (ok .line) .low) t j
+        leaves-queue (s .line .seat) (ok .line .queues) (good .low) t j
         ∙ off-queue (s .line .seat) t j h (omega (arith, here .stands))
 
     fifo-key : fifo ≡ true → queueKey fifo p ≡ 0
@@ -173,7 +184,7 @@ module _ (s : State) (ok : Sound s) (i : ℕ) (hi : i < 16) where
         by-choice Joined (leb 32 t) (λ y. absurd (omega (arith, run, leb-true 32 t y)))
         (λ y. record {
           ready = joins-queue-order left (s .line .joined) t i (queueKey fifo p) (out .queues) run (out .seat) hi
-              ∙ leaves-order (s .line .seat) (ok .line .queues) (good-line (s .line) (s .tasks) (s .semaphores) (ok .line) .low) t;
+              ∙ leaves-order (s .line .seat) (ok .line .queues) (good .low) t;
           waiting = queue-at (queueIn s) (queue (joins left (s .line .joined) t (queueSeats i) (queueKey fifo p))) i
               (joinedBy fifo (s .line .joined) p t (queueIn s i)) joined-queue
               (λ j h ne. joins-queue-other left (s .line .joined) t i (queueKey fifo p) (out .queues) run (out .seat) j ne ∙ left-queue j h);

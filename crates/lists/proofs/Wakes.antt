@@ -14,24 +14,24 @@ use lib.Dec.{eqb}
 use borrow.Author.Tests.{lt-ltb, le-ltb, eq-eqb}
 use Rattle.scope.specs.declared.Line.{Line}
 use Rattle.scope.specs.declared.Tasks.{Tasks}
-use Rattle.scope.specs.declared.Semaphores.{Semaphores}
 use Rattle.scope.specs.declared.Waking.{Waking}
 use Rattle.scope.specs.Choice.{pick}
 use Rattle.scope.specs.Lists.{has, without}
-use Rattle.scope.specs.Seats.{queueSeats, firstOf, leaves, becomesReady, queue, readyOrder}
+use Rattle.scope.specs.Seats.{queueSeats, firstRing, firstOf, leaves, becomesReady, queue, readyOrder}
 use Rattle.scope.specs.Semaphores.{wokenSeats, wake, wakeNext, wakeAll}
 use Rattle.scope.specs.Replies.{Wake, wakesFrom}
 use Rattle.laws.proofs.Branches.{lt-or-le, not-of-true, picked-no}
 use Rattle.seats.specs.Rule.{In}
 use Rattle.seats.proofs.First.{on-seat-le}
-use Rattle.histories.specs.Sound.{LineSound, TasksSound}
-use Rattle.histories.proofs.Moves.{wake-sound, queue-waits}
+use Rattle.histories.specs.Sound.{TasksSound}
+use Rattle.histories.proofs.Refused.{by-choice}
+use Rattle.histories.proofs.Staying.{Good, leaves-good}
 use Rattle.lists.specs.Along.{Once, firstIn}
 use Rattle.lists.specs.Calls.{madeReady, wokenInto, allWokenInto, wakeOf}
 use Rattle.lists.proofs.Plain.{has-head, without-none, append-none, append-one}
 use Rattle.lists.proofs.Members.{from-yes, from-no, queue-once, queue-says, queue-below}
 use Rattle.lists.proofs.Leaving.{leaves-queue, leaves-order}
-use Rattle.lists.proofs.Again.{again-order, again-queue, off-order, good-line, own-line, range-below}
+use Rattle.lists.proofs.Again.{Own, own-left, again-order, again-queue, again-good, again-own, off-order, range-below}
 
 -- the queue's first
 pub first-of : (q : List ℕ) (i : ℕ) → firstOf q (queueSeats i) ≡ firstIn (queue q i)
@@ -58,49 +58,54 @@ without-first x xs a =
     picked-no (not (eqb x x)) (x ∷ without x xs) (without x xs) (not-of-true (eqb x x) (eq-eqb x x refl))
     ∙ without-none x xs (λ h. a .0 x h refl)
 
-module _ (k : Tasks) (m : Semaphores) (tasks : TasksSound k) where
-  -- one task is woken
-  module _ (l : Line) (ok : LineSound l k m) (t i : ℕ) (hi : i < 16) (on : has (queue (l .seat) i) t ≡ true) where
+module _ (k : Tasks) (tasks : TasksSound k) where
+  -- one task, which is on no ring, is woken
+  module _ (l : Line) (good : Good (l .seat)) (own : Own (l .seat) (k .priority)) (t : ℕ) (room : t < 32) (low : getD (l .seat) t 0 < firstRing) where
     abbrev pub woken : Line
     woken = wake l (getD (k .suspended) t false) (getD (k .priority) t 0) t
 
-    room : t < 32
-    room = on-queue-in (l .seat) i t on .0
+    abbrev left : List ℕ
+    left = leaves (l .seat) t
 
-    at : In (l .seat) (queueSeats i) t
-    at = on-queue-in (l .seat) i t on .1
+    abbrev again : List ℕ
+    again = becomesReady left (l .joined) t (getD (k .priority) t 0)
 
     stays-out : without t (readyOrder (l .seat)) ≡ readyOrder (l .seat)
-    stays-out = off-order (l .seat) t (omega (arith, at, hi))
+    stays-out = off-order (l .seat) t low
 
-    pub woken-sound : LineSound woken k m
-    woken-sound = wake-sound l k m ok t room (getD (k .suspended) t false) (queue-waits l k m ok t room i hi at .0 .started) refl
+    pub woken-good : Good (woken .seat)
+    unfolding wake wokenSeats
+    woken-good =
+        by-choice Good (getD (k .suspended) t false) (λ y. leaves-good (l .seat) good t)
+        (λ n. again-good (l .seat) (l .joined) (k .priority) good own t room (getD (k .priority) t 0))
+
+    pub woken-own : Own (woken .seat) (k .priority)
+    unfolding wake wokenSeats
+    woken-own =
+        by-choice (λ (q : List ℕ). Own q (k .priority)) (getD (k .suspended) t false)
+        (λ y. own-left (l .seat) (l .joined) (k .priority) good own t room)
+        (λ n. again-own (l .seat) (l .joined) (k .priority) good own t room (getD (k .priority) t 0) refl)
 
     pub woken-order : readyOrder (woken .seat) ≡ wokenInto k t (readyOrder (l .seat))
     unfolding wake wokenSeats pick
     woken-order = go (getD (k .suspended) t false)
       where
-        go : (b : Bool)
-            → readyOrder (pick b (leaves (l .seat) t) (becomesReady (leaves (l .seat) t) (l .joined) t (getD (k .priority) t 0)))
-            ≡ pick b (readyOrder (l .seat)) (madeReady k (getD (k .priority) t 0) t (readyOrder (l .seat)))
-        go true = leaves-order (l .seat) (ok .queues) (good-line l k m ok .low) t ∙ stays-out
+        go : (b : Bool) → readyOrder (pick b left again) ≡ pick b (readyOrder (l .seat)) (madeReady k (getD (k .priority) t 0) t (readyOrder (l .seat)))
+        go true = leaves-order (l .seat) (good .queues) (good .low) t ∙ stays-out
         go false =
-            again-order (l .seat) (l .joined) (k .priority) (good-line l k m ok) (own-line l k m ok) t room (getD (k .priority) t 0) (range-below k tasks t room)
+            again-order (l .seat) (l .joined) (k .priority) good own t room (getD (k .priority) t 0) (range-below k tasks t room)
             ∙ ap (λ (xs : List ℕ). madeReady k (getD (k .priority) t 0) t xs) stays-out
 
     pub woken-queue : (j : ℕ) → j < 16 → queue (woken .seat) j ≡ without t (queue (l .seat) j)
-    unfolding wake wokenSeats pick
-    woken-queue j h = go (getD (k .suspended) t false)
-      where
-        go : (b : Bool)
-            → queue (pick b (leaves (l .seat) t) (becomesReady (leaves (l .seat) t) (l .joined) t (getD (k .priority) t 0))) j ≡ without t (queue (l .seat) j)
-        go true = leaves-queue (l .seat) (ok .queues) (good-line l k m ok .low) t j
-        go false =
-            again-queue (l .seat) (l .joined) (k .priority) (good-line l k m ok) (own-line l k m ok) t room (getD (k .priority) t 0) j h
+    unfolding wake wokenSeats
+    woken-queue j h =
+        by-choice (λ (q : List ℕ). queue q j ≡ without t (queue (l .seat) j)) (getD (k .suspended) t false)
+        (λ y. leaves-queue (l .seat) (good .queues) (good .low) t j)
+        (λ n. again-queue (l .seat) (l .joined) (k .priority) good own t room (getD (k .priority) t 0) j h)
 
-    -- no other queue holds it
-    pub woken-other : (j : ℕ) → j < 16 → (j ≡ i → ⊥) → queue (woken .seat) j ≡ queue (l .seat) j
-    woken-other j h ne =
+    -- where it waits for i, no other queue holds it
+    pub woken-other : (i j : ℕ) → In (l .seat) (queueSeats i) t → j < 16 → (j ≡ i → ⊥) → queue (woken .seat) j ≡ queue (l .seat) j
+    woken-other i j at h ne =
         woken-queue j h ∙ without-none t (queue (l .seat) j) (λ o. ne (omega (arith, on-queue-in (l .seat) j t o .1, at)))
 
 -- a wake list, read off its array: a place behind the last read does not matter, and one place more is one wake more
@@ -137,6 +142,18 @@ next-wakes k w t why long few =
     (let e : 0 + w .woken ≡ w .woken = omega arith in
     ap (λ (x : ℕ). getD (set (w .wakes) (w .woken) v) x 0) e ∙ getD-set-same (w .wakes) (w .woken) v 0 (omega arith))
 
+pub next-line : (k : Tasks) (w : Waking) (t : ℕ) → wakeNext k w t .line ≡ wake (w .line) (getD (k .suspended) t false) (getD (k .priority) t 0) t
+unfolding wakeNext
+next-line k w t = refl
+
+pub next-count : (k : Tasks) (w : Waking) (t : ℕ) → wakeNext k w t .woken ≡ w .woken + 1
+unfolding wakeNext
+next-count k w t = refl
+
+pub next-size : (k : Tasks) (w : Waking) (t : ℕ) → length (wakeNext k w t .wakes) ≡ length (w .wakes)
+unfolding wakeNext
+next-size k w t = length-set (w .wakes) (w .woken) _
+
 -- all of a queue are woken
 pub record AllWoken (k : Tasks) (i why : ℕ) (xs : List ℕ) (w r : Waking) : Type 0 where
   pub order : readyOrder (r .line .seat) ≡ allWokenInto k xs (readyOrder (w .line .seat))
@@ -144,7 +161,7 @@ pub record AllWoken (k : Tasks) (i why : ℕ) (xs : List ℕ) (w r : Waking) : T
   pub others : (j : ℕ) → j < 16 → (j ≡ i → ⊥) → queue (r .line .seat) j ≡ queue (w .line .seat) j
   pub list : wakesOf why r ≡ wakesOf why w ++ map (wakeOf k why) xs
 
-module _ (k : Tasks) (m : Semaphores) (tasks : TasksSound k) (i : ℕ) (hi : i < 16) where
+module _ (k : Tasks) (tasks : TasksSound k) (i : ℕ) (hi : i < 16) where
   all-yes : (n : ℕ) (w : Waking) → firstOf (w .line .seat) (queueSeats i) < 32
       → wakeAll k i (suc n) w ≡ wakeAll k i n (wakeNext k w (firstOf (w .line .seat) (queueSeats i)))
   unfolding wakeAll
@@ -159,44 +176,33 @@ module _ (k : Tasks) (m : Semaphores) (tasks : TasksSound k) (i : ℕ) (hi : i <
       ap (λ (b : Bool). elim b as (λ x. Waking) [ true ↦ wakeAll k i n (wakeNext k w (firstOf (w .line .seat) (queueSeats i))) | false ↦ w ])
       (le-ltb (firstOf (w .line .seat) (queueSeats i)) 32 (omega (arith, f)))
 
-  next-line : (w : Waking) (t : ℕ) → wakeNext k w t .line ≡ wake (w .line) (getD (k .suspended) t false) (getD (k .priority) t 0) t
-  unfolding wakeNext
-  next-line w t = refl
-
-  next-count : (w : Waking) (t : ℕ) → wakeNext k w t .woken ≡ w .woken + 1
-  unfolding wakeNext
-  next-count w t = refl
-
-  next-size : (w : Waking) (t : ℕ) → length (wakeNext k w t .wakes) ≡ length (w .wakes)
-  unfolding wakeNext
-  next-size w t = length-set (w .wakes) (w .woken) _
-
-  pub all-woken : (why : ℕ) (xs : List ℕ) (n : ℕ) (w : Waking) → LineSound (w .line) k m → queue (w .line .seat) i ≡ xs
+  pub all-woken : (why : ℕ) (xs : List ℕ) (n : ℕ) (w : Waking) → Good (w .line .seat) → Own (w .line .seat) (k .priority) → queue (w .line .seat) i ≡ xs
       → length xs ≤ n → length (w .wakes) ≡ 32 → w .woken + length xs ≤ 32 → AllWoken k i why xs w (wakeAll k i n w)
-  all-woken why [] n w ok e few long fits =
+  all-woken why [] n w good own e few long fits =
       subst (λ (r : Waking). AllWoken k i why [] w r) (sym (all-no n w e))
       (record { order = refl; empty = e; others = λ j h ne. refl; list = sym (append-none (wakesOf why w)) })
-  all-woken why (x ∷ xs) zero w ok e few long fits = absurd (omega arith)
-  all-woken why (x ∷ xs) (suc n) w ok e few long fits =
+  all-woken why (x ∷ xs) zero w good own e few long fits = absurd (omega arith)
+  all-woken why (x ∷ xs) (suc n) w good own e few long fits =
       let f : firstOf (w .line .seat) (queueSeats i) ≡ x = first-of (w .line .seat) i ∙ ap firstIn e in
-      let on : has (queue (w .line .seat) i) x ≡ true = subst (λ (l : List ℕ). has l x ≡ true) (sym e) (has-head x xs) in
-      let small : x < 32 = on-queue-in (w .line .seat) i x on .0 in
+      let on = on-queue-in (w .line .seat) i x (subst (λ (l : List ℕ). has l x ≡ true) (sym e) (has-head x xs)) in
+      let low : getD (w .line .seat) x 0 < firstRing = omega (arith, on .1, hi) in
       let v : Waking = wakeNext k w x in
-      let line : v .line ≡ woken k m tasks (w .line) ok x i hi on = next-line w x in
+      let line : v .line ≡ woken k tasks (w .line) good own x (on .0) low = next-line k w x in
       let once : Once (x ∷ xs) = subst (λ (l : List ℕ). Once l) e (queue-no-doubles (w .line .seat) i) in
       let rest : queue (v .line .seat) i ≡ xs =
-      ap (λ (l : Line). queue (l .seat) i) line ∙ woken-queue k m tasks (w .line) ok x i hi on i hi ∙ ap (without x) e ∙ without-first x xs once in
+      ap (λ (l : Line). queue (l .seat) i) line ∙ woken-queue k tasks (w .line) good own x (on .0) low i hi ∙ ap (without x) e ∙ without-first x xs once in
       let rec : AllWoken k i why xs v (wakeAll k i n v) =
-      all-woken why xs n v (subst (λ (l : Line). LineSound l k m) (sym line) (woken-sound k m tasks (w .line) ok x i hi on)) rest
-      (omega arith) (next-size w x ∙ long) (omega (arith, next-count w x, fits)) in
+      all-woken why xs n v (subst (λ (l : Line). Good (l .seat)) (sym line) (woken-good k tasks (w .line) good own x (on .0) low))
+      (subst (λ (l : Line). Own (l .seat) (k .priority)) (sym line) (woken-own k tasks (w .line) good own x (on .0) low)) rest
+      (omega arith) (next-size k w x ∙ long) (omega (arith, next-count k w x, fits)) in
       subst (λ (r : Waking). AllWoken k i why (x ∷ xs) w r)
-      (sym (all-yes n w (omega (arith, f, small)) ∙ ap (λ (t : ℕ). wakeAll k i n (wakeNext k w t)) f))
+      (sym (all-yes n w (omega (arith, f, on .0)) ∙ ap (λ (t : ℕ). wakeAll k i n (wakeNext k w t)) f))
       (record {
         order = rec .order
             ∙ ap (λ (l : List ℕ). allWokenInto k xs l)
-            (ap (λ (l : Line). readyOrder (l .seat)) line ∙ woken-order k m tasks (w .line) ok x i hi on);
+            (ap (λ (l : Line). readyOrder (l .seat)) line ∙ woken-order k tasks (w .line) good own x (on .0) low);
         empty = rec .empty;
-        others = λ j h ne. rec .others j h ne ∙ ap (λ (l : Line). queue (l .seat) j) line ∙ woken-other k m tasks (w .line) ok x i hi on j h ne;
+        others = λ j h ne. rec .others j h ne ∙ ap (λ (l : Line). queue (l .seat) j) line ∙ woken-other k tasks (w .line) good own x (on .0) low i j (on .1) h ne;
         list = rec .list
             ∙ ap (λ (l : List Wake). l ++ map (wakeOf k why) xs) (next-wakes k w x why long (omega arith))
             ∙ append-one (wakeOf k why x) (wakesOf why w) (map (wakeOf k why) xs);
