@@ -11,3 +11,4 @@ pub mod Tasks
 pub mod Wakes
 pub mod Semaphores
 pub mod Form
+pub mod Ticks

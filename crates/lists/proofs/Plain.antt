@@ -97,10 +97,10 @@ module _ (f : ℕ → ℕ) where
 
 -- those kept
 module _ (p : ℕ → Bool) where
-  keep-yes : (x : ℕ) (xs : List ℕ) → p x ≡ true → keep p (x ∷ xs) ≡ x ∷ keep p xs
+  pub keep-yes : (x : ℕ) (xs : List ℕ) → p x ≡ true → keep p (x ∷ xs) ≡ x ∷ keep p xs
   keep-yes x xs e = picked-yes (p x) (x ∷ keep p xs) (keep p xs) e
 
-  keep-no : (x : ℕ) (xs : List ℕ) → p x ≡ false → keep p (x ∷ xs) ≡ keep p xs
+  pub keep-no : (x : ℕ) (xs : List ℕ) → p x ≡ false → keep p (x ∷ xs) ≡ keep p xs
   keep-no x xs e = picked-no (p x) (x ∷ keep p xs) (keep p xs) e
 
   pub keep-has : (xs : List ℕ) (t : ℕ) → has xs t ≡ true → p t ≡ true → has (keep p xs) t ≡ true
@@ -150,6 +150,20 @@ module _ (p : ℕ → Bool) where
   pub keep-none : (xs : List ℕ) → ((u : ℕ) → has xs u ≡ true → p u ≡ false) → keep p xs ≡ []
   keep-none [] f = refl
   keep-none (x ∷ xs) f = keep-no x xs (f x (has-head x xs)) ∙ keep-none xs (λ u h. f u (has-tail x u xs h))
+
+-- to keep some of those kept
+pub keep-twice : (p r s : ℕ → Bool) → ((u : ℕ) → r u ≡ true → p u ≡ s u) → ((u : ℕ) → r u ≡ false → s u ≡ false)
+    → (xs : List ℕ) → keep p (keep r xs) ≡ keep s xs
+keep-twice p r s f g [] = refl
+keep-twice p r s f g (x ∷ xs) =
+    ⊎-elim
+    (λ y. ap (keep p) (keep-yes r x xs y)
+    ∙ ⊎-elim
+    (λ z. keep-yes p x (keep r xs) z ∙ ap (λ (l : List ℕ). x ∷ l) (keep-twice p r s f g xs) ∙ sym (keep-yes s x xs (sym (f x y) ∙ z)))
+    (λ z. keep-no p x (keep r xs) z ∙ keep-twice p r s f g xs ∙ sym (keep-no s x xs (sym (f x y) ∙ z)))
+    (true-or-false (p x)))
+    (λ n. ap (keep p) (keep-no r x xs n) ∙ keep-twice p r s f g xs ∙ sym (keep-no s x xs (g x n)))
+    (true-or-false (r x))
 
 -- all but t
 pub has-without : (t u : ℕ) (xs : List ℕ) → has (without t xs) u ≡ true → (has xs u ≡ true) × (u ≡ t → ⊥)

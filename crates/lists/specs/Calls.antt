@@ -1,17 +1,19 @@
 -- What calls do to the paper's lists: the ready order and the queues after an answer.
 -- Assumes nothing.
-use Prim.Native.Nat.{ℕ, _<_}
+use Prim.Native.Nat.{ℕ, zero, suc, _<_}
 use mathlib.Core.Path.{_≡_}
-use mathlib.Core.Bool.{Bool, false}
+use mathlib.Core.Bool.{Bool, false, not}
 use mathlib.Core.List.{List, [], _∷_, _++_}
 use lib.ListN.{getD}
 use lib.Dec.{leb, eqb}
+use Rattle.scope.specs.declared.State.{State}
 use Rattle.scope.specs.declared.Answer.{Answer}
 use Rattle.scope.specs.declared.Tasks.{Tasks}
 use Rattle.scope.specs.Choice.{pick}
-use Rattle.scope.specs.Lists.{insert}
+use Rattle.scope.specs.Lists.{has, keep, insert}
 use Rattle.scope.specs.Identifiers.{identifier}
 use Rattle.scope.specs.Replies.{Wake}
+use Rattle.scope.specs.Ticks.{ticked, isDue}
 use Rattle.lists.specs.Rules.{readyOf, queueIn}
 
 -- after the answer the ready order and the queues are these
@@ -43,3 +45,16 @@ allWokenInto k (t ∷ ts) order = allWokenInto k ts (wokenInto k t order)
 -- task t on the wake list, by its identifier, with its status
 abbrev pub wakeOf : Tasks → ℕ → ℕ → Wake
 wakeOf k why t = record { task = identifier (getD (k .serial) t 0) t; status = why }
+
+-- slots t, t + 1, .. (n of them)
+abbrev pub slotsFrom : ℕ → ℕ → List ℕ
+slotsFrom zero t = []
+slotsFrom (suc n) t = t ∷ slotsFrom n (suc t)
+
+-- the tasks whose time_out a tick brings to 0, "in ascending slot order"
+abbrev pub dueIn : State → List ℕ
+dueIn s = keep (isDue (ticked (s .line) (s .tasks))) (slotsFrom 32 0)
+
+-- a list without each of these
+abbrev pub withoutAll : List ℕ → List ℕ → List ℕ
+withoutAll ts xs = keep (λ u. not (has ts u)) xs

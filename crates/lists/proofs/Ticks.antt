@@ -1,0 +1,189 @@
+-- A tick over the paper's lists: those due leave their queues, are on the wake list in ascending slot order, and become ready in that
+-- order unless they are suspended. To wake one does not change whether another is due. By induction on the slots.
+-- Assumes nothing.
+use Prim.Native.Nat.{ℕ, zero, suc, _+_, _*_, _/_, _%_, _≤_, _<_}
+use native.Mathlib.Omega.{arith}
+use mathlib.Core.Path.{_≡_, refl, sym, subst, ap, _∙_}
+use mathlib.Core.Logic.{⊎-elim}
+use mathlib.Core.Bool.{Bool, true, false, not, _&&_}
+use mathlib.Core.List.{List, [], _∷_, _++_, map}
+use lib.ListN.{length, getD, set, length-replicate}
+use lib.Seq.{getD-set-other}
+use lib.Dec.{eqb}
+use borrow.Author.Tests.{lt-ltb, le-ltb, eq-eqb, ne-eqb}
+use Rattle.scope.specs.declared.State.{State}
+use Rattle.scope.specs.declared.Line.{Line}
+use Rattle.scope.specs.declared.Tasks.{Tasks}
+use Rattle.scope.specs.declared.Waking.{Waking}
+use Rattle.scope.specs.Choice.{pick}
+use Rattle.scope.specs.Lists.{has, keep, without}
+use Rattle.scope.specs.Statuses.{TIME-OUT}
+use Rattle.scope.specs.Seats.{ringSeats, firstRing, seatBehind, waitsOn, leaves, becomesReady, queue, readyOrder}
+use Rattle.scope.specs.Answers.{wakesWith}
+use Rattle.scope.specs.Semaphores.{wokenSeats, wake, wakeNext, noneWoken}
+use Rattle.scope.specs.Replies.{Wake, wakeList}
+use Rattle.scope.specs.Ticks.{ticked, isDue, wakeDue, tick}
+use Rattle.scope.proofs.Seats.{ahead-from}
+use Rattle.laws.proofs.Branches.{both-true, not-of-true, not-of-false, true-false, true-or-false, eq-or-not}
+use Rattle.seats.specs.Rule.{In}
+use Rattle.seats.proofs.Leaving.{leaves-is}
+use Rattle.seats.proofs.Joining.{joins-is}
+use Rattle.seats.proofs.Rule.{stands-in}
+use Rattle.histories.specs.Sound.{TasksSound, Sound}
+use Rattle.histories.proofs.Refused.{by-choice}
+use Rattle.histories.proofs.Staying.{Good}
+use Rattle.lists.specs.Rules.{readyOf, queueIn}
+use Rattle.lists.specs.Calls.{ListsAfter, allWokenInto, wakeOf, slotsFrom, dueIn, withoutAll}
+use Rattle.lists.proofs.Plain.{has-head, has-other, keep-yes, keep-no, keep-all, keep-twice, append-none, append-one}
+use Rattle.lists.proofs.Again.{Own, good-line, own-line}
+use Rattle.lists.proofs.Tests.{waits-says}
+use Rattle.lists.proofs.Wakes.{woken, woken-good, woken-own, woken-order, woken-queue, wakesOf, next-wakes, next-line, next-count, next-size}
+
+-- a seat on which one waits, or not, by where it lies
+waits-same : (x y : ℕ) → (0 < x) × (x < 2048) → (0 < y) × (y < 2048) → waitsOn y ≡ waitsOn x
+unfolding waitsOn
+waits-same x y a b = rw (lt-ltb _ _ (a .0), lt-ltb _ _ (a .1), lt-ltb _ _ (b .0), lt-ltb _ _ (b .1))
+
+rests-same : (x y : ℕ) → 2048 ≤ x → 2048 ≤ y → waitsOn y ≡ waitsOn x
+unfolding waitsOn
+rests-same x y a b =
+    let c : 0 < x = omega arith in
+    let d : 0 < y = omega arith in rw (lt-ltb 0 x c, lt-ltb 0 y d, le-ltb x 2048 a, le-ltb y 2048 b)
+
+-- when t, who waits, is woken, every other one waits just if it did
+module _ (q key : List ℕ) (good : Good q) (t : ℕ) (stands : 0 < getD q t 0) (low : getD q t 0 < 2048) (u : ℕ) (ne : u ≡ t → ⊥) where
+  left-waits : waitsOn (getD (leaves q t) u 0) ≡ waitsOn (getD q u 0)
+  left-waits =
+      let o : ℕ = getD q t 0 / 64 * 64 in
+      let round : o % 64 ≡ 0 = omega arith in
+      let at : In q o t = stands-in q (good .queues) t stands in
+      ⊎-elim
+      (λ p. absurd (ne (good .queues .seated o round .once u t (omega (arith, p, at), omega (arith, p, at)) (p .0))))
+      (λ p. ⊎-elim
+      (λ x. waits-same (getD q u 0) (getD (leaves q t) u 0) (omega (arith, x), omega (arith, x, at, low)) (omega (arith, x, stands), omega (arith, x, at, low)))
+      (λ x. ap waitsOn (x .1))
+      p)
+      (leaves-is q o t round at u)
+
+  again-waits : (p : ℕ) → waitsOn (getD (becomesReady (leaves q t) key t p) u 0) ≡ waitsOn (getD q u 0)
+  again-waits p =
+      let left : List ℕ = leaves q t in
+      let behind : ringSeats p < seatBehind left key (ringSeats p) 0 = omega (arith, ahead-from left key (ringSeats p) (ringSeats p + 63) 0 32) in
+      ⊎-elim
+      (λ x. rests-same (getD left u 0) (getD (becomesReady left key t p) u 0) (omega (arith, x, behind)) (omega (arith, x, behind)))
+      (λ x. ap waitsOn (x .1))
+      (joins-is left key t (ringSeats p) 0 u ne)
+      ∙ left-waits
+
+-- nor is another due that was not, or the other way round
+due-other : (k : Tasks) (w : Waking) → Good (w .line .seat) → (t : ℕ) → waitsOn (getD (w .line .seat) t 0) ≡ true → (u : ℕ) → (u ≡ t → ⊥)
+    → isDue (wakeNext k w t .line) u ≡ isDue (w .line) u
+unfolding isDue wakeNext wake wokenSeats
+due-other k w good t waits u ne =
+    let q : List ℕ = w .line .seat in
+    let h : (0 < getD q t 0) × (getD q t 0 < 2048) = waits-says (getD q t 0) waits in
+    let moved : List ℕ = becomesReady (leaves q t) (w .line .joined) t (getD (k .priority) t 0) in
+    let seat : waitsOn (getD (pick (getD (k .suspended) t false) (leaves q t) moved) u 0) ≡ waitsOn (getD q u 0) =
+    by-choice (λ (r : List ℕ). waitsOn (getD r u 0) ≡ waitsOn (getD q u 0)) (getD (k .suspended) t false)
+    (λ y. left-waits q (w .line .joined) good t (h .0) (h .1) u ne)
+    (λ n. again-waits q (w .line .joined) good t (h .0) (h .1) u ne (getD (k .priority) t 0)) in
+    ap (λ (b : Bool). b && eqb (getD (set (w .line .left) t 0) u 0) 0) seat
+    ∙ ap (λ (x : ℕ). waitsOn (getD q u 0) && eqb x 0) (getD-set-other (w .line .left) t u 0 0 ne)
+
+-- a list without each of these, one after another
+all-none : (xs : List ℕ) → withoutAll [] xs ≡ xs
+all-none xs = keep-all (λ u. not (has [] u)) xs (λ u h. refl)
+
+all-more : (t : ℕ) (ts xs : List ℕ) → withoutAll ts (without t xs) ≡ withoutAll (t ∷ ts) xs
+all-more t ts xs =
+    keep-twice (λ u. not (has ts u)) (λ u. not (eqb u t)) (λ u. not (has (t ∷ ts) u))
+    (λ u h. ap not (sym (has-other t u ts (λ e. true-false h (not-of-true (eqb u t) (eq-eqb u t (sym e)))))))
+    (λ u h. not-of-true (has (t ∷ ts) u)
+    (⊎-elim (λ e. subst (λ (v : ℕ). has (t ∷ ts) v ≡ true) (sym e) (has-head t ts))
+    (λ ne. absurd (true-false (not-of-false (eqb u t) (ne-eqb u t ne)) h))
+    (eq-or-not u t)))
+    xs
+
+-- these were woken
+record Timed (k : Tasks) (why : ℕ) (xs : List ℕ) (w r : Waking) : Type 0 where
+  order : readyOrder (r .line .seat) ≡ allWokenInto k xs (readyOrder (w .line .seat))
+  queues : (j : ℕ) → j < 16 → queue (r .line .seat) j ≡ withoutAll xs (queue (w .line .seat) j)
+  list : wakesOf why r ≡ wakesOf why w ++ map (wakeOf k why) xs
+
+module _ (k : Tasks) (tasks : TasksSound k) (why : ℕ) (due : ℕ → Bool) where
+  due-yes : (n t : ℕ) (w : Waking) → isDue (w .line) t ≡ true → wakeDue k (suc n) t w ≡ wakeDue k n (suc t) (wakeNext k w t)
+  unfolding wakeDue
+  due-yes n t w e =
+      ap (λ (b : Bool). elim b as (λ x. Waking) [ true ↦ wakeDue k n (suc t) (wakeNext k w t) | false ↦ wakeDue k n (suc t) w ]) e
+
+  due-no : (n t : ℕ) (w : Waking) → isDue (w .line) t ≡ false → wakeDue k (suc n) t w ≡ wakeDue k n (suc t) w
+  unfolding wakeDue
+  due-no n t w e =
+      ap (λ (b : Bool). elim b as (λ x. Waking) [ true ↦ wakeDue k n (suc t) (wakeNext k w t) | false ↦ wakeDue k n (suc t) w ]) e
+
+  due-none : (t : ℕ) (w : Waking) → wakeDue k zero t w ≡ w
+  unfolding wakeDue
+  due-none t w = refl
+
+  due-waits : (l : Line) (t : ℕ) → isDue l t ≡ true → waitsOn (getD (l .seat) t 0) ≡ true
+  unfolding isDue
+  due-waits l t e = both-true (waitsOn (getD (l .seat) t 0)) _ e .0
+
+  timed : (n t : ℕ) (w : Waking) → n + t ≡ 32 → Good (w .line .seat) → Own (w .line .seat) (k .priority)
+      → ((u : ℕ) → t ≤ u → isDue (w .line) u ≡ due u) → length (w .wakes) ≡ 32 → w .woken + n ≤ 32
+      → Timed k why (keep due (slotsFrom n t)) w (wakeDue k n t w)
+  timed zero t w e good own same long fits =
+      subst (λ (r : Waking). Timed k why [] w r) (sym (due-none t w))
+      (record { order = refl; queues = λ j h. sym (all-none (queue (w .line .seat) j)); list = sym (append-none (wakesOf why w)) })
+  timed (suc n) t w e good own same long fits =
+      ⊎-elim
+      (λ y. let d : isDue (w .line) t ≡ true = same t (omega arith) ∙ y in
+      let waits : waitsOn (getD (w .line .seat) t 0) ≡ true = due-waits (w .line) t d in
+      let low : getD (w .line .seat) t 0 < firstRing = waits-says (getD (w .line .seat) t 0) waits .1 in
+      let room : t < 32 = omega arith in
+      let v : Waking = wakeNext k w t in
+      let line : v .line ≡ woken k tasks (w .line) good own t room low = next-line k w t in
+      let rec : Timed k why (keep due (slotsFrom n (suc t))) v (wakeDue k n (suc t) v) =
+      timed n (suc t) v (omega arith)
+      (subst (λ (l : Line). Good (l .seat)) (sym line) (woken-good k tasks (w .line) good own t room low))
+      (subst (λ (l : Line). Own (l .seat) (k .priority)) (sym line) (woken-own k tasks (w .line) good own t room low))
+      (λ u h. due-other k w good t waits u (λ f. omega (arith, f, h)) ∙ same u (omega arith))
+      (next-size k w t ∙ long) (omega (arith, next-count k w t, fits)) in
+      subst (λ (xs : List ℕ). Timed k why xs w (wakeDue k (suc n) t w)) (sym (keep-yes due t (slotsFrom n (suc t)) y))
+      (subst (λ (r : Waking). Timed k why (t ∷ keep due (slotsFrom n (suc t))) w r) (sym (due-yes n t w d))
+      (record {
+        order = rec .order
+            ∙ ap (λ (l : List ℕ). allWokenInto k (keep due (slotsFrom n (suc t))) l)
+            (ap (λ (l : Line). readyOrder (l .seat)) line ∙ woken-order k tasks (w .line) good own t room low);
+        queues = λ j h.
+            rec .queues j h
+            ∙ ap (withoutAll (keep due (slotsFrom n (suc t))))
+            (ap (λ (l : Line). queue (l .seat) j) line ∙ woken-queue k tasks (w .line) good own t room low j h)
+            ∙ all-more t (keep due (slotsFrom n (suc t))) (queue (w .line .seat) j);
+        list = rec .list
+            ∙ ap (λ (l : List Wake). l ++ map (wakeOf k why) (keep due (slotsFrom n (suc t)))) (next-wakes k w t why long (omega arith))
+            ∙ append-one (wakeOf k why t) (wakesOf why w) (map (wakeOf k why) (keep due (slotsFrom n (suc t))));
+      })))
+      (λ z. subst (λ (xs : List ℕ). Timed k why xs w (wakeDue k (suc n) t w)) (sym (keep-no due t (slotsFrom n (suc t)) z))
+      (subst (λ (r : Waking). Timed k why (keep due (slotsFrom n (suc t))) w r) (sym (due-no n t w (same t (omega arith) ∙ z)))
+      (timed n (suc t) w (omega arith) good own (λ u h. same u (omega arith)) long (omega arith))))
+      (true-or-false (due t))
+
+module _ (s : State) (ok : Sound s) where
+  abbrev start : Waking
+  start = noneWoken (ticked (s .line) (s .tasks))
+
+  ticks : Timed (s .tasks) TIME-OUT (dueIn s) start (wakeDue (s .tasks) 32 0 start)
+  ticks =
+      timed (s .tasks) (ok .tasks) TIME-OUT (isDue (ticked (s .line) (s .tasks))) 32 0 start refl
+      (good-line (s .line) (s .tasks) (s .semaphores) (ok .line)) (own-line (s .line) (s .tasks) (s .semaphores) (ok .line))
+      (λ u h. refl) (length-replicate {A = ℕ} 32 0) (omega arith)
+
+  -- "Those reaching 0 are woken with 13 in ascending slot order"
+  pub tick-wakes : wakeList (tick s) ≡ map (wakeOf (s .tasks) TIME-OUT) (dueIn s)
+  unfolding tick wakesWith
+  tick-wakes = ticks .list
+
+  pub tick-lists : ListsAfter (tick s) (allWokenInto (s .tasks) (dueIn s) (readyOf s)) (λ i. withoutAll (dueIn s) (queueIn s i))
+  unfolding tick wakesWith
+  tick-lists = record { ready = ticks .order; waiting = ticks .queues }
