@@ -7,7 +7,7 @@ use native.Mathlib.Nat.{eq-or-lt-of-le}
 use mathlib.Core.Path.{_≡_, refl, sym, subst, ap, _∙_}
 use mathlib.Core.Logic.{⊎-elim}
 use mathlib.Core.Bool.{Bool, true}
-use mathlib.Core.List.{List, [], _∷_, _++_}
+use mathlib.Core.List.{List, [], _∷_, _++_, append-nil}
 use lib.ListN.{getD}
 use lib.Seq.{ext-getD}
 use lib.Dec.{eqb}
@@ -21,7 +21,7 @@ use Rattle.seats.proofs.First.{on-seat}
 use Rattle.histories.specs.Sound.{Sound}
 use Rattle.lists.specs.Along.{queueAbove, firstIn}
 use Rattle.lists.specs.Rules.{readyOf, queueIn}
-use Rattle.lists.proofs.Plain.{has-says, keep-all, keep-none, keep-append, append-none}
+use Rattle.lists.proofs.Plain.{has-says, keep-all, keep-none, keep-append}
 use Rattle.lists.proofs.Members.{from-yes, from-no, queue-says, queue-has}
 use Rattle.lists.proofs.Ready.{below-says}
 use Rattle.lists.proofs.Again.{Own, own-line, range-below}
@@ -64,7 +64,7 @@ module _ (q priority : List ℕ) (own : Own q priority) (p : ℕ) where
       (keep-none of (readyBelow q m)
       (λ u k. let r = below-says q m u k in
       ne-eqb (getD priority u 0) p (λ d. omega (arith, own (r .0) u (r .2), r .1, d, e))))
-      ∙ append-none (keep of (queueAbove q (ringSeats m)))
+      ∙ append-nil (keep of (queueAbove q (ringSeats m)))
       ∙ keep-all of (queueAbove q (ringSeats m))
       (λ u k. eq-eqb (getD priority u 0) p (omega (arith, own m u (queue-says q (ringSeats m) u k), e)))
       ∙ ap (λ (x : ℕ). queueAbove q (ringSeats x)) (sym e))

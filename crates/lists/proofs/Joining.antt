@@ -7,7 +7,7 @@ use native.Mathlib.Nat.{eq-or-lt-of-le}
 use mathlib.Core.Path.{_≡_, refl, sym, subst, ap, _∙_}
 use mathlib.Core.Logic.{⊎-elim}
 use mathlib.Core.Bool.{Bool, true}
-use mathlib.Core.List.{List, [], _∷_, _++_}
+use mathlib.Core.List.{List, [], _∷_, _++_, append-assoc}
 use lib.ListN.{length, getD}
 use lib.Dec.{leb}
 use borrow.Author.Tests.{le-leb, lt-leb, leb-true, leb-false}
@@ -20,7 +20,7 @@ use Rattle.seats.proofs.Counting.{standing-le}
 use Rattle.seats.proofs.Joining.{Raised, joins-is, joins-in, joins-behind, joins-before, joins-untouched, joins-others}
 use Rattle.seats.proofs.Rule.{joins-queues}
 use Rattle.lists.specs.Along.{queueAbove}
-use Rattle.lists.proofs.Plain.{same-list, along-turn, along-insert, has-insert, insert-new, insert-old, insert-past, insert-front, insert-last, append-one}
+use Rattle.lists.proofs.Plain.{same-list, along-turn, along-insert, has-insert, insert-new, insert-old, insert-past, insert-front, insert-last}
 use Rattle.lists.proofs.Members.{queue-rising, queue-says, queue-has}
 use Rattle.lists.proofs.Leaving.{untouched-queue}
 use Rattle.lists.proofs.Ready.{below-says}
@@ -158,7 +158,7 @@ module _ (q key priority : List ℕ) (t p : ℕ) (rule : Queues q) (room : t < 3
       ap (λ (l : List ℕ). l ++ readyBelow ready m)
       (subst (λ (o : ℕ). queueAbove ready o ≡ queueAbove q o ++ (t ∷ [])) (sym z)
       (joins-end-above q key t (ringSeats p) 0 rule room out (omega arith) refl))
-      ∙ append-one t (queueAbove q (ringSeats m)) (readyBelow ready m)
+      ∙ append-assoc (queueAbove q (ringSeats m)) (t ∷ []) (readyBelow ready m)
       ∙ ap (λ (l : List ℕ). queueAbove q (ringSeats m) ++ (t ∷ l))
       (joins-other-rings q key t (ringSeats p) 0 rule room out (omega arith) m (λ k l d. omega (arith, d, l, e)))
       ∙ ap (λ (l : List ℕ). queueAbove q (ringSeats m) ++ l)

@@ -200,14 +200,6 @@ has-append (x ∷ xs) ys t h =
     (λ l. ⊎-elim (λ m. inl (has-tail x t xs m)) inr (has-append xs ys t l))
     (has-says x t (xs ++ ys) h)
 
-pub append-none : {A : Type 0} (xs : List A) → xs ++ [] ≡ xs
-append-none [] = refl
-append-none {A} (x ∷ xs) = ap (λ (l : List A). x ∷ l) (append-none xs)
-
-pub append-one : {A : Type 0} (t : A) (xs ys : List A) → (xs ++ (t ∷ [])) ++ ys ≡ xs ++ (t ∷ ys)
-append-one t [] ys = refl
-append-one {A} t (x ∷ xs) ys = ap (λ (l : List A). x ∷ l) (append-one t xs ys)
-
 pub along-append : (R : ℕ → ℕ → Type 0) (xs ys : List ℕ) → Along R xs → Along R ys
     → ((u v : ℕ) → has xs u ≡ true → has ys v ≡ true → R u v) → Along R (xs ++ ys)
 along-append R [] ys a b f = b

@@ -6,7 +6,7 @@ use native.Mathlib.Omega.{arith}
 use mathlib.Core.Path.{_≡_, refl, sym, subst, ap, _∙_}
 use mathlib.Core.Logic.{⊎-elim}
 use mathlib.Core.Bool.{Bool, true, false, not, _&&_}
-use mathlib.Core.List.{List, [], _∷_, _++_, map}
+use mathlib.Core.List.{List, [], _∷_, _++_, map, append-nil, append-assoc}
 use lib.ListN.{length, getD, set, length-replicate}
 use lib.Seq.{getD-set-other}
 use lib.Dec.{eqb}
@@ -34,7 +34,7 @@ use Rattle.histories.proofs.Refused.{by-choice}
 use Rattle.histories.proofs.Staying.{Good}
 use Rattle.lists.specs.Rules.{readyOf, queueIn}
 use Rattle.lists.specs.Calls.{ListsAfter, allWokenInto, wakeOf, slotsFrom, dueIn, withoutAll}
-use Rattle.lists.proofs.Plain.{has-head, has-other, keep-yes, keep-no, keep-all, keep-twice, append-none, append-one}
+use Rattle.lists.proofs.Plain.{has-head, has-other, keep-yes, keep-no, keep-all, keep-twice}
 use Rattle.lists.proofs.Again.{Own, good-line, own-line}
 use Rattle.lists.proofs.Tests.{waits-says}
 use Rattle.lists.proofs.Wakes.{woken, woken-good, woken-own, woken-order, woken-queue, wakesOf, next-wakes, next-line, next-count, next-size}
@@ -134,7 +134,7 @@ module _ (k : Tasks) (tasks : TasksSound k) (why : ℕ) (due : ℕ → Bool) whe
       → Timed k why (keep due (slotsFrom n t)) w (wakeDue k n t w)
   timed zero t w e good own same long fits =
       subst (λ (r : Waking). Timed k why [] w r) (sym (due-none t w))
-      (record { order = refl; queues = λ j h. sym (all-none (queue (w .line .seat) j)); list = sym (append-none (wakesOf why w)) })
+      (record { order = refl; queues = λ j h. sym (all-none (queue (w .line .seat) j)); list = sym (append-nil (wakesOf why w)) })
   timed (suc n) t w e good own same long fits =
       ⊎-elim
       (λ y. let d : isDue (w .line) t ≡ true = same t (omega arith) ∙ y in
@@ -162,7 +162,7 @@ module _ (k : Tasks) (tasks : TasksSound k) (why : ℕ) (due : ℕ → Bool) whe
             ∙ all-more t (keep due (slotsFrom n (suc t))) (queue (w .line .seat) j);
         list = rec .list
             ∙ ap (λ (l : List Wake). l ++ map (wakeOf k why) (keep due (slotsFrom n (suc t)))) (next-wakes k w t why long (omega arith))
-            ∙ append-one (wakeOf k why t) (wakesOf why w) (map (wakeOf k why) (keep due (slotsFrom n (suc t))));
+            ∙ append-assoc (wakesOf why w) (wakeOf k why t ∷ []) (map (wakeOf k why) (keep due (slotsFrom n (suc t))));
       })))
       (λ z. subst (λ (xs : List ℕ). Timed k why xs w (wakeDue k (suc n) t w)) (sym (keep-no due t (slotsFrom n (suc t)) z))
       (subst (λ (r : Waking). Timed k why (keep due (slotsFrom n (suc t))) w r) (sym (due-no n t w (same t (omega arith) ∙ z)))

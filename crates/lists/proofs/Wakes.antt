@@ -7,7 +7,7 @@ use native.Mathlib.Numerals.{add-one}
 use mathlib.Core.Path.{_≡_, refl, sym, subst, ap, _∙_}
 use mathlib.Core.Logic.{⊎-elim}
 use mathlib.Core.Bool.{Bool, true, false, not}
-use mathlib.Core.List.{List, [], _∷_, _++_, map}
+use mathlib.Core.List.{List, [], _∷_, _++_, map, append-nil, append-assoc}
 use lib.ListN.{length, getD, set, length-set}
 use lib.Seq.{getD-set-same, getD-set-other}
 use lib.Dec.{eqb}
@@ -28,7 +28,7 @@ use Rattle.histories.proofs.Refused.{by-choice}
 use Rattle.histories.proofs.Staying.{Good, leaves-good}
 use Rattle.lists.specs.Along.{Once, firstIn}
 use Rattle.lists.specs.Calls.{madeReady, wokenInto, allWokenInto, wakeOf}
-use Rattle.lists.proofs.Plain.{has-head, without-none, append-none, append-one}
+use Rattle.lists.proofs.Plain.{has-head, without-none}
 use Rattle.lists.proofs.Members.{from-yes, from-no, queue-once, queue-says, queue-below}
 use Rattle.lists.proofs.Leaving.{leaves-queue, leaves-order}
 use Rattle.lists.proofs.Again.{Own, own-left, again-order, again-queue, again-good, again-own, off-order, range-below}
@@ -180,7 +180,7 @@ module _ (k : Tasks) (tasks : TasksSound k) (i : ℕ) (hi : i < 16) where
       → length xs ≤ n → length (w .wakes) ≡ 32 → w .woken + length xs ≤ 32 → AllWoken k i why xs w (wakeAll k i n w)
   all-woken why [] n w good own e few long fits =
       subst (λ (r : Waking). AllWoken k i why [] w r) (sym (all-no n w e))
-      (record { order = refl; empty = e; others = λ j h ne. refl; list = sym (append-none (wakesOf why w)) })
+      (record { order = refl; empty = e; others = λ j h ne. refl; list = sym (append-nil (wakesOf why w)) })
   all-woken why (x ∷ xs) zero w good own e few long fits = absurd (omega arith)
   all-woken why (x ∷ xs) (suc n) w good own e few long fits =
       let f : firstOf (w .line .seat) (queueSeats i) ≡ x = first-of (w .line .seat) i ∙ ap firstIn e in
@@ -205,5 +205,5 @@ module _ (k : Tasks) (tasks : TasksSound k) (i : ℕ) (hi : i < 16) where
         others = λ j h ne. rec .others j h ne ∙ ap (λ (l : Line). queue (l .seat) j) line ∙ woken-other k tasks (w .line) good own x (on .0) low i j (on .1) h ne;
         list = rec .list
             ∙ ap (λ (l : List Wake). l ++ map (wakeOf k why) xs) (next-wakes k w x why long (omega arith))
-            ∙ append-one (wakeOf k why x) (wakesOf why w) (map (wakeOf k why) xs);
+            ∙ append-assoc (wakesOf why w) (wakeOf k why x ∷ []) (map (wakeOf k why) xs);
       })
