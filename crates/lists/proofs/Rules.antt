@@ -24,14 +24,19 @@ use Rattle.seats.proofs.Rule.{queues-from-rule}
 use Rattle.seats.proofs.Sorting.{steps-from-sorted, sorted-from-steps}
 use Rattle.histories.specs.Sound.{Sized}
 use Rattle.lists.specs.Along.{Once, NeverRising, queueAbove, firstIn}
-use Rattle.lists.specs.Rules.{readyOf, queueIn, waiting, HoldsTheReady, PrioritiesFall, FirstRuns, StandsInOne, NoOther, JoinedFall, CountBelow, CountEmpty, Ordered, OwnRing, Tested}
+use Rattle.lists.specs.Rules.{readyOf, queueIn, waiting, HoldsTheReady, PrioritiesFall, FirstRuns, StandsInOne, NoOther, JoinedFall, CountBelow, CountEmpty, Ordered, OwnRing, PrioritiesInRange, Tested}
 use Rattle.lists.proofs.Plain.{same-test, along-turn, along-at}
 use Rattle.lists.proofs.Members.{queue-rising, queue-once, queue-says, queue-has, queue-length}
 use Rattle.lists.proofs.Ready.{order-says, order-once, order-falls, order-has, order-first}
 use Rattle.lists.proofs.Tests.{waits-is, waits-says, ready-says, idle-says, ready-right, ready-started, start-says, start-right, wait-says, rest-says, wait-right, joined-says, joined-right, task-range}
 
+-- the test of the tasks says it of priorities
+pub priorities-in-range : (s : State) → tasksRight (s .tasks) ≡ true → PrioritiesInRange s
+unfolding tasksRight
+priorities-in-range s e t h = task-range (s .tasks) t (every-at (taskRight (s .tasks)) 32 e t h)
+
 -- a state whose arrays have their sizes, whose seats say queues, and whose priorities are in range
-module _ (s : State) (sized : Sized s) (seats : seatsRight (s .line .seat) ≡ true) (tasks : tasksRight (s .tasks) ≡ true) where
+module _ (s : State) (sized : Sized s) (seats : seatsRight (s .line .seat) ≡ true) (inRange : PrioritiesInRange s) where
   abbrev q : List ℕ
   q = s .line .seat
 
@@ -48,12 +53,8 @@ module _ (s : State) (sized : Sized s) (seats : seatsRight (s .line .seat) ≡ t
   rule = queues-from-rule q (sized .seat) seats
 
   range : (t : ℕ) → priority t ≤ 15
-  unfolding tasksRight
   range t =
-      ⊎-elim
-      (λ h. task-range (s .tasks) t (every-at (taskRight (s .tasks)) 32 tasks t h))
-      (λ h. let e : 0 ≡ priority t = past 32 (s .tasks .priority) t 0 (sized .priority) h in omega (arith, e))
-      (lt-or-le t 32)
+      ⊎-elim (inRange t) (λ h. let e : 0 ≡ priority t = past 32 (s .tasks .priority) t 0 (sized .priority) h in omega (arith, e)) (lt-or-le t 32)
 
   here : (t : ℕ) → 0 < seat t → t < 32
   here t h = inside 32 q t (sized .seat) (λ z. omega arith)

@@ -17,7 +17,7 @@ use Rattle.histories.proofs.Meaning.{sound-right}
 use Rattle.lists.specs.Along.{Once, NeverRising, firstIn}
 use Rattle.lists.specs.Rules.{readyOf, queueIn, Ordered, OwnRing, Tested, Others}
 use Rattle.lists.proofs.Members.{queue-length}
-use Rattle.lists.proofs.Rules.{own-ring, tests-say, rules-right}
+use Rattle.lists.proofs.Rules.{priorities-in-range, own-ring, tests-say, rules-right}
 
 -- a sound state's arrays have their sizes
 pub sound-sized : (s : State) → Sound s → Sized s
@@ -93,14 +93,14 @@ module _ (s : State) (sized : Sized s) where
   sound-lists e =
       let p = sound-parts s e in (
         p .seats,
-        own-ring s sized (p .seats) (p .others .tasks) (p .tested),
-        tests-say s sized (p .seats) (p .others .tasks) (p .tested),
+        own-ring s sized (p .seats) (priorities-in-range s (p .others .tasks)) (p .tested),
+        tests-say s sized (p .seats) (priorities-in-range s (p .others .tasks)) (p .tested),
         p .others,
       )
 
   pub lists-sound : (seatsRight (s .line .seat) ≡ true) × OwnRing s × Ordered s × Others s → sound s ≡ true
   lists-sound h =
-      parts-sound s (record { seats = h .0; tested = rules-right s sized (h .0) (h .3 .tasks) (h .1) (h .2); others = h .3 })
+      parts-sound s (record { seats = h .0; tested = rules-right s sized (h .0) (priorities-in-range s (h .3 .tasks)) (h .1) (h .2); others = h .3 })
 
 -- on a sound state
 module _ (s : State) (h : Sound s) where

@@ -101,6 +101,10 @@ pub record Ordered (s : State) : Type 0 where
 abbrev pub OwnRing : State → Type 0
 OwnRing s = (t : ℕ) → firstRing ≤ getD (s .line .seat) t 0 → In (s .line .seat) (ringSeats (getD (s .tasks .priority) t 0)) t
 
+-- "Serials, priorities and options are in range.": of priorities
+abbrev pub PrioritiesInRange : State → Type 0
+PrioritiesInRange s = (t : ℕ) → t < 32 → getD (s .tasks .priority) t 0 ≤ lastPriority
+
 -- the tests that run
 pub record Tested (s : State) : Type 0 where
   pub order : readyOrderRight (s .line) (s .tasks) ≡ true
