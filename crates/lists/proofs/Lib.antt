@@ -12,3 +12,4 @@ pub mod Wakes
 pub mod Semaphores
 pub mod Form
 pub mod Ticks
+pub mod Still
