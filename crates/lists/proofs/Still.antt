@@ -78,12 +78,10 @@ module _ (s : State) where
   pub pool-create-still : (name address length size options : ℕ) → Still (poolCreate s name address length size options)
   unfolding poolCreate poolCreateAt
   pool-create-still name address length size options =
-      by-choice Still _
-      (λ y. by-choice Still _
-      (λ y. by-choice Still _ (λ y. same _)
-      (λ n. by-choice Still _ (λ y. same _) (λ n. by-choice Still _ (λ y. same _) (λ n. changed-pools _ _))))
-      (λ n. same _))
-      (λ n. same _)
+      by-choice Still _ (λ y. same _)
+      (λ n. by-choice Still _ (λ y. same _)
+      (λ n. by-choice Still _ (λ y. same _)
+      (λ n. by-choice Still _ (λ y. same _) (λ n. by-choice Still _ (λ y. same _) (λ n. changed-pools _ _)))))
 
   pub pool-delete-still : (i : ℕ) → Still (poolDeleteAt s i)
   unfolding poolDeleteAt
@@ -99,7 +97,7 @@ module _ (s : State) where
 
   pub pool-ret-still : (x i : ℕ) → Still (poolRetBuffAt s x i)
   unfolding poolRetBuffAt poolRetBuffer
-  pool-ret-still x i = by-choice Still _ (λ y. done-pools _ _) (λ n. same _)
+  pool-ret-still x i = by-choice Still _ (λ y. same _) (λ n. done-pools _ _)
 
   pub pool-info-still : (i : ℕ) → Still (poolInfoAt s i)
   unfolding poolInfoAt
