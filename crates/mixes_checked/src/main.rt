@@ -8,18 +8,16 @@ struct Played {
     sum: u32,
 }
 
-// Plays records `from` to `to` once.
+// Plays records `from` to `to` once, the state changed where it lies.
 fn play(file: &[u8], from: usize, to: usize, p: Played) -> Played {
     let mut s = p.state;
+    let mut wakes = [0u32; 32];
     let mut sum = p.sum;
     let mut i = from;
     while i < to {
         let r = mixing::record_at(file, i);
-        let a = kernel::step(s, r.call, r.mark, r.a, r.b, r.c, r.d, r.e);
-        let v = a.values;
-        let w = a.wakes;
-        sum = mixing::summed(sum, a.status, a.running, v[0], v[1], a.woken, w[0]);
-        s = a.state;
+        let o = kernel::step(&mut s, &mut wakes, r.call, r.mark, r.a, r.b, r.c, r.d, r.e);
+        sum = mixing::summed(sum, o, kernel::runner(s), &wakes);
         i += 1;
     }
     Played { state: s, sum: sum }

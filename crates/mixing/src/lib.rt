@@ -1,5 +1,6 @@
 // What the two benchmark programs share: the head of a mix, its records, and a checksum of answers. A mix is a file: four numbers
 // (how many records, how many of them are the first part, how often the rest is played, zero) and then the records, as in a script.
+use answers::Outcome;
 use text::Record;
 ghost use mathlib.Core.Path.{_≡_};
 ghost use Prim.Native.Nat.{_<_};
@@ -63,15 +64,8 @@ fn mixed(sum: u32, x: u32) -> u32 {
 }
 
 // The checksum with an answer's status, running task, first two values, number of wakes and first wake.
-pub fn summed(
-    sum: u32,
-    status: u32,
-    running: u32,
-    v0: u32,
-    v1: u32,
-    woken: usize,
-    first: u32,
-) -> u32 {
-    let a = mixed(mixed(mixed(sum, status), running), v0);
-    mixed(mixed(mixed(a, v1), (woken % 64) as u32), first)
+pub fn summed(sum: u32, o: Outcome, running: u32, wakes: &[u32; 32]) -> u32 {
+    let v = o.values;
+    let a = mixed(mixed(mixed(sum, o.status), running), v[0]);
+    mixed(mixed(mixed(a, v[1]), (o.woken % 64) as u32), wakes[0])
 }

@@ -9,6 +9,7 @@ use mathlib.Core.Logic.{⊎-elim}
 use mathlib.Core.Bool.{true}
 use mathlib.Core.List.{List, _++_, append-assoc}
 use lib.ListN.{length, take, length-append}
+use lib.Seq.{length-take-le}
 use lib.Dec.{ltb, leb}
 use borrow.Author.Tests.{leb-true, le-ltb}
 use Rattle.scope.specs.declared.State.{State}
@@ -34,7 +35,7 @@ use Rattle.text.specs.Lines.{replyBy}
 use Rattle.text.proofs.Laws.{line-length}
 use Rattle.player.specs.declared.Place.{Place}
 use Rattle.player.specs.declared.Part.{Part}
-use Rattle.player.specs.Place.{toCome, next, after, Playing, Begun, LinePut, Played, PlayedPart}
+use Rattle.player.specs.Place.{toCome, next, after, linesTo, Playing, Begun, LinePut, Played, PlayedPart}
 use Rattle.player.proofs.Wakes.{woken-few}
 
 -- what the test of a script says
@@ -139,6 +140,8 @@ played script p before out k r a h some is room same written put left number at 
     let few : a .woken ≤ 32 = subst (λ (x : Answer). x .woken ≤ 32) (sym is) (step-few script (p .at) (p .state) (h .state)) in
     let s : r .place .state ≡ stepAt script (p .at) (p .state) .state = state ∙ ap (λ (x : Answer). x .state) is in
     record {
+      fitted = room;
+      line = put ∙ ap (λ (x : Answer). take k before ++ lineOf (p .number) (replyOf x)) is;
       put =
           rw (put, lines-are script (p .left) (r .place .left) (p .number) (p .at) (p .state) left, number, at, s, ← is)
           (append-assoc (take k before) (lineOf (p .number) (replyOf a)) _);
@@ -187,6 +190,8 @@ line-played script p n before lines k written h some room same d =
 
 -- while records are played: k bytes were written since place p, and none only if no record was played
 pub record Going (script : List ℕ) (p : Place) (out₀ out : List ℕ) (q : Place) (k : ℕ) : Type 0 where
+  pub lines : take k out ≡ linesTo script (p .left - q .left) p
+  pub each : (n : ℕ) → n < p .left - q .left → length (linesTo script n p) + 782 ≤ length out₀
   pub put : take k out ++ toCome script q ≡ toCome script p
   pub room : k ≤ length out
   pub same : length out ≡ length out₀
@@ -199,10 +204,12 @@ pub record Going (script : List ℕ) (p : Place) (out₀ out : List ℕ) (q : Pl
 
 module _ (script : List ℕ) (p : Place) (out₀ : List ℕ) where
   pub going-first : Playing script p → Going script p out₀ out₀ p 0
-  unfolding after
+  unfolding after linesTo
   going-first h =
       let e : 0 ≡ p .left - p .left = omega arith in
       record {
+        lines = ap (λ (n : ℕ). linesTo script n p) e;
+        each = λ n l. omega arith;
         put = refl;
         room = omega arith;
         same = refl;
@@ -214,12 +221,36 @@ module _ (script : List ℕ) (p : Place) (out₀ : List ℕ) where
         playing = h;
       }
 
+  -- the line of the next record behind those of the records played
+  more-lines : (out last : List ℕ) (q : Place) (k : ℕ) (r : Part) → Going script p out₀ out q k → Played script q out k last r
+      → take (r .written) last ≡ linesTo script (suc (p .left - q .left)) p
+  unfolding linesTo
+  more-lines out last q k r g d =
+      d .line ∙ ap (λ (x : List ℕ). x ++ lineOf (q .number) (replyOf (stepAt script (q .at) (q .state)))) (g .lines)
+      ∙ ap (λ (x : Place). linesTo script (p .left - q .left) p ++ lineOf (x .number) (replyOf (stepAt script (x .at) (x .state)))) (g .place)
+
+  -- as many bytes as were written
+  long : (out : List ℕ) (q : Place) (k : ℕ) → Going script p out₀ out q k → length (linesTo script (p .left - q .left) p) ≡ k
+  long out q k g = sym (ap length (g .lines)) ∙ length-take-le k out (g .room)
+
+  more-each : (out last : List ℕ) (q : Place) (k m : ℕ) (r : Part) → Going script p out₀ out q k → Played script q out k last r
+      → m ≡ suc (p .left - q .left) → (n : ℕ) → n < m → length (linesTo script n p) + 782 ≤ length out₀
+  more-each out last q k m r g d e n l =
+      ⊎-elim (λ h. g .each n h)
+      (λ h.
+      let same : n ≡ p .left - q .left = omega (arith, e) in
+      let at : length (linesTo script n p) ≡ k = ap (λ (x : ℕ). length (linesTo script x p)) same ∙ long out q k g in
+      omega (arith, at, d .fitted, g .same))
+      (lt-or-le n (p .left - q .left))
+
   pub going-more : (out last : List ℕ) (q : Place) (k : ℕ) (r : Part) → Going script p out₀ out q k → Played script q out k last r
       → length last ≡ length out → Going script p out₀ last (r .place) (r .written)
   unfolding after
   going-more out last q k r g d e =
       let m : suc (p .left - q .left) ≡ p .left - r .place .left = omega (arith, d .fewer, g .fewer) in
       record {
+        lines = more-lines out last q k r g d ∙ ap (λ (n : ℕ). linesTo script n p) m;
+        each = more-each out last q k (p .left - r .place .left) r g d (sym m);
         put = d .put ∙ g .put;
         room = d .room;
         same = e ∙ g .same;
@@ -235,6 +266,9 @@ module _ (script : List ℕ) (p : Place) (out₀ : List ℕ) where
       → r .place ≡ q → r .written ≡ k → PlayedPart script p out r
   going-done out q k r g stop place written =
       record {
+        fewer = rw place (g .fewer);
+        lines = rw (place, written) (g .lines);
+        each = rw (place, g .same) (g .each);
         put = rw (place, written) (g .put);
         room = omega (arith, written, g .room);
         place = place ∙ g .place ∙ ap (λ (x : Place). after script (p .left - x .left) p) (sym place);

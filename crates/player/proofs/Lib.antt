@@ -1,2 +1,4 @@
 pub mod Wakes
 pub mod Laws
+pub mod Relent
+pub mod One

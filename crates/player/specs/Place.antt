@@ -2,7 +2,7 @@
 -- Assumes nothing.
 use Prim.Native.Nat.{ℕ, zero, suc, _+_, _*_, _-_, _≤_, _<_}
 use mathlib.Core.Path.{_≡_}
-use mathlib.Core.List.{List, _++_}
+use mathlib.Core.List.{List, [], _++_}
 use lib.ListN.{length, take}
 use Rattle.scope.specs.Script.{recordCount, firstOffset, firstPriority, stepAt}
 use Rattle.scope.specs.Fresh.{freshState}
@@ -26,6 +26,12 @@ next script p =
 unfoldable pub after : List ℕ → ℕ → Place → Place
 after script zero p = p
 after script (suc n) p = next script (after script n p)
+
+-- the lines of the first n records
+unfoldable pub linesTo : List ℕ → ℕ → Place → List ℕ
+linesTo script zero p = []
+linesTo script (suc n) p =
+    linesTo script n p ++ lineOf (after script n p .number) (replyOf (stepAt script (after script n p .at) (after script n p .state)))
 
 -- the records left lie within the script, behind its first four numbers, and the state is sound; a script of 65,536 bytes has
 -- room for 2,340 records
@@ -53,6 +59,8 @@ pub record LinePut (script : List ℕ) (at number : ℕ) (s : State) (before : L
 
 -- one record was played from place p, and its line put behind the first k bytes
 pub record Played (script : List ℕ) (p : Place) (before : List ℕ) (k : ℕ) (out : List ℕ) (r : Part) : Type 0 where
+  pub fitted : k + 782 ≤ length before
+  pub line : take (r .written) out ≡ take k before ++ lineOf (p .number) (replyOf (stepAt script (p .at) (p .state)))
   pub put : take (r .written) out ++ toCome script (r .place) ≡ take k before ++ toCome script p
   pub grows : k < r .written
   pub room : r .written ≤ length out
@@ -61,13 +69,17 @@ pub record Played (script : List ℕ) (p : Place) (before : List ℕ) (k : ℕ) 
   pub place : r .place ≡ next script p
   pub playing : Playing script (r .place)
 
--- Records were played from place p, until none was left or there was no room for the longest line: so all that were left, where
--- there was room for as many of the longest lines, and at least one, where any was left and there was room for its line.
+-- Records were played from place p, one after another, while any was left and there was room for the longest line behind those so
+-- far: so all that were left, where there was room for as many of the longest lines, and at least one, where any was left and there
+-- was room for its line. How many is thereby fixed, and with it the place after them and the bytes written.
 pub record PlayedPart (script : List ℕ) (p : Place) (out : List ℕ) (r : Part) : Type 0 where
-  pub put : take (r .written) out ++ toCome script (r .place) ≡ toCome script p
-  pub room : r .written ≤ length out
+  pub fewer : r .place .left ≤ p .left
   pub place : r .place ≡ after script (p .left - r .place .left) p
+  pub lines : take (r .written) out ≡ linesTo script (p .left - r .place .left) p
+  pub room : r .written ≤ length out
+  pub each : (n : ℕ) → n < p .left - r .place .left → length (linesTo script n p) + 782 ≤ length out
   pub stop : 1 ≤ r .place .left → length out < r .written + 782
+  pub put : take (r .written) out ++ toCome script (r .place) ≡ toCome script p
   pub whole : 782 * p .left ≤ length out → r .place .left ≡ 0
   pub onward : 1 ≤ p .left → 782 ≤ length out → (r .place .left < p .left) × (0 < r .written)
   pub playing : Playing script (r .place)

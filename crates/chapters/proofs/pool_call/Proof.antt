@@ -1,13 +1,13 @@
--- `kernel::pool_call`: each call of the chapter by its number; the last is what is left when it is none of those before.
+-- `chapters::pool_call`: each call of the chapter by its number; the last is what is left when it is none of those before.
 -- Assumes nothing.
 use native.Mathlib.Omega.{arith}
 use mathlib.Core.Path.{_≡_}
 use borrow.Author.Needs.{needs}
 use denote.Ref.{now}
 use Rattle.answers.specs.Columns.{lentPools}
-use Rattle.kernel.proofs.Laws.{last-of-six}
-use Rattle.kernel.proofs.pool_call.Statement.{statement}
-use Rattle.kernel.proofs.pool_call.Tie as tie
+use Rattle.chapters.proofs.Laws.{last-of-six}
+use Rattle.chapters.proofs.pool_call.Statement.{statement}
+use Rattle.chapters.proofs.pool_call.Tie as tie
 use Rattle.scope.specs.declared.State.{State}
 
 -- the state before, out of all the columns lent

@@ -1,0 +1,179 @@
+// The state lent as one thing: each chapter is lent its columns of it, all at once, and what it leaves in them is the state's.
+// Printed by tools/generate/run, from its table of columns.
+use answers::Outcome;
+use chapters::Asked;
+use scope::State;
+ghost use mathlib.Core.Path.{_≡_};
+ghost use Prim.Native.Nat.{ℕ, _<_, _≤_};
+ghost use Rattle.scope.specs.Step.{answered};
+ghost use Rattle.answers.specs.Outcomes.{answerOf};
+
+// The tick.
+pub fn tick(
+    s: &mut State,
+    wakes: &mut [u32; 32],
+    call: u32,
+    mark: u32,
+    a: u32,
+    b: u32,
+    c: u32,
+    d: u32,
+    e: u32,
+) -> Outcome
+    requires { ⌜ call ≡ 0 ⌝ }
+    ensures { λ r. ⌜ (answerOf (now (s .exit)) (now (wakes .exit)) r ≡ answered (now (s .entry)) call mark a b c d e) × (now (s .exit) .running ≡ r .runs) ⌝ }
+{
+    let running = s.running;
+    let x = Asked {
+        call: call,
+        mark: mark,
+        a: a,
+        b: b,
+        c: c,
+        d: d,
+        e: e,
+    };
+    let o = chapters::tick_part(
+        &mut s.line.left,
+        &mut s.line.seat,
+        &mut s.line.joined,
+        &s.tasks.serial,
+        &s.tasks.suspended,
+        &s.tasks.priority,
+        wakes,
+        running,
+        x,
+    );
+    s.running = o.runs;
+    o
+}
+
+// A task call.
+pub fn task(
+    s: &mut State,
+    wakes: &mut [u32; 32],
+    call: u32,
+    mark: u32,
+    a: u32,
+    b: u32,
+    c: u32,
+    d: u32,
+    e: u32,
+) -> Outcome
+    requires { ⌜ (1 ≤ call) × (call < 8) ⌝ }
+    ensures { λ r. ⌜ (answerOf (now (s .exit)) (now (wakes .exit)) r ≡ answered (now (s .entry)) call mark a b c d e) × (now (s .exit) .running ≡ r .runs) ⌝ }
+{
+    let running = s.running;
+    let x = Asked {
+        call: call,
+        mark: mark,
+        a: a,
+        b: b,
+        c: c,
+        d: d,
+        e: e,
+    };
+    let o = chapters::task_part(
+        &mut s.line.left,
+        &mut s.line.seat,
+        &mut s.line.joined,
+        &mut s.tasks.name,
+        &mut s.tasks.serial,
+        &mut s.tasks.live,
+        &mut s.tasks.started,
+        &mut s.tasks.suspended,
+        &mut s.tasks.priority,
+        wakes,
+        running,
+        x,
+    );
+    s.running = o.runs;
+    o
+}
+
+// A semaphore call.
+pub fn sem(
+    s: &mut State,
+    wakes: &mut [u32; 32],
+    call: u32,
+    mark: u32,
+    a: u32,
+    b: u32,
+    c: u32,
+    d: u32,
+    e: u32,
+) -> Outcome
+    requires { ⌜ (8 ≤ call) × (call < 14) ⌝ }
+    ensures { λ r. ⌜ (answerOf (now (s .exit)) (now (wakes .exit)) r ≡ answered (now (s .entry)) call mark a b c d e) × (now (s .exit) .running ≡ r .runs) ⌝ }
+{
+    let running = s.running;
+    let x = Asked {
+        call: call,
+        mark: mark,
+        a: a,
+        b: b,
+        c: c,
+        d: d,
+        e: e,
+    };
+    let o = chapters::sem_part(
+        &mut s.line.left,
+        &mut s.line.seat,
+        &mut s.line.joined,
+        &s.tasks.serial,
+        &s.tasks.suspended,
+        &s.tasks.priority,
+        &mut s.semaphores.name,
+        &mut s.semaphores.serial,
+        &mut s.semaphores.units,
+        &mut s.semaphores.live,
+        &mut s.semaphores.fifo,
+        wakes,
+        running,
+        x,
+    );
+    s.running = o.runs;
+    o
+}
+
+// A pool call, or none of the table.
+pub fn pool(
+    s: &mut State,
+    wakes: &mut [u32; 32],
+    call: u32,
+    mark: u32,
+    a: u32,
+    b: u32,
+    c: u32,
+    d: u32,
+    e: u32,
+) -> Outcome
+    requires { ⌜ 14 ≤ call ⌝ }
+    ensures { λ r. ⌜ (answerOf (now (s .exit)) (now (wakes .exit)) r ≡ answered (now (s .entry)) call mark a b c d e) × (now (s .exit) .running ≡ r .runs) ⌝ }
+{
+    let running = s.running;
+    let x = Asked {
+        call: call,
+        mark: mark,
+        a: a,
+        b: b,
+        c: c,
+        d: d,
+        e: e,
+    };
+    let o = chapters::pool_part(
+        &mut s.pools.out,
+        &mut s.pools.name,
+        &mut s.pools.address,
+        &mut s.pools.length,
+        &mut s.pools.size,
+        &mut s.pools.serial,
+        &mut s.pools.live,
+        &mut s.pools.forced,
+        wakes,
+        running,
+        x,
+    );
+    s.running = o.runs;
+    o
+}

@@ -1,0 +1,41 @@
+# The tables of the state and the chapters that are lent their columns: a column is one line here.
+# letter, struct, field of State, columns (name, width of an element in bytes, 0 for bool), length
+TABLES = [
+    ('L', 'Line', 'line', 32, [('left', 4), ('seat', 2), ('joined', 1)]),
+    ('K', 'Tasks', 'tasks', 32, [('name', 4), ('serial', 2), ('live', 0), ('started', 0), ('suspended', 0), ('priority', 1)]),
+    ('Q', 'Semaphores', 'semaphores', 16, [('name', 4), ('serial', 2), ('units', 2), ('live', 0), ('fifo', 0)]),
+    ('P', 'Pools', 'pools', 8, [('out', 8), ('name', 4), ('address', 4), ('length', 4), ('size', 4), ('serial', 2), ('live', 0), ('forced', 0)]),
+]
+# name, what the promise is stated with, what is lent in order (table, 'mut' or 'shr', columns or None for all), what it requires
+WAKING = ['serial', 'suspended', 'priority']
+CHAPTERS = [
+    ('tick', 'lentLine', [('L', 'mut', None), ('K', 'shr', WAKING)], 'call ≡ 0'),
+    ('task', 'lentTasks', [('L', 'mut', None), ('K', 'mut', None)], '(1 ≤ call) × (call < 8)'),
+    ('sem', 'lentSemaphores', [('L', 'mut', None), ('K', 'shr', WAKING), ('Q', 'mut', None)], '(8 ≤ call) × (call < 14)'),
+    ('pool', 'lentPools', [('P', 'mut', None)], '14 ≤ call'),
+]
+NUMS = ['call', 'mark', 'a', 'b', 'c', 'd', 'e']
+
+def table(g):
+    return next(t for t in TABLES if t[0] == g)
+
+# the columns lent, in order: table, name, whether it is only read
+def cols(segs):
+    return [(g, c, mode == 'shr') for g, mode, sub in segs for c, _ in table(g)[4] if sub is None or c in sub]
+
+def up(a, e):
+    return (e + a - 1) // a * a
+
+def layout():
+    at, end = {}, 0
+    for g, S, f, n, cs in TABLES:
+        al = max(max(w, 1) for _, w in cs)
+        end = up(al, end)
+        at[g] = end
+        e = 0
+        for _, w in cs:
+            w = max(w, 1)
+            e = up(w, e) + w * n
+        end += up(al, e)
+    at['running'] = up(8, end)
+    return at
