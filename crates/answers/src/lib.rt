@@ -1,15 +1,13 @@
 // The shapes of an answer. A call changes the state's columns where they lie; what it answers beside them and the wake list is
 // its outcome: refused or plainly done, one value, several values, tasks woken. (specs/Outcomes.antt, and scope's specs/Answers.antt.)
-use scope::Answer;
-use scope::State;
 ghost use mathlib.Core.Path.{_≡_};
 ghost use mathlib.Core.Bool.{Bool, true, false};
 ghost use Prim.Native.Nat.{ℕ, _+_, _*_};
 ghost use lib.ListN.{getD};
 ghost use lib.Dec.{ltb};
 ghost use Rattle.scope.specs.Choice.{pick};
-ghost use Rattle.scope.specs.Answers.{bitOf, badState};
-ghost use Rattle.answers.specs.Outcomes.{answerOf, outcome, woke};
+ghost use Rattle.scope.specs.Answers.{bitOf};
+ghost use Rattle.answers.specs.Outcomes.{outcome, woke};
 
 // What a call answers beside the state and the wake list.
 pub struct Outcome {
@@ -49,7 +47,7 @@ pub fn tells(v0: u32, v1: u32, v2: u32, v3: u32, negative: bool, runs: usize) ->
     ensures { λ r. ⌜ r ≡ outcome 0 v0 v1 v2 v3 negative runs ⌝ }
 {
     Outcome {
-        status: 0,
+        status: scope::OK,
         values: [v0, v1, v2, v3],
         negative: negative,
         woken: 0,
@@ -77,7 +75,7 @@ pub fn gives(v: u32, runs: usize) -> Outcome
     ensures { λ r. ⌜ r ≡ outcome 0 v 0 0 0 false runs ⌝ }
 {
     Outcome {
-        status: 0,
+        status: scope::OK,
         values: [v, 0, 0, 0],
         negative: false,
         woken: 0,
@@ -91,49 +89,11 @@ pub fn woke(woken: usize, why: u32, runs: usize) -> Outcome
     ensures { λ r. ⌜ r ≡ woke woken why runs ⌝ }
 {
     Outcome {
-        status: 0,
+        status: scope::OK,
         values: [0; 4],
         negative: false,
         woken: woken,
         why: why,
         runs: runs,
-    }
-}
-
-// The whole answer, the state with it.
-pub fn whole(s: State, wakes: [u32; 32], o: Outcome) -> Answer
-    ensures { λ r. ⌜ r ≡ answerOf s wakes o ⌝ }
-{
-    let k = s.tasks;
-    let serial = k.serial;
-    let id = running_task(&serial, o.runs);
-    let values = o.values;
-    let mut n = s;
-    n.running = o.runs;
-    Answer {
-        state: n,
-        wakes: wakes,
-        woken: o.woken,
-        why: o.why,
-        status: o.status,
-        values: values,
-        negative: o.negative,
-        running: id,
-    }
-}
-
-// "its running task is the present one, or 0 with BAD_STATE"
-pub fn bad_state(s: State) -> Answer
-    ensures { λ r. ⌜ r ≡ badState s ⌝ }
-{
-    Answer {
-        state: s,
-        wakes: [0; 32],
-        woken: 0,
-        why: 0,
-        status: 26,
-        values: [0; 4],
-        negative: false,
-        running: 0,
     }
 }

@@ -26,24 +26,24 @@ fn caller_refusal(call: u32, mark: u32, running: usize) -> u32
     ensures { λ r. ⌜ r ≡ callerRefusal call mark running ⌝ }
 {
     if 20 <= call {
-        return 25;
+        return scope::BAD_CALL;
     }
     if 1 < mark {
-        return 25;
+        return scope::BAD_CALL;
     }
     if mark == 0 {
         if !rows::may_call(call, 0) {
-            return 25;
+            return scope::BAD_CALL;
         }
         if running < 32 {
-            return 0;
+            return scope::OK;
         }
-        return 24;
+        return scope::NO_CALLER;
     }
     if rows::may_call(call, 1) {
-        return 0;
+        return scope::OK;
     }
-    2
+    scope::ILLEGAL_USE
 }
 
 // The task calls.
@@ -282,7 +282,7 @@ pub fn tick_part(
 {
     *wakes = [0; 32];
     let refusal = caller_refusal(x.call, x.mark, running);
-    if refusal != 0 {
+    if refusal != scope::OK {
         return answers::plain(refusal, running);
     }
     ticks::tick(left, seat, joined, waker, suspended, priority, wakes)
@@ -308,12 +308,12 @@ pub fn task_part(
         (now (serial .exit)) (now (live .exit)) (now (started .exit)) (now (suspended .exit)) (now (priority .exit)) running)
         (now (wakes .exit)) r
         ≡ answered (lentTasks s (now (left .entry)) (now (seat .entry)) (now (joined .entry)) (now (name .entry)) (now (serial .entry))
-        (now (live .entry)) (now (started .entry)) (now (suspended .entry)) (now (priority .entry)) running) (x .call) (x .mark) (x .a)
-        (x .b) (x .c) (x .d) (x .e)) ⌝ }
+        (now (live .entry)) (now (started .entry)) (now (suspended .entry))
+        (now (priority .entry)) running) (x .call) (x .mark) (x .a) (x .b) (x .c) (x .d) (x .e)) ⌝ }
 {
     *wakes = [0; 32];
     let refusal = caller_refusal(x.call, x.mark, running);
-    if refusal != 0 {
+    if refusal != scope::OK {
         return answers::plain(refusal, running);
     }
     task_call(
@@ -360,7 +360,7 @@ pub fn sem_part(
 {
     *wakes = [0; 32];
     let refusal = caller_refusal(x.call, x.mark, running);
-    if refusal != 0 {
+    if refusal != scope::OK {
         return answers::plain(refusal, running);
     }
     sem_call(
@@ -403,7 +403,7 @@ pub fn pool_part(
 {
     *wakes = [0; 32];
     let refusal = caller_refusal(x.call, x.mark, running);
-    if refusal != 0 {
+    if refusal != scope::OK {
         return answers::plain(refusal, running);
     }
     pool_call(

@@ -99,12 +99,12 @@ pub fn fresh(priority: u32) -> Fresh
     if 15 < priority {
         return Fresh {
             state: fresh_state(0),
-            status: 19,
+            status: scope::INVALID_PRIORITY,
         };
     }
     Fresh {
         state: fresh_state(priority as u8),
-        status: 0,
+        status: scope::OK,
     }
 }
 
@@ -139,7 +139,7 @@ fn bad_state(wakes: &mut [u32; 32]) -> Outcome
     ensures { λ r. ⌜ (now (wakes .exit) ≡ noWakes) × (r ≡ outcome BAD-STATE 0 0 0 0 false 32) ⌝ }
 {
     *wakes = [0; 32];
-    answers::plain(26, 32)
+    answers::plain(scope::BAD_STATE, 32)
 }
 
 // The step of any state: the check, and then the step. A state that breaks a rule stays as it was.

@@ -20,18 +20,19 @@ ghost use Rattle.answers.specs.Columns.{lentPools};
 
 // "pool_create: 3, 14, 6, 7, 15": the first three, which look at the arguments alone; 0 where they are admitted.
 fn refusal(address: u32, length: u32, size: u32, options: u32) -> u32
-    ensures { λ r. ⌜ r ≡ pick (not (isArea address length)) INVALID-PARAMETER (pick (not (isSize length size)) INVALID-BUFF-SIZE (pick (ltb lastOption options) INVALID-OPTIONS OK)) ⌝ }
+    ensures { λ r. ⌜ r
+        ≡ pick (not (isArea address length)) INVALID-PARAMETER (pick (not (isSize length size)) INVALID-BUFF-SIZE (pick (ltb lastOption options) INVALID-OPTIONS OK)) ⌝ }
 {
     if !areas::is_area(address, length) {
-        return 3;
+        return scope::INVALID_PARAMETER;
     }
     if !areas::is_size(length, size) {
-        return 14;
+        return scope::INVALID_BUFF_SIZE;
     }
     if 1 < options {
-        return 6;
+        return scope::INVALID_OPTIONS;
     }
-    0
+    scope::OK
 }
 
 // The other two, and the new pool in the lowest slot that it can have. A full table is told before an overlap is looked for.
@@ -51,14 +52,18 @@ fn create_at(
     size: u32,
     options: u32,
 ) -> Outcome
-    ensures { λ r. ⌜ ((s : State) → answerOf (lentPools s (now (out .exit)) (now (names .exit)) (now (addresses .exit)) (now (lengths .exit)) (now (sizes .exit)) (now (serial .exit)) (now (live .exit)) (now (forced .exit)) running) noWakes r ≡ poolCreateAt (lentPools s (now (out .entry)) (now (names .entry)) (now (addresses .entry)) (now (lengths .entry)) (now (sizes .entry)) (now (serial .entry)) (now (live .entry)) (now (forced .entry)) running) name address length size options (lowestUsable (now (serial .entry)) (now (live .entry)))) ⌝ }
+    ensures { λ r. ⌜ ((s : State) → answerOf (lentPools s (now (out .exit)) (now (names .exit)) (now (addresses .exit))
+        (now (lengths .exit)) (now (sizes .exit)) (now (serial .exit)) (now (live .exit)) (now (forced .exit)) running) noWakes r
+        ≡ poolCreateAt (lentPools s (now (out .entry)) (now (names .entry)) (now (addresses .entry)) (now (lengths .entry))
+        (now (sizes .entry)) (now (serial .entry)) (now (live .entry))
+        (now (forced .entry)) running) name address length size options (lowestUsable (now (serial .entry)) (now (live .entry)))) ⌝ }
 {
     let i = tables::lowest_usable(&*serial, &*live);
     if 8 <= i {
-        return answers::plain(7, running);
+        return answers::plain(scope::TOO_MANY_OBJECTS, running);
     }
     if areas::overlapped(addresses, lengths, live, address, length) < 8 {
-        return answers::plain(15, running);
+        return answers::plain(scope::POOL_OVERLAP, running);
     }
     let next = serial[i] + 1;
     out[i] = 0;
@@ -88,10 +93,13 @@ pub fn pool_create(
     size: u32,
     options: u32,
 ) -> Outcome
-    ensures { λ r. ⌜ ((s : State) → answerOf (lentPools s (now (out .exit)) (now (names .exit)) (now (addresses .exit)) (now (lengths .exit)) (now (sizes .exit)) (now (serial .exit)) (now (live .exit)) (now (forced .exit)) running) noWakes r ≡ poolCreate (lentPools s (now (out .entry)) (now (names .entry)) (now (addresses .entry)) (now (lengths .entry)) (now (sizes .entry)) (now (serial .entry)) (now (live .entry)) (now (forced .entry)) running) name address length size options) ⌝ }
+    ensures { λ r. ⌜ ((s : State) → answerOf (lentPools s (now (out .exit)) (now (names .exit)) (now (addresses .exit))
+        (now (lengths .exit)) (now (sizes .exit)) (now (serial .exit)) (now (live .exit)) (now (forced .exit)) running) noWakes r
+        ≡ poolCreate (lentPools s (now (out .entry)) (now (names .entry)) (now (addresses .entry)) (now (lengths .entry))
+        (now (sizes .entry)) (now (serial .entry)) (now (live .entry)) (now (forced .entry)) running) name address length size options) ⌝ }
 {
     let status = refusal(address, length, size, options);
-    if status != 0 {
+    if status != scope::OK {
         return answers::plain(status, running);
     }
     create_at(
@@ -124,11 +132,14 @@ fn delete_at(
     i: usize,
 ) -> Outcome
     requires { ⌜ i < 8 ⌝ }
-    ensures { λ r. ⌜ ((s : State) (serial : List ℕ) → answerOf (lentPools s (now (out .exit)) (now (name .exit)) (now (address .exit)) (now (length .exit)) (now (size .exit)) serial (now (live .exit)) (now (forced .exit)) running) noWakes r ≡ poolDeleteAt (lentPools s (now (out .entry)) (now (name .entry)) (now (address .entry)) (now (length .entry)) (now (size .entry)) serial (now (live .entry)) (now (forced .entry)) running) i) ⌝ }
+    ensures { λ r. ⌜ ((s : State) (serial : List ℕ) → answerOf (lentPools s (now (out .exit)) (now (name .exit)) (now (address .exit))
+        (now (length .exit)) (now (size .exit)) serial (now (live .exit)) (now (forced .exit)) running) noWakes r
+        ≡ poolDeleteAt (lentPools s (now (out .entry)) (now (name .entry)) (now (address .entry)) (now (length .entry))
+        (now (size .entry)) serial (now (live .entry)) (now (forced .entry)) running) i) ⌝ }
 {
     if !forced[i] {
         if 0 < out[i] {
-            return answers::plain(16, running);
+            return answers::plain(scope::POOL_IN_USE, running);
         }
     }
     out[i] = 0;
@@ -138,7 +149,7 @@ fn delete_at(
     size[i] = 0;
     live[i] = false;
     forced[i] = false;
-    answers::plain(0, running)
+    answers::plain(scope::OK, running)
 }
 
 pub fn pool_delete(
@@ -153,12 +164,15 @@ pub fn pool_delete(
     running: usize,
     id: u32,
 ) -> Outcome
-    ensures { λ r. ⌜ ((s : State) → answerOf (lentPools s (now (out .exit)) (now (name .exit)) (now (address .exit)) (now (length .exit)) (now (size .exit)) (now (serial .entry)) (now (live .exit)) (now (forced .exit)) running) noWakes r ≡ poolDelete (lentPools s (now (out .entry)) (now (name .entry)) (now (address .entry)) (now (length .entry)) (now (size .entry)) (now (serial .entry)) (now (live .entry)) (now (forced .entry)) running) id) ⌝ }
+    ensures { λ r. ⌜ ((s : State) → answerOf (lentPools s (now (out .exit)) (now (name .exit)) (now (address .exit)) (now (length .exit))
+        (now (size .exit)) (now (serial .entry)) (now (live .exit)) (now (forced .exit)) running) noWakes r
+        ≡ poolDelete (lentPools s (now (out .entry)) (now (name .entry)) (now (address .entry)) (now (length .entry)) (now (size .entry))
+        (now (serial .entry)) (now (live .entry)) (now (forced .entry)) running) id) ⌝ }
 {
     match tables::find(serial, &*live, id) {
         Found::At(i) => delete_at(out, name, address, length, size, live, forced, running, i),
-        Found::Deleted => answers::plain(5, running),
-        Found::Invalid => answers::plain(4, running),
+        Found::Deleted => answers::plain(scope::OBJECT_DELETED, running),
+        Found::Invalid => answers::plain(scope::INVALID_ID, running),
     }
 }
 
@@ -169,11 +183,15 @@ pub fn pool_ident<'a>(
     running: usize,
     name: u32,
 ) -> Outcome
-    ensures { λ r. ⌜ ((s : State) → answerOf (lentPools s (s .pools .out) (now (names .entry)) (s .pools .address) (s .pools .length) (s .pools .size) (now (serial .entry)) (now (live .entry)) (s .pools .forced) running) noWakes r ≡ poolIdent (lentPools s (s .pools .out) (now (names .entry)) (s .pools .address) (s .pools .length) (s .pools .size) (now (serial .entry)) (now (live .entry)) (s .pools .forced) running) name) ⌝ }
+    ensures { λ r. ⌜ ((s : State) → answerOf (lentPools s (s .pools .out)
+        (now (names .entry)) (s .pools .address) (s .pools .length) (s .pools .size) (now (serial .entry))
+        (now (live .entry)) (s .pools .forced) running) noWakes r
+        ≡ poolIdent (lentPools s (s .pools .out) (now (names .entry)) (s .pools .address) (s .pools .length) (s .pools .size)
+        (now (serial .entry)) (now (live .entry)) (s .pools .forced) running) name) ⌝ }
 {
     let i = tables::by_name(live, names, name);
     if 8 <= i {
-        return answers::plain(8, running);
+        return answers::plain(scope::NAME_NOT_FOUND, running);
     }
     answers::gives(tables::identifier(serial[i], i), running)
 }
@@ -187,13 +205,16 @@ fn get_at(
     i: usize,
 ) -> Outcome
     requires { ⌜ i < 8 ⌝ }
-    ensures { λ r. ⌜ ((s : State) (serial : List ℕ) (live : List Bool) → answerOf (lentPools s (now (out .exit)) (s .pools .name) (now (address .entry)) (now (length .entry)) (now (size .entry)) serial live (s .pools .forced) running) noWakes r ≡ poolGetBuffAt (lentPools s (now (out .entry)) (s .pools .name) (now (address .entry)) (now (length .entry)) (now (size .entry)) serial live (s .pools .forced) running) i) ⌝ }
+    ensures { λ r. ⌜ ((s : State) (serial : List ℕ) (live : List Bool) → answerOf (lentPools s (now (out .exit)) (s .pools .name)
+        (now (address .entry)) (now (length .entry)) (now (size .entry)) serial live (s .pools .forced) running) noWakes r
+        ≡ poolGetBuffAt (lentPools s (now (out .entry)) (s .pools .name) (now (address .entry)) (now (length .entry))
+        (now (size .entry)) serial live (s .pools .forced) running) i) ⌝ }
 {
     let n = areas::buffers_of(length[i], size[i]);
     let marks = out[i];
     let k = areas::lowest_free(marks, n);
     if n <= k {
-        return answers::plain(17, running);
+        return answers::plain(scope::NO_MORE_MEMORY, running);
     }
     let at = areas::buffer_address(address[i], size[i], k);
     out[i] = areas::take(marks, k);
@@ -210,12 +231,15 @@ pub fn pool_get_buff<'a>(
     running: usize,
     id: u32,
 ) -> Outcome
-    ensures { λ r. ⌜ ((s : State) → answerOf (lentPools s (now (out .exit)) (s .pools .name) (now (address .entry)) (now (length .entry)) (now (size .entry)) (now (serial .entry)) (now (live .entry)) (s .pools .forced) running) noWakes r ≡ poolGetBuff (lentPools s (now (out .entry)) (s .pools .name) (now (address .entry)) (now (length .entry)) (now (size .entry)) (now (serial .entry)) (now (live .entry)) (s .pools .forced) running) id) ⌝ }
+    ensures { λ r. ⌜ ((s : State) → answerOf (lentPools s (now (out .exit)) (s .pools .name) (now (address .entry)) (now (length .entry))
+        (now (size .entry)) (now (serial .entry)) (now (live .entry)) (s .pools .forced) running) noWakes r
+        ≡ poolGetBuff (lentPools s (now (out .entry)) (s .pools .name) (now (address .entry)) (now (length .entry)) (now (size .entry))
+        (now (serial .entry)) (now (live .entry)) (s .pools .forced) running) id) ⌝ }
 {
     match tables::find(serial, live, id) {
         Found::At(i) => get_at(out, address, length, size, running, i),
-        Found::Deleted => answers::plain(5, running),
-        Found::Invalid => answers::plain(4, running),
+        Found::Deleted => answers::plain(scope::OBJECT_DELETED, running),
+        Found::Invalid => answers::plain(scope::INVALID_ID, running),
     }
 }
 
@@ -230,7 +254,10 @@ fn ret_at(
     i: usize,
 ) -> Outcome
     requires { ⌜ i < 8 ⌝ }
-    ensures { λ r. ⌜ ((s : State) (serial : List ℕ) (live : List Bool) → answerOf (lentPools s (now (out .exit)) (s .pools .name) (now (address .entry)) (now (length .entry)) (now (size .entry)) serial live (s .pools .forced) running) noWakes r ≡ poolRetBuffAt (lentPools s (now (out .entry)) (s .pools .name) (now (address .entry)) (now (length .entry)) (now (size .entry)) serial live (s .pools .forced) running) x i) ⌝ }
+    ensures { λ r. ⌜ ((s : State) (serial : List ℕ) (live : List Bool) → answerOf (lentPools s (now (out .exit)) (s .pools .name)
+        (now (address .entry)) (now (length .entry)) (now (size .entry)) serial live (s .pools .forced) running) noWakes r
+        ≡ poolRetBuffAt (lentPools s (now (out .entry)) (s .pools .name) (now (address .entry)) (now (length .entry))
+        (now (size .entry)) serial live (s .pools .forced) running) x i) ⌝ }
 {
     let n = areas::buffers_of(length[i], size[i]);
     let marks = out[i];
@@ -238,10 +265,10 @@ fn ret_at(
     if k < 64 {
         if areas::is_out(marks, k) {
             out[i] = areas::give_back(marks, k);
-            return answers::plain(0, running);
+            return answers::plain(scope::OK, running);
         }
     }
-    answers::plain(18, running)
+    answers::plain(scope::INVALID_BUFF, running)
 }
 
 pub fn pool_ret_buff<'a>(
@@ -255,12 +282,15 @@ pub fn pool_ret_buff<'a>(
     id: u32,
     x: u32,
 ) -> Outcome
-    ensures { λ r. ⌜ ((s : State) → answerOf (lentPools s (now (out .exit)) (s .pools .name) (now (address .entry)) (now (length .entry)) (now (size .entry)) (now (serial .entry)) (now (live .entry)) (s .pools .forced) running) noWakes r ≡ poolRetBuff (lentPools s (now (out .entry)) (s .pools .name) (now (address .entry)) (now (length .entry)) (now (size .entry)) (now (serial .entry)) (now (live .entry)) (s .pools .forced) running) id x) ⌝ }
+    ensures { λ r. ⌜ ((s : State) → answerOf (lentPools s (now (out .exit)) (s .pools .name) (now (address .entry)) (now (length .entry))
+        (now (size .entry)) (now (serial .entry)) (now (live .entry)) (s .pools .forced) running) noWakes r
+        ≡ poolRetBuff (lentPools s (now (out .entry)) (s .pools .name) (now (address .entry)) (now (length .entry)) (now (size .entry))
+        (now (serial .entry)) (now (live .entry)) (s .pools .forced) running) id x) ⌝ }
 {
     match tables::find(serial, live, id) {
         Found::At(i) => ret_at(out, address, length, size, running, x, i),
-        Found::Deleted => answers::plain(5, running),
-        Found::Invalid => answers::plain(4, running),
+        Found::Deleted => answers::plain(scope::OBJECT_DELETED, running),
+        Found::Invalid => answers::plain(scope::INVALID_ID, running),
     }
 }
 
@@ -274,7 +304,11 @@ fn info_at(
     i: usize,
 ) -> Outcome
     requires { ⌜ i < 8 ⌝ }
-    ensures { λ r. ⌜ ((s : State) (serial : List ℕ) (live : List Bool) → answerOf (lentPools s (now (out .entry)) (s .pools .name) (s .pools .address) (now (length .entry)) (now (size .entry)) serial live (now (forced .entry)) running) noWakes r ≡ poolInfoAt (lentPools s (now (out .entry)) (s .pools .name) (s .pools .address) (now (length .entry)) (now (size .entry)) serial live (now (forced .entry)) running) i) ⌝ }
+    ensures { λ r. ⌜ ((s : State) (serial : List ℕ) (live : List Bool) → answerOf (lentPools s
+        (now (out .entry)) (s .pools .name) (s .pools .address) (now (length .entry)) (now (size .entry)) serial live
+        (now (forced .entry)) running) noWakes r
+        ≡ poolInfoAt (lentPools s (now (out .entry)) (s .pools .name) (s .pools .address) (now (length .entry))
+        (now (size .entry)) serial live (now (forced .entry)) running) i) ⌝ }
 {
     let n = areas::buffers_of(length[i], size[i]);
     let free = areas::free_of(out[i], n);
@@ -291,11 +325,14 @@ pub fn pool_info<'a>(
     running: usize,
     id: u32,
 ) -> Outcome
-    ensures { λ r. ⌜ ((s : State) → answerOf (lentPools s (now (out .entry)) (s .pools .name) (s .pools .address) (now (length .entry)) (now (size .entry)) (now (serial .entry)) (now (live .entry)) (now (forced .entry)) running) noWakes r ≡ poolInfo (lentPools s (now (out .entry)) (s .pools .name) (s .pools .address) (now (length .entry)) (now (size .entry)) (now (serial .entry)) (now (live .entry)) (now (forced .entry)) running) id) ⌝ }
+    ensures { λ r. ⌜ ((s : State) → answerOf (lentPools s (now (out .entry)) (s .pools .name) (s .pools .address) (now (length .entry))
+        (now (size .entry)) (now (serial .entry)) (now (live .entry)) (now (forced .entry)) running) noWakes r
+        ≡ poolInfo (lentPools s (now (out .entry)) (s .pools .name) (s .pools .address) (now (length .entry)) (now (size .entry))
+        (now (serial .entry)) (now (live .entry)) (now (forced .entry)) running) id) ⌝ }
 {
     match tables::find(serial, live, id) {
         Found::At(i) => info_at(out, length, size, forced, running, i),
-        Found::Deleted => answers::plain(5, running),
-        Found::Invalid => answers::plain(4, running),
+        Found::Deleted => answers::plain(scope::OBJECT_DELETED, running),
+        Found::Invalid => answers::plain(scope::INVALID_ID, running),
     }
 }

@@ -14,7 +14,8 @@ ghost use lib.Dec.{eqb, ltb, leb};
 ghost use Rattle.scope.specs.Choice.{pick, number};
 ghost use Rattle.scope.specs.Seats.{isOn, queueOf, onSeat};
 ghost use Rattle.scope.specs.Views.{readyWith, less};
-ghost use Rattle.scope.specs.Rules.{seatRight, seatsRight, readyRight, readyOrderRight, waitRight, waitsRight, joinedRight, queuesSorted, countRight, countsRight, startRight, startsRight, tasksRight, semsRight, admitted, poolsRight, runningRight, sound};
+ghost use Rattle.scope.specs.Rules.{seatRight, seatsRight, readyRight, readyOrderRight, waitRight, waitsRight, joinedRight, queuesSorted, countRight};
+ghost use Rattle.scope.specs.Rules.{countsRight, startRight, startsRight, tasksRight, semsRight, admitted, poolsRight, runningRight, sound};
 
 // 1 where the two are equal, else 0.
 fn one_if(x: u16, y: u16) -> u16
@@ -354,8 +355,8 @@ fn pool_right(
     size: u32,
     forced: bool,
 ) -> bool
-    ensures { λ r. ⌜ r ≡ pick live (leb 1 serial && admitted address length size out)
-        (eqb out 0 && (eqb name 0 && (eqb address 0 && (eqb length 0 && (eqb size 0 && not forced))))) ⌝ }
+    ensures { λ r. ⌜ r
+        ≡ pick live (leb 1 serial && admitted address length size out) (eqb out 0 && (eqb name 0 && (eqb address 0 && (eqb length 0 && (eqb size 0 && not forced))))) ⌝ }
 {
     if live {
         return (1 <= serial) & is_admitted(address, length, size, out);

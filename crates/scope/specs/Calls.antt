@@ -9,7 +9,10 @@ use lib.Dec.{eqb}
 use Rattle.scope.specs.declared.State.{State}
 use Rattle.scope.specs.declared.Answer.{Answer}
 use Rattle.scope.specs.Choice.{pick}
-use Rattle.scope.specs.Statuses.{OK, PENDING, ILLEGAL-USE, INVALID-PARAMETER, INVALID-ID, OBJECT-DELETED, INVALID-OPTIONS, TOO-MANY-OBJECTS, NAME-NOT-FOUND, INVALID-COUNT, SEMAPHORE-NOT-AVAILABLE, SEMAPHORE-OVERFLOW, INVALID-BUFF-SIZE, POOL-OVERLAP, POOL-IN-USE, NO-MORE-MEMORY, INVALID-BUFF, INVALID-PRIORITY, TASK-ALREADY-STARTED, TASK-NOT-STARTED, TASK-ALREADY-SUSPENDED, TASK-NOT-SUSPENDED, NO-CALLER, BAD-CALL, BAD-STATE}
+use Rattle.scope.specs.Statuses.{OK, PENDING, ILLEGAL-USE, INVALID-PARAMETER, INVALID-ID, OBJECT-DELETED, INVALID-OPTIONS, TOO-MANY-OBJECTS}
+use Rattle.scope.specs.Statuses.{NAME-NOT-FOUND, INVALID-COUNT, SEMAPHORE-NOT-AVAILABLE, SEMAPHORE-OVERFLOW, INVALID-BUFF-SIZE, POOL-OVERLAP}
+use Rattle.scope.specs.Statuses.{POOL-IN-USE, NO-MORE-MEMORY, INVALID-BUFF, INVALID-PRIORITY, TASK-ALREADY-STARTED, TASK-NOT-STARTED}
+use Rattle.scope.specs.Statuses.{TASK-ALREADY-SUSPENDED, TASK-NOT-SUSPENDED, NO-CALLER, BAD-CALL, BAD-STATE}
 use Rattle.scope.specs.Answers.{plain}
 use Rattle.scope.specs.Tasks.{taskCreate, taskDelete, taskIdent, taskStart, taskSuspend, taskResume, taskSetPriority}
 use Rattle.scope.specs.Semaphores.{semCreate, semDelete, semIdent, semClaim, semRelease, semInfo}

@@ -14,7 +14,8 @@ use Rattle.scope.specs.declared.Answer.{Answer}
 use Rattle.scope.specs.declared.Found.{Found}
 use Rattle.scope.specs.Choice.{pick}
 use Rattle.scope.specs.Identifiers.{identifier, found, lowestUsable, byName}
-use Rattle.scope.specs.Statuses.{OK, PENDING, INVALID-PARAMETER, INVALID-OPTIONS, TOO-MANY-OBJECTS, NAME-NOT-FOUND, INVALID-COUNT, SEMAPHORE-NOT-AVAILABLE, SEMAPHORE-DELETED, SEMAPHORE-OVERFLOW, NO-CALLER}
+use Rattle.scope.specs.Statuses.{OK, PENDING, INVALID-PARAMETER, INVALID-OPTIONS, TOO-MANY-OBJECTS, NAME-NOT-FOUND, INVALID-COUNT}
+use Rattle.scope.specs.Statuses.{SEMAPHORE-NOT-AVAILABLE, SEMAPHORE-DELETED, SEMAPHORE-OVERFLOW, NO-CALLER}
 use Rattle.scope.specs.Seats.{queueSeats, firstOf, leaves, joins, becomesReady}
 use Rattle.scope.specs.Views.{withLine, withSemaphores, withWait, waitersOf, count}
 use Rattle.scope.specs.Answers.{noWakes, bitOf, answer, plain, gives, wakesWith, onFound}

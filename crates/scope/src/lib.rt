@@ -7,6 +7,61 @@ pub const SEMAPHORES: usize = 16;
 
 pub const POOLS: usize = 8;
 
+// "Status numbers", by name. (specs/Statuses.antt.)
+pub const OK: u32 = 0;
+
+pub const PENDING: u32 = 1;
+
+pub const ILLEGAL_USE: u32 = 2;
+
+pub const INVALID_PARAMETER: u32 = 3;
+
+pub const INVALID_ID: u32 = 4;
+
+pub const OBJECT_DELETED: u32 = 5;
+
+pub const INVALID_OPTIONS: u32 = 6;
+
+pub const TOO_MANY_OBJECTS: u32 = 7;
+
+pub const NAME_NOT_FOUND: u32 = 8;
+
+pub const INVALID_COUNT: u32 = 9;
+
+pub const SEMAPHORE_NOT_AVAILABLE: u32 = 10;
+
+pub const SEMAPHORE_DELETED: u32 = 11;
+
+pub const SEMAPHORE_OVERFLOW: u32 = 12;
+
+pub const TIME_OUT: u32 = 13;
+
+pub const INVALID_BUFF_SIZE: u32 = 14;
+
+pub const POOL_OVERLAP: u32 = 15;
+
+pub const POOL_IN_USE: u32 = 16;
+
+pub const NO_MORE_MEMORY: u32 = 17;
+
+pub const INVALID_BUFF: u32 = 18;
+
+pub const INVALID_PRIORITY: u32 = 19;
+
+pub const TASK_ALREADY_STARTED: u32 = 20;
+
+pub const TASK_NOT_STARTED: u32 = 21;
+
+pub const TASK_ALREADY_SUSPENDED: u32 = 22;
+
+pub const TASK_NOT_SUSPENDED: u32 = 23;
+
+pub const NO_CALLER: u32 = 24;
+
+pub const BAD_CALL: u32 = 25;
+
+pub const BAD_STATE: u32 = 26;
+
 // Where each task stands, and what it waits with.
 // A seat is queue × 64 + place, place 1 first, 0 for a task that stands nowhere. Queue i + 1 is the wait queue of
 // semaphore i; queue 32 + p holds the ready tasks of priority p. So one number says which queue a task stands in and

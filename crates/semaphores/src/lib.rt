@@ -12,7 +12,9 @@ ghost use lib.Dec.{eqb};
 ghost use Rattle.scope.specs.declared.State.{State};
 ghost use Rattle.scope.specs.declared.Tasks.{Tasks};
 ghost use Rattle.scope.specs.Answers.{noWakes};
-ghost use Rattle.scope.specs.Semaphores.{semCreateAt, semCreate, wokenSeats, wake, wakeNext, noneWoken, wakeAll, semDeleteAt, semDelete, semIdentAt, semIdent, isTimeOut, queueKey, waits, semWaitAt, semClaimAt, semClaim, semReleaseAt, semRelease, semInfoAt, semInfo};
+ghost use Rattle.scope.specs.Semaphores.{semCreateAt, semCreate, wokenSeats, wake, wakeNext, noneWoken, wakeAll, semDeleteAt, semDelete, semIdentAt};
+ghost use Rattle.scope.specs.Semaphores.{semIdent, isTimeOut, queueKey, waits, semWaitAt, semClaimAt, semClaim, semReleaseAt, semRelease, semInfoAt};
+ghost use Rattle.scope.specs.Semaphores.{semInfo};
 ghost use Rattle.answers.specs.Outcomes.{answerOf};
 ghost use Rattle.answers.specs.Columns.{lineOf, wakers, wakingOf, lentSemaphores};
 
@@ -29,10 +31,16 @@ fn create_at(
     i: usize,
 ) -> Outcome
     requires { ⌜ (length (now serial) ≡ 16) × (i < 16 → getD (now serial) i 0 < 65535) ⌝ }
-    ensures { λ r. ⌜ ((s : State) → answerOf (lentSemaphores s (s .line .left) (s .line .seat) (s .line .joined) (s .tasks .serial) (s .tasks .suspended) (s .tasks .priority) (now (name .exit)) (now (serial .exit)) (now (units .exit)) (now (live .exit)) (now (fifo .exit)) running) noWakes r ≡ semCreateAt (lentSemaphores s (s .line .left) (s .line .seat) (s .line .joined) (s .tasks .serial) (s .tasks .suspended) (s .tasks .priority) (now (name .entry)) (now (serial .entry)) (now (units .entry)) (now (live .entry)) (now (fifo .entry)) running) what count options i) ⌝ }
+    ensures { λ r. ⌜ ((s : State) → answerOf
+        (lentSemaphores s (s .line .left) (s .line .seat) (s .line .joined) (s .tasks .serial) (s .tasks .suspended) (s .tasks .priority)
+        (now (name .exit)) (now (serial .exit)) (now (units .exit)) (now (live .exit)) (now (fifo .exit)) running) noWakes r
+        ≡ semCreateAt
+        (lentSemaphores s (s .line .left) (s .line .seat) (s .line .joined) (s .tasks .serial) (s .tasks .suspended) (s .tasks .priority)
+        (now (name .entry)) (now (serial .entry)) (now (units .entry)) (now (live .entry))
+        (now (fifo .entry)) running) what count options i) ⌝ }
 {
     if 16 <= i {
-        return answers::plain(7, running);
+        return answers::plain(scope::TOO_MANY_OBJECTS, running);
     }
     let next = serial[i] + 1;
     name[i] = what;
@@ -54,13 +62,19 @@ pub fn sem_create(
     count: u32,
     options: u32,
 ) -> Outcome
-    ensures { λ r. ⌜ ((s : State) → answerOf (lentSemaphores s (s .line .left) (s .line .seat) (s .line .joined) (s .tasks .serial) (s .tasks .suspended) (s .tasks .priority) (now (name .exit)) (now (serial .exit)) (now (units .exit)) (now (live .exit)) (now (fifo .exit)) running) noWakes r ≡ semCreate (lentSemaphores s (s .line .left) (s .line .seat) (s .line .joined) (s .tasks .serial) (s .tasks .suspended) (s .tasks .priority) (now (name .entry)) (now (serial .entry)) (now (units .entry)) (now (live .entry)) (now (fifo .entry)) running) what count options) ⌝ }
+    ensures { λ r. ⌜ ((s : State) → answerOf
+        (lentSemaphores s (s .line .left) (s .line .seat) (s .line .joined) (s .tasks .serial) (s .tasks .suspended) (s .tasks .priority)
+        (now (name .exit)) (now (serial .exit)) (now (units .exit)) (now (live .exit)) (now (fifo .exit)) running) noWakes r
+        ≡ semCreate
+        (lentSemaphores s (s .line .left) (s .line .seat) (s .line .joined) (s .tasks .serial) (s .tasks .suspended) (s .tasks .priority)
+        (now (name .entry)) (now (serial .entry)) (now (units .entry)) (now (live .entry))
+        (now (fifo .entry)) running) what count options) ⌝ }
 {
     if 32767 < count {
-        return answers::plain(9, running);
+        return answers::plain(scope::INVALID_COUNT, running);
     }
     if 1 < options {
-        return answers::plain(6, running);
+        return answers::plain(scope::INVALID_OPTIONS, running);
     }
     let i = tables::lowest_usable(&serial[..], &live[..]);
     create_at(
@@ -102,7 +116,9 @@ pub fn wake_next(
     t: usize,
 )
     requires { ⌜ (t < 32) × (woken < 32) ⌝ }
-    ensures { λ r. ⌜ ((k : Tasks) → wakingOf (now (left .exit)) (now (seat .exit)) (now (joined .exit)) (now (wakes .exit)) (woken + 1) ≡ wakeNext (wakers k (now (serial .entry)) (now (suspended .entry)) (now (priority .entry))) (wakingOf (now (left .entry)) (now (seat .entry)) (now (joined .entry)) (now (wakes .entry)) woken) t) ⌝ }
+    ensures { λ r. ⌜ ((k : Tasks) → wakingOf (now (left .exit)) (now (seat .exit)) (now (joined .exit))
+        (now (wakes .exit)) (woken + 1) ≡ wakeNext (wakers k (now (serial .entry)) (now (suspended .entry))
+        (now (priority .entry))) (wakingOf (now (left .entry)) (now (seat .entry)) (now (joined .entry)) (now (wakes .entry)) woken) t) ⌝ }
 {
     *seat = woken_seats(*seat, *joined, suspended[t], priority[t], t);
     left[t] = 0;
@@ -123,7 +139,9 @@ fn wake_all(
     i: usize,
 ) -> usize
     requires { ⌜ i < 16 ⌝ }
-    ensures { λ r. ⌜ ((k : Tasks) → wakingOf (now (left .exit)) (now (seat .exit)) (now (joined .exit)) (now (wakes .exit)) r ≡ wakeAll (wakers k (now (serial .entry)) (now (suspended .entry)) (now (priority .entry))) i 32 (wakingOf (now (left .entry)) (now (seat .entry)) (now (joined .entry)) (now (wakes .entry)) 0)) ⌝ }
+    ensures { λ r. ⌜ ((k : Tasks) → wakingOf (now (left .exit)) (now (seat .exit)) (now (joined .exit)) (now (wakes .exit)) r
+        ≡ wakeAll (wakers k (now (serial .entry)) (now (suspended .entry)) (now (priority .entry))) i 32 (wakingOf (now (left .entry))
+        (now (seat .entry)) (now (joined .entry)) (now (wakes .entry)) 0)) ⌝ }
 {
     let mut n: usize = 0;
     while n < 32 {
@@ -153,14 +171,19 @@ fn delete_at(
 ) -> Outcome
     requires { ⌜ i < 16 ⌝ }
     requires { ⌜ now wakes ≡ noWakes ⌝ }
-    ensures { λ r. ⌜ ((s : State) (serial : List ℕ) (running : ℕ) → answerOf (lentSemaphores s (now (left .exit)) (now (seat .exit)) (now (joined .exit)) (now (waker .entry)) (now (suspended .entry)) (now (priority .entry)) (now (name .exit)) serial (now (units .exit)) (now (live .exit)) (now (fifo .exit)) running) (now (wakes .exit)) r ≡ semDeleteAt (lentSemaphores s (now (left .entry)) (now (seat .entry)) (now (joined .entry)) (now (waker .entry)) (now (suspended .entry)) (now (priority .entry)) (now (name .entry)) serial (now (units .entry)) (now (live .entry)) (now (fifo .entry)) running) i) ⌝ }
+    ensures { λ r. ⌜ ((s : State) (serial : List ℕ) (running : ℕ) → answerOf (lentSemaphores s (now (left .exit)) (now (seat .exit))
+        (now (joined .exit)) (now (waker .entry)) (now (suspended .entry)) (now (priority .entry)) (now (name .exit)) serial
+        (now (units .exit)) (now (live .exit)) (now (fifo .exit)) running) (now (wakes .exit)) r
+        ≡ semDeleteAt (lentSemaphores s (now (left .entry)) (now (seat .entry)) (now (joined .entry)) (now (waker .entry))
+        (now (suspended .entry)) (now (priority .entry)) (now (name .entry)) serial (now (units .entry)) (now (live .entry))
+        (now (fifo .entry)) running) i) ⌝ }
 {
     let woken = wake_all(left, seat, joined, waker, suspended, priority, wakes, i);
     name[i] = 0;
     units[i] = 0;
     live[i] = false;
     fifo[i] = false;
-    answers::woke(woken, 11, seats::runner(*seat))
+    answers::woke(woken, scope::SEMAPHORE_DELETED, seats::runner(*seat))
 }
 
 pub fn sem_delete(
@@ -179,7 +202,12 @@ pub fn sem_delete(
     running: usize,
     id: u32,
 ) -> Outcome
-    ensures { λ r. ⌜ ((s : State) → answerOf (lentSemaphores s (now (left .exit)) (now (seat .exit)) (now (joined .exit)) (now (waker .entry)) (now (suspended .entry)) (now (priority .entry)) (now (name .exit)) (now (serial .entry)) (now (units .exit)) (now (live .exit)) (now (fifo .exit)) running) (now (wakes .exit)) r ≡ semDelete (lentSemaphores s (now (left .entry)) (now (seat .entry)) (now (joined .entry)) (now (waker .entry)) (now (suspended .entry)) (now (priority .entry)) (now (name .entry)) (now (serial .entry)) (now (units .entry)) (now (live .entry)) (now (fifo .entry)) running) id) ⌝ }
+    ensures { λ r. ⌜ ((s : State) → answerOf (lentSemaphores s (now (left .exit)) (now (seat .exit)) (now (joined .exit))
+        (now (waker .entry)) (now (suspended .entry)) (now (priority .entry)) (now (name .exit)) (now (serial .entry)) (now (units .exit))
+        (now (live .exit)) (now (fifo .exit)) running) (now (wakes .exit)) r
+        ≡ semDelete (lentSemaphores s (now (left .entry)) (now (seat .entry)) (now (joined .entry)) (now (waker .entry))
+        (now (suspended .entry)) (now (priority .entry)) (now (name .entry)) (now (serial .entry)) (now (units .entry)) (now (live .entry))
+        (now (fifo .entry)) running) id) ⌝ }
 {
     *wakes = [0; 32];
     match tables::find(serial, &live[..], id) {
@@ -197,8 +225,8 @@ pub fn sem_delete(
             wakes,
             i,
         ),
-        Found::Deleted => answers::plain(5, running),
-        Found::Invalid => answers::plain(4, running),
+        Found::Deleted => answers::plain(scope::OBJECT_DELETED, running),
+        Found::Invalid => answers::plain(scope::INVALID_ID, running),
     }
 }
 
@@ -209,11 +237,16 @@ pub fn sem_ident<'a>(
     running: usize,
     what: u32,
 ) -> Outcome
-    ensures { λ r. ⌜ ((s : State) → answerOf (lentSemaphores s (s .line .left) (s .line .seat) (s .line .joined) (s .tasks .serial) (s .tasks .suspended) (s .tasks .priority) (now (name .entry)) (now (serial .entry)) (s .semaphores .units) (now (live .entry)) (s .semaphores .fifo) running) noWakes r ≡ semIdent (lentSemaphores s (s .line .left) (s .line .seat) (s .line .joined) (s .tasks .serial) (s .tasks .suspended) (s .tasks .priority) (now (name .entry)) (now (serial .entry)) (s .semaphores .units) (now (live .entry)) (s .semaphores .fifo) running) what) ⌝ }
+    ensures { λ r. ⌜ ((s : State) → answerOf
+        (lentSemaphores s (s .line .left) (s .line .seat) (s .line .joined) (s .tasks .serial) (s .tasks .suspended) (s .tasks .priority)
+        (now (name .entry)) (now (serial .entry)) (s .semaphores .units) (now (live .entry)) (s .semaphores .fifo) running) noWakes r
+        ≡ semIdent
+        (lentSemaphores s (s .line .left) (s .line .seat) (s .line .joined) (s .tasks .serial) (s .tasks .suspended) (s .tasks .priority)
+        (now (name .entry)) (now (serial .entry)) (s .semaphores .units) (now (live .entry)) (s .semaphores .fifo) running) what) ⌝ }
 {
     let i = tables::by_name(live, name, what);
     if 16 <= i {
-        return answers::plain(8, running);
+        return answers::plain(scope::NAME_NOT_FOUND, running);
     }
     answers::gives(tables::identifier(serial[i], i), running)
 }
@@ -240,7 +273,8 @@ fn wait(
     t: usize,
 )
     requires { ⌜ (i < 16) × (t < 32) ⌝ }
-    ensures { λ r. ⌜ lineOf (now (left .exit)) (now (seat .exit)) (now (joined .exit)) ≡ waits (lineOf (now (left .entry)) (now (seat .entry)) (now (joined .entry))) i fifo priority ticks t ⌝ }
+    ensures { λ r. ⌜ lineOf (now (left .exit)) (now (seat .exit)) (now (joined .exit)) ≡ waits (lineOf (now (left .entry))
+        (now (seat .entry)) (now (joined .entry))) i fifo priority ticks t ⌝ }
 {
     let q = *seat;
     let keys = *joined;
@@ -273,10 +307,14 @@ fn wait_at(
     i: usize,
 ) -> Outcome
     requires { ⌜ i < 16 ⌝ }
-    ensures { λ r. ⌜ ((s : State) (serial units : List ℕ) (live : List Bool) → answerOf (lentSemaphores s (now (left .exit)) (now (seat .exit)) (now (joined .exit)) (s .tasks .serial) (s .tasks .suspended) (now (priority .entry)) (s .semaphores .name) serial units live (now (fifo .entry)) running) noWakes r ≡ semWaitAt (lentSemaphores s (now (left .entry)) (now (seat .entry)) (now (joined .entry)) (s .tasks .serial) (s .tasks .suspended) (now (priority .entry)) (s .semaphores .name) serial units live (now (fifo .entry)) running) ticks i) ⌝ }
+    ensures { λ r. ⌜ ((s : State) (serial units : List ℕ) (live : List Bool) → answerOf (lentSemaphores s (now (left .exit))
+        (now (seat .exit)) (now (joined .exit)) (s .tasks .serial) (s .tasks .suspended)
+        (now (priority .entry)) (s .semaphores .name) serial units live (now (fifo .entry)) running) noWakes r
+        ≡ semWaitAt (lentSemaphores s (now (left .entry)) (now (seat .entry)) (now (joined .entry)) (s .tasks .serial) (s .tasks .suspended)
+        (now (priority .entry)) (s .semaphores .name) serial units live (now (fifo .entry)) running) ticks i) ⌝ }
 {
     if 32 <= running {
-        return answers::plain(24, running);
+        return answers::plain(scope::NO_CALLER, running);
     }
     wait(
         left,
@@ -288,7 +326,7 @@ fn wait_at(
         ticks,
         running,
     );
-    answers::plain(1, seats::runner(*seat))
+    answers::plain(scope::PENDING, seats::runner(*seat))
 }
 
 fn claim_at(
@@ -304,21 +342,26 @@ fn claim_at(
     i: usize,
 ) -> Outcome
     requires { ⌜ i < 16 ⌝ }
-    ensures { λ r. ⌜ ((s : State) (serial : List ℕ) (live : List Bool) → answerOf (lentSemaphores s (now (left .exit)) (now (seat .exit)) (now (joined .exit)) (s .tasks .serial) (s .tasks .suspended) (now (priority .entry)) (s .semaphores .name) serial (now (units .exit)) live (now (fifo .entry)) running) noWakes r ≡ semClaimAt (lentSemaphores s (now (left .entry)) (now (seat .entry)) (now (joined .entry)) (s .tasks .serial) (s .tasks .suspended) (now (priority .entry)) (s .semaphores .name) serial (now (units .entry)) live (now (fifo .entry)) running) options ticks i) ⌝ }
+    ensures { λ r. ⌜ ((s : State) (serial : List ℕ) (live : List Bool) → answerOf (lentSemaphores s (now (left .exit)) (now (seat .exit))
+        (now (joined .exit)) (s .tasks .serial) (s .tasks .suspended) (now (priority .entry)) (s .semaphores .name) serial
+        (now (units .exit)) live (now (fifo .entry)) running) noWakes r
+        ≡ semClaimAt (lentSemaphores s (now (left .entry)) (now (seat .entry))
+        (now (joined .entry)) (s .tasks .serial) (s .tasks .suspended) (now (priority .entry)) (s .semaphores .name) serial
+        (now (units .entry)) live (now (fifo .entry)) running) options ticks i) ⌝ }
 {
     if 1 < options {
-        return answers::plain(6, running);
+        return answers::plain(scope::INVALID_OPTIONS, running);
     }
     if lacks_time_out(options, ticks) {
-        return answers::plain(3, running);
+        return answers::plain(scope::INVALID_PARAMETER, running);
     }
     let free = units[i];
     if 0 < free {
         units[i] = free - 1;
-        return answers::plain(0, running);
+        return answers::plain(scope::OK, running);
     }
     if options == 1 {
-        return answers::plain(10, running);
+        return answers::plain(scope::SEMAPHORE_NOT_AVAILABLE, running);
     }
     wait_at(left, seat, joined, priority, fifo, running, ticks, i)
 }
@@ -337,7 +380,12 @@ pub fn sem_claim<'a>(
     options: u32,
     ticks: u32,
 ) -> Outcome
-    ensures { λ r. ⌜ ((s : State) → answerOf (lentSemaphores s (now (left .exit)) (now (seat .exit)) (now (joined .exit)) (s .tasks .serial) (s .tasks .suspended) (now (priority .entry)) (s .semaphores .name) (now (serial .entry)) (now (units .exit)) (now (live .entry)) (now (fifo .entry)) running) noWakes r ≡ semClaim (lentSemaphores s (now (left .entry)) (now (seat .entry)) (now (joined .entry)) (s .tasks .serial) (s .tasks .suspended) (now (priority .entry)) (s .semaphores .name) (now (serial .entry)) (now (units .entry)) (now (live .entry)) (now (fifo .entry)) running) id options ticks) ⌝ }
+    ensures { λ r. ⌜ ((s : State) → answerOf (lentSemaphores s (now (left .exit)) (now (seat .exit))
+        (now (joined .exit)) (s .tasks .serial) (s .tasks .suspended) (now (priority .entry)) (s .semaphores .name) (now (serial .entry))
+        (now (units .exit)) (now (live .entry)) (now (fifo .entry)) running) noWakes r
+        ≡ semClaim (lentSemaphores s (now (left .entry)) (now (seat .entry)) (now (joined .entry)) (s .tasks .serial) (s .tasks .suspended)
+        (now (priority .entry)) (s .semaphores .name) (now (serial .entry)) (now (units .entry)) (now (live .entry))
+        (now (fifo .entry)) running) id options ticks) ⌝ }
 {
     match tables::find(serial, live, id) {
         Found::At(i) => claim_at(
@@ -352,8 +400,8 @@ pub fn sem_claim<'a>(
             ticks,
             i,
         ),
-        Found::Deleted => answers::plain(5, running),
-        Found::Invalid => answers::plain(4, running),
+        Found::Deleted => answers::plain(scope::OBJECT_DELETED, running),
+        Found::Invalid => answers::plain(scope::INVALID_ID, running),
     }
 }
 
@@ -372,19 +420,23 @@ fn release_at(
 ) -> Outcome
     requires { ⌜ i < 16 ⌝ }
     requires { ⌜ now wakes ≡ noWakes ⌝ }
-    ensures { λ r. ⌜ ((s : State) (name serial : List ℕ) (live fifo : List Bool) → answerOf (lentSemaphores s (now (left .exit)) (now (seat .exit)) (now (joined .exit)) (now (waker .entry)) (now (suspended .entry)) (now (priority .entry)) name serial (now (units .exit)) live fifo running) (now (wakes .exit)) r ≡ semReleaseAt (lentSemaphores s (now (left .entry)) (now (seat .entry)) (now (joined .entry)) (now (waker .entry)) (now (suspended .entry)) (now (priority .entry)) name serial (now (units .entry)) live fifo running) i) ⌝ }
+    ensures { λ r. ⌜ ((s : State) (name serial : List ℕ) (live fifo : List Bool) → answerOf (lentSemaphores s (now (left .exit))
+        (now (seat .exit)) (now (joined .exit)) (now (waker .entry)) (now (suspended .entry)) (now (priority .entry)) name serial
+        (now (units .exit)) live fifo running) (now (wakes .exit)) r
+        ≡ semReleaseAt (lentSemaphores s (now (left .entry)) (now (seat .entry)) (now (joined .entry)) (now (waker .entry))
+        (now (suspended .entry)) (now (priority .entry)) name serial (now (units .entry)) live fifo running) i) ⌝ }
 {
     let t = seats::first_waiter(*seat, i);
     if t < 32 {
         wake_next(left, seat, joined, waker, suspended, priority, wakes, 0, t);
-        return answers::woke(1, 0, seats::runner(*seat));
+        return answers::woke(1, scope::OK, seats::runner(*seat));
     }
     let free = units[i];
     if 32767 <= free {
-        return answers::plain(12, running);
+        return answers::plain(scope::SEMAPHORE_OVERFLOW, running);
     }
     units[i] = free + 1;
-    answers::plain(0, running)
+    answers::plain(scope::OK, running)
 }
 
 pub fn sem_release<'a>(
@@ -401,7 +453,12 @@ pub fn sem_release<'a>(
     running: usize,
     id: u32,
 ) -> Outcome
-    ensures { λ r. ⌜ ((s : State) → answerOf (lentSemaphores s (now (left .exit)) (now (seat .exit)) (now (joined .exit)) (now (waker .entry)) (now (suspended .entry)) (now (priority .entry)) (s .semaphores .name) (now (serial .entry)) (now (units .exit)) (now (live .entry)) (s .semaphores .fifo) running) (now (wakes .exit)) r ≡ semRelease (lentSemaphores s (now (left .entry)) (now (seat .entry)) (now (joined .entry)) (now (waker .entry)) (now (suspended .entry)) (now (priority .entry)) (s .semaphores .name) (now (serial .entry)) (now (units .entry)) (now (live .entry)) (s .semaphores .fifo) running) id) ⌝ }
+    ensures { λ r. ⌜ ((s : State) → answerOf (lentSemaphores s (now (left .exit)) (now (seat .exit)) (now (joined .exit))
+        (now (waker .entry)) (now (suspended .entry)) (now (priority .entry)) (s .semaphores .name) (now (serial .entry))
+        (now (units .exit)) (now (live .entry)) (s .semaphores .fifo) running) (now (wakes .exit)) r
+        ≡ semRelease (lentSemaphores s (now (left .entry)) (now (seat .entry)) (now (joined .entry)) (now (waker .entry))
+        (now (suspended .entry)) (now (priority .entry)) (s .semaphores .name) (now (serial .entry)) (now (units .entry))
+        (now (live .entry)) (s .semaphores .fifo) running) id) ⌝ }
 {
     *wakes = [0; 32];
     match tables::find(serial, live, id) {
@@ -417,8 +474,8 @@ pub fn sem_release<'a>(
             running,
             i,
         ),
-        Found::Deleted => answers::plain(5, running),
-        Found::Invalid => answers::plain(4, running),
+        Found::Deleted => answers::plain(scope::OBJECT_DELETED, running),
+        Found::Invalid => answers::plain(scope::INVALID_ID, running),
     }
 }
 
@@ -437,7 +494,12 @@ fn info_at(
     i: usize,
 ) -> Outcome
     requires { ⌜ i < 16 ⌝ }
-    ensures { λ r. ⌜ ((s : State) (serial : List ℕ) (live : List Bool) → answerOf (lentSemaphores s (s .line .left) (now (seat .entry)) (s .line .joined) (s .tasks .serial) (s .tasks .suspended) (s .tasks .priority) (s .semaphores .name) serial (now (units .entry)) live (now (fifo .entry)) running) noWakes r ≡ semInfoAt (lentSemaphores s (s .line .left) (now (seat .entry)) (s .line .joined) (s .tasks .serial) (s .tasks .suspended) (s .tasks .priority) (s .semaphores .name) serial (now (units .entry)) live (now (fifo .entry)) running) i) ⌝ }
+    ensures { λ r. ⌜ ((s : State) (serial : List ℕ) (live : List Bool) → answerOf (lentSemaphores s (s .line .left)
+        (now (seat .entry)) (s .line .joined) (s .tasks .serial) (s .tasks .suspended) (s .tasks .priority) (s .semaphores .name) serial
+        (now (units .entry)) live (now (fifo .entry)) running) noWakes r
+        ≡ semInfoAt (lentSemaphores s (s .line .left)
+        (now (seat .entry)) (s .line .joined) (s .tasks .serial) (s .tasks .suspended) (s .tasks .priority) (s .semaphores .name) serial
+        (now (units .entry)) live (now (fifo .entry)) running) i) ⌝ }
 {
     let waiting = seats::waiters(*seat, i) as u32;
     let options = answers::bit(fifo[i]);
@@ -457,11 +519,16 @@ pub fn sem_info<'a>(
     running: usize,
     id: u32,
 ) -> Outcome
-    ensures { λ r. ⌜ ((s : State) → answerOf (lentSemaphores s (s .line .left) (now (seat .entry)) (s .line .joined) (s .tasks .serial) (s .tasks .suspended) (s .tasks .priority) (s .semaphores .name) (now (serial .entry)) (now (units .entry)) (now (live .entry)) (now (fifo .entry)) running) noWakes r ≡ semInfo (lentSemaphores s (s .line .left) (now (seat .entry)) (s .line .joined) (s .tasks .serial) (s .tasks .suspended) (s .tasks .priority) (s .semaphores .name) (now (serial .entry)) (now (units .entry)) (now (live .entry)) (now (fifo .entry)) running) id) ⌝ }
+    ensures { λ r. ⌜ ((s : State) → answerOf (lentSemaphores s (s .line .left)
+        (now (seat .entry)) (s .line .joined) (s .tasks .serial) (s .tasks .suspended) (s .tasks .priority) (s .semaphores .name)
+        (now (serial .entry)) (now (units .entry)) (now (live .entry)) (now (fifo .entry)) running) noWakes r
+        ≡ semInfo (lentSemaphores s (s .line .left)
+        (now (seat .entry)) (s .line .joined) (s .tasks .serial) (s .tasks .suspended) (s .tasks .priority) (s .semaphores .name)
+        (now (serial .entry)) (now (units .entry)) (now (live .entry)) (now (fifo .entry)) running) id) ⌝ }
 {
     match tables::find(serial, live, id) {
         Found::At(i) => info_at(seat, units, fifo, running, i),
-        Found::Deleted => answers::plain(5, running),
-        Found::Invalid => answers::plain(4, running),
+        Found::Deleted => answers::plain(scope::OBJECT_DELETED, running),
+        Found::Invalid => answers::plain(scope::INVALID_ID, running),
     }
 }

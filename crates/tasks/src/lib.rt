@@ -13,7 +13,8 @@ ghost use Rattle.scope.specs.declared.Line.{Line};
 ghost use Rattle.scope.specs.Answers.{noWakes};
 ghost use Rattle.scope.specs.Seats.{becomesReady};
 ghost use Rattle.scope.specs.Views.{readyWith};
-ghost use Rattle.scope.specs.Tasks.{taskFound, taskCreateAt, taskCreate, taskDeleteAt, taskDelete, taskIdent, taskStartAt, taskStart, taskSuspendAt, taskSuspend, taskResumeAt, taskResume, taskSetPriorityAt, taskSetPriority};
+ghost use Rattle.scope.specs.Tasks.{taskFound, taskCreateAt, taskCreate, taskDeleteAt, taskDelete, taskIdent, taskStartAt, taskStart, taskSuspendAt};
+ghost use Rattle.scope.specs.Tasks.{taskSuspend, taskResumeAt, taskResume, taskSetPriorityAt, taskSetPriority};
 ghost use Rattle.answers.specs.Outcomes.{answerOf};
 ghost use Rattle.answers.specs.Columns.{tasksOf, stateOf, lentTasks};
 
@@ -22,7 +23,9 @@ const LAST_PRIORITY: u32 = 15;
 
 // What a task's identifier names, and that it has a place in the table; 0 is SELF, the caller.
 fn find<'a>(serial: &'a [u16; 32], live: &'a [bool; 32], running: usize, id: u32) -> Found
-    ensures names { λ r. ⌜ ((s : State) (l : Line) (name priority : List ℕ) (started suspended : List Bool) → r ≡ taskFound (stateOf l (tasksOf name (now (serial .entry)) (now (live .entry)) started suspended priority) (s .semaphores) (s .pools) running) id) ⌝ }
+    ensures names { λ r. ⌜ ((s : State) (l : Line) (name priority : List ℕ) (started suspended : List Bool) → r
+        ≡ taskFound (stateOf l (tasksOf name (now (serial .entry))
+        (now (live .entry)) started suspended priority) (s .semaphores) (s .pools) running) id) ⌝ }
     ensures inside { λ r. ⌜ ((t : ℕ) → r ≡ Found.At t → t < 32) ⌝ }
 {
     if id == 0 {
@@ -55,10 +58,13 @@ fn create_at(
     t: usize,
 ) -> Outcome
     requires { ⌜ (length (now serial) ≡ 32) × (t < 32 → getD (now serial) t 0 < 65535) ⌝ }
-    ensures { λ r. ⌜ ((s : State) → answerOf (lentTasks s (s .line .left) (s .line .seat) (s .line .joined) (now (names .exit)) (now (serial .exit)) (now (live .exit)) (now (started .exit)) (now (suspended .exit)) (now (priorities .exit)) running) noWakes r ≡ taskCreateAt (lentTasks s (s .line .left) (s .line .seat) (s .line .joined) (now (names .entry)) (now (serial .entry)) (now (live .entry)) (now (started .entry)) (now (suspended .entry)) (now (priorities .entry)) running) name priority t) ⌝ }
+    ensures { λ r. ⌜ ((s : State) → answerOf (lentTasks s (s .line .left) (s .line .seat) (s .line .joined) (now (names .exit))
+        (now (serial .exit)) (now (live .exit)) (now (started .exit)) (now (suspended .exit)) (now (priorities .exit)) running) noWakes r
+        ≡ taskCreateAt (lentTasks s (s .line .left) (s .line .seat) (s .line .joined) (now (names .entry)) (now (serial .entry))
+        (now (live .entry)) (now (started .entry)) (now (suspended .entry)) (now (priorities .entry)) running) name priority t) ⌝ }
 {
     if 32 <= t {
-        return answers::plain(7, running);
+        return answers::plain(scope::TOO_MANY_OBJECTS, running);
     }
     let next = serial[t] + 1;
     names[t] = name;
@@ -81,10 +87,13 @@ pub fn task_create(
     name: u32,
     priority: u32,
 ) -> Outcome
-    ensures { λ r. ⌜ ((s : State) → answerOf (lentTasks s (s .line .left) (s .line .seat) (s .line .joined) (now (names .exit)) (now (serial .exit)) (now (live .exit)) (now (started .exit)) (now (suspended .exit)) (now (priorities .exit)) running) noWakes r ≡ taskCreate (lentTasks s (s .line .left) (s .line .seat) (s .line .joined) (now (names .entry)) (now (serial .entry)) (now (live .entry)) (now (started .entry)) (now (suspended .entry)) (now (priorities .entry)) running) name priority) ⌝ }
+    ensures { λ r. ⌜ ((s : State) → answerOf (lentTasks s (s .line .left) (s .line .seat) (s .line .joined) (now (names .exit))
+        (now (serial .exit)) (now (live .exit)) (now (started .exit)) (now (suspended .exit)) (now (priorities .exit)) running) noWakes r
+        ≡ taskCreate (lentTasks s (s .line .left) (s .line .seat) (s .line .joined) (now (names .entry)) (now (serial .entry))
+        (now (live .entry)) (now (started .entry)) (now (suspended .entry)) (now (priorities .entry)) running) name priority) ⌝ }
 {
     if LAST_PRIORITY < priority {
-        return answers::plain(19, running);
+        return answers::plain(scope::INVALID_PRIORITY, running);
     }
     let t = tables::lowest_usable(serial, live);
     create_at(
@@ -114,7 +123,11 @@ fn delete_at(
     t: usize,
 ) -> Outcome
     requires { ⌜ t < 32 ⌝ }
-    ensures { λ r. ⌜ ((s : State) (serial : List ℕ) (running : ℕ) → answerOf (lentTasks s (now (left .exit)) (now (seat .exit)) (now (joined .exit)) (now (name .exit)) serial (now (live .exit)) (now (started .exit)) (now (suspended .exit)) (now (priority .exit)) running) noWakes r ≡ taskDeleteAt (lentTasks s (now (left .entry)) (now (seat .entry)) (now (joined .entry)) (now (name .entry)) serial (now (live .entry)) (now (started .entry)) (now (suspended .entry)) (now (priority .entry)) running) t) ⌝ }
+    ensures { λ r. ⌜ ((s : State) (serial : List ℕ) (running : ℕ) → answerOf (lentTasks s (now (left .exit)) (now (seat .exit))
+        (now (joined .exit)) (now (name .exit)) serial (now (live .exit)) (now (started .exit)) (now (suspended .exit))
+        (now (priority .exit)) running) noWakes r
+        ≡ taskDeleteAt (lentTasks s (now (left .entry)) (now (seat .entry)) (now (joined .entry)) (now (name .entry)) serial
+        (now (live .entry)) (now (started .entry)) (now (suspended .entry)) (now (priority .entry)) running) t) ⌝ }
 {
     name[t] = 0;
     live[t] = false;
@@ -124,7 +137,7 @@ fn delete_at(
     *seat = seats::leave(*seat, t);
     left[t] = 0;
     joined[t] = 0;
-    answers::plain(0, seats::runner(*seat))
+    answers::plain(scope::OK, seats::runner(*seat))
 }
 
 pub fn task_delete(
@@ -140,7 +153,10 @@ pub fn task_delete(
     running: usize,
     id: u32,
 ) -> Outcome
-    ensures { λ r. ⌜ ((s : State) → answerOf (lentTasks s (now (left .exit)) (now (seat .exit)) (now (joined .exit)) (now (name .exit)) (now (serial .entry)) (now (live .exit)) (now (started .exit)) (now (suspended .exit)) (now (priority .exit)) running) noWakes r ≡ taskDelete (lentTasks s (now (left .entry)) (now (seat .entry)) (now (joined .entry)) (now (name .entry)) (now (serial .entry)) (now (live .entry)) (now (started .entry)) (now (suspended .entry)) (now (priority .entry)) running) id) ⌝ }
+    ensures { λ r. ⌜ ((s : State) → answerOf (lentTasks s (now (left .exit)) (now (seat .exit)) (now (joined .exit)) (now (name .exit))
+        (now (serial .entry)) (now (live .exit)) (now (started .exit)) (now (suspended .exit)) (now (priority .exit)) running) noWakes r
+        ≡ taskDelete (lentTasks s (now (left .entry)) (now (seat .entry)) (now (joined .entry)) (now (name .entry)) (now (serial .entry))
+        (now (live .entry)) (now (started .entry)) (now (suspended .entry)) (now (priority .entry)) running) id) ⌝ }
 {
     match find(serial, live, running, id) {
         Found::At(t) => delete_at(
@@ -154,8 +170,8 @@ pub fn task_delete(
             priority,
             t,
         ),
-        Found::Deleted => answers::plain(5, running),
-        Found::Invalid => answers::plain(4, running),
+        Found::Deleted => answers::plain(scope::OBJECT_DELETED, running),
+        Found::Invalid => answers::plain(scope::INVALID_ID, running),
     }
 }
 
@@ -166,11 +182,14 @@ pub fn task_ident<'a>(
     running: usize,
     name: u32,
 ) -> Outcome
-    ensures { λ r. ⌜ ((s : State) → answerOf (lentTasks s (s .line .left) (s .line .seat) (s .line .joined) (now (names .entry)) (now (serial .entry)) (now (live .entry)) (s .tasks .started) (s .tasks .suspended) (s .tasks .priority) running) noWakes r ≡ taskIdent (lentTasks s (s .line .left) (s .line .seat) (s .line .joined) (now (names .entry)) (now (serial .entry)) (now (live .entry)) (s .tasks .started) (s .tasks .suspended) (s .tasks .priority) running) name) ⌝ }
+    ensures { λ r. ⌜ ((s : State) → answerOf (lentTasks s (s .line .left) (s .line .seat) (s .line .joined) (now (names .entry))
+        (now (serial .entry)) (now (live .entry)) (s .tasks .started) (s .tasks .suspended) (s .tasks .priority) running) noWakes r
+        ≡ taskIdent (lentTasks s (s .line .left) (s .line .seat) (s .line .joined) (now (names .entry)) (now (serial .entry))
+        (now (live .entry)) (s .tasks .started) (s .tasks .suspended) (s .tasks .priority) running) name) ⌝ }
 {
     let t = tables::by_name(live, names, name);
     if 32 <= t {
-        return answers::plain(8, running);
+        return answers::plain(scope::NAME_NOT_FOUND, running);
     }
     answers::gives(tables::identifier(serial[t], t), running)
 }
@@ -184,14 +203,18 @@ fn start_at(
     t: usize,
 ) -> Outcome
     requires { ⌜ t < 32 ⌝ }
-    ensures { λ r. ⌜ ((s : State) (serial : List ℕ) (live : List Bool) → answerOf (lentTasks s (s .line .left) (now (seat .exit)) (now (joined .entry)) (s .tasks .name) serial live (now (started .exit)) (s .tasks .suspended) (now (priority .entry)) running) noWakes r ≡ taskStartAt (lentTasks s (s .line .left) (now (seat .entry)) (now (joined .entry)) (s .tasks .name) serial live (now (started .entry)) (s .tasks .suspended) (now (priority .entry)) running) t) ⌝ }
+    ensures { λ r. ⌜ ((s : State) (serial : List ℕ) (live : List Bool) → answerOf (lentTasks s (s .line .left) (now (seat .exit))
+        (now (joined .entry)) (s .tasks .name) serial live (now (started .exit)) (s .tasks .suspended)
+        (now (priority .entry)) running) noWakes r
+        ≡ taskStartAt (lentTasks s (s .line .left) (now (seat .entry)) (now (joined .entry)) (s .tasks .name) serial live
+        (now (started .entry)) (s .tasks .suspended) (now (priority .entry)) running) t) ⌝ }
 {
     if started[t] {
-        return answers::plain(20, running);
+        return answers::plain(scope::TASK_ALREADY_STARTED, running);
     }
     started[t] = true;
     ready(seat, joined, priority[t], t);
-    answers::plain(0, seats::runner(*seat))
+    answers::plain(scope::OK, seats::runner(*seat))
 }
 
 pub fn task_start<'a>(
@@ -204,12 +227,15 @@ pub fn task_start<'a>(
     running: usize,
     id: u32,
 ) -> Outcome
-    ensures { λ r. ⌜ ((s : State) → answerOf (lentTasks s (s .line .left) (now (seat .exit)) (now (joined .entry)) (s .tasks .name) (now (serial .entry)) (now (live .entry)) (now (started .exit)) (s .tasks .suspended) (now (priority .entry)) running) noWakes r ≡ taskStart (lentTasks s (s .line .left) (now (seat .entry)) (now (joined .entry)) (s .tasks .name) (now (serial .entry)) (now (live .entry)) (now (started .entry)) (s .tasks .suspended) (now (priority .entry)) running) id) ⌝ }
+    ensures { λ r. ⌜ ((s : State) → answerOf (lentTasks s (s .line .left) (now (seat .exit)) (now (joined .entry)) (s .tasks .name)
+        (now (serial .entry)) (now (live .entry)) (now (started .exit)) (s .tasks .suspended) (now (priority .entry)) running) noWakes r
+        ≡ taskStart (lentTasks s (s .line .left) (now (seat .entry)) (now (joined .entry)) (s .tasks .name) (now (serial .entry))
+        (now (live .entry)) (now (started .entry)) (s .tasks .suspended) (now (priority .entry)) running) id) ⌝ }
 {
     match find(serial, live, running, id) {
         Found::At(t) => start_at(seat, joined, started, priority, running, t),
-        Found::Deleted => answers::plain(5, running),
-        Found::Invalid => answers::plain(4, running),
+        Found::Deleted => answers::plain(scope::OBJECT_DELETED, running),
+        Found::Invalid => answers::plain(scope::INVALID_ID, running),
     }
 }
 
@@ -222,21 +248,25 @@ fn suspend_at(
     t: usize,
 ) -> Outcome
     requires { ⌜ t < 32 ⌝ }
-    ensures { λ r. ⌜ ((s : State) (serial : List ℕ) (live : List Bool) → answerOf (lentTasks s (s .line .left) (now (seat .exit)) (s .line .joined) (s .tasks .name) serial live (now (started .entry)) (now (suspended .exit)) (s .tasks .priority) running) noWakes r ≡ taskSuspendAt (lentTasks s (s .line .left) (now (seat .entry)) (s .line .joined) (s .tasks .name) serial live (now (started .entry)) (now (suspended .entry)) (s .tasks .priority) running) t) ⌝ }
+    ensures { λ r. ⌜ ((s : State) (serial : List ℕ) (live : List Bool) → answerOf (lentTasks s (s .line .left)
+        (now (seat .exit)) (s .line .joined) (s .tasks .name) serial live (now (started .entry))
+        (now (suspended .exit)) (s .tasks .priority) running) noWakes r
+        ≡ taskSuspendAt (lentTasks s (s .line .left) (now (seat .entry)) (s .line .joined) (s .tasks .name) serial live
+        (now (started .entry)) (now (suspended .entry)) (s .tasks .priority) running) t) ⌝ }
 {
     if !started[t] {
-        return answers::plain(21, running);
+        return answers::plain(scope::TASK_NOT_STARTED, running);
     }
     if suspended[t] {
-        return answers::plain(22, running);
+        return answers::plain(scope::TASK_ALREADY_SUSPENDED, running);
     }
     suspended[t] = true;
     let x = seat[t];
     if seats::waits_on(x) {
-        return answers::plain(0, running);
+        return answers::plain(scope::OK, running);
     }
     *seat = seats::leave(*seat, t);
-    answers::plain(0, seats::runner(*seat))
+    answers::plain(scope::OK, seats::runner(*seat))
 }
 
 pub fn task_suspend<'a>(
@@ -248,12 +278,15 @@ pub fn task_suspend<'a>(
     running: usize,
     id: u32,
 ) -> Outcome
-    ensures { λ r. ⌜ ((s : State) → answerOf (lentTasks s (s .line .left) (now (seat .exit)) (s .line .joined) (s .tasks .name) (now (serial .entry)) (now (live .entry)) (now (started .entry)) (now (suspended .exit)) (s .tasks .priority) running) noWakes r ≡ taskSuspend (lentTasks s (s .line .left) (now (seat .entry)) (s .line .joined) (s .tasks .name) (now (serial .entry)) (now (live .entry)) (now (started .entry)) (now (suspended .entry)) (s .tasks .priority) running) id) ⌝ }
+    ensures { λ r. ⌜ ((s : State) → answerOf (lentTasks s (s .line .left) (now (seat .exit)) (s .line .joined) (s .tasks .name)
+        (now (serial .entry)) (now (live .entry)) (now (started .entry)) (now (suspended .exit)) (s .tasks .priority) running) noWakes r
+        ≡ taskSuspend (lentTasks s (s .line .left) (now (seat .entry)) (s .line .joined) (s .tasks .name) (now (serial .entry))
+        (now (live .entry)) (now (started .entry)) (now (suspended .entry)) (s .tasks .priority) running) id) ⌝ }
 {
     match find(serial, live, running, id) {
         Found::At(t) => suspend_at(seat, started, suspended, running, t),
-        Found::Deleted => answers::plain(5, running),
-        Found::Invalid => answers::plain(4, running),
+        Found::Deleted => answers::plain(scope::OBJECT_DELETED, running),
+        Found::Invalid => answers::plain(scope::INVALID_ID, running),
     }
 }
 
@@ -268,20 +301,24 @@ fn resume_at(
     t: usize,
 ) -> Outcome
     requires { ⌜ t < 32 ⌝ }
-    ensures { λ r. ⌜ ((s : State) (serial : List ℕ) (live : List Bool) → answerOf (lentTasks s (s .line .left) (now (seat .exit)) (now (joined .entry)) (s .tasks .name) serial live (now (started .entry)) (now (suspended .exit)) (now (priority .entry)) running) noWakes r ≡ taskResumeAt (lentTasks s (s .line .left) (now (seat .entry)) (now (joined .entry)) (s .tasks .name) serial live (now (started .entry)) (now (suspended .entry)) (now (priority .entry)) running) t) ⌝ }
+    ensures { λ r. ⌜ ((s : State) (serial : List ℕ) (live : List Bool) → answerOf (lentTasks s (s .line .left) (now (seat .exit))
+        (now (joined .entry)) (s .tasks .name) serial live (now (started .entry)) (now (suspended .exit))
+        (now (priority .entry)) running) noWakes r
+        ≡ taskResumeAt (lentTasks s (s .line .left) (now (seat .entry)) (now (joined .entry)) (s .tasks .name) serial live
+        (now (started .entry)) (now (suspended .entry)) (now (priority .entry)) running) t) ⌝ }
 {
     if !started[t] {
-        return answers::plain(21, running);
+        return answers::plain(scope::TASK_NOT_STARTED, running);
     }
     if !suspended[t] {
-        return answers::plain(23, running);
+        return answers::plain(scope::TASK_NOT_SUSPENDED, running);
     }
     suspended[t] = false;
     if seats::waits_on(seat[t]) {
-        return answers::plain(0, running);
+        return answers::plain(scope::OK, running);
     }
     ready(seat, joined, priority[t], t);
-    answers::plain(0, seats::runner(*seat))
+    answers::plain(scope::OK, seats::runner(*seat))
 }
 
 pub fn task_resume<'a>(
@@ -295,12 +332,15 @@ pub fn task_resume<'a>(
     running: usize,
     id: u32,
 ) -> Outcome
-    ensures { λ r. ⌜ ((s : State) → answerOf (lentTasks s (s .line .left) (now (seat .exit)) (now (joined .entry)) (s .tasks .name) (now (serial .entry)) (now (live .entry)) (now (started .entry)) (now (suspended .exit)) (now (priority .entry)) running) noWakes r ≡ taskResume (lentTasks s (s .line .left) (now (seat .entry)) (now (joined .entry)) (s .tasks .name) (now (serial .entry)) (now (live .entry)) (now (started .entry)) (now (suspended .entry)) (now (priority .entry)) running) id) ⌝ }
+    ensures { λ r. ⌜ ((s : State) → answerOf (lentTasks s (s .line .left) (now (seat .exit)) (now (joined .entry)) (s .tasks .name)
+        (now (serial .entry)) (now (live .entry)) (now (started .entry)) (now (suspended .exit)) (now (priority .entry)) running) noWakes r
+        ≡ taskResume (lentTasks s (s .line .left) (now (seat .entry)) (now (joined .entry)) (s .tasks .name) (now (serial .entry))
+        (now (live .entry)) (now (started .entry)) (now (suspended .entry)) (now (priority .entry)) running) id) ⌝ }
 {
     match find(serial, live, running, id) {
         Found::At(t) => resume_at(seat, joined, started, suspended, priority, running, t),
-        Found::Deleted => answers::plain(5, running),
-        Found::Invalid => answers::plain(4, running),
+        Found::Deleted => answers::plain(scope::OBJECT_DELETED, running),
+        Found::Invalid => answers::plain(scope::INVALID_ID, running),
     }
 }
 
@@ -335,10 +375,14 @@ fn set_priority_at(
     t: usize,
 ) -> Outcome
     requires { ⌜ t < 32 ⌝ }
-    ensures { λ r. ⌜ ((s : State) (serial : List ℕ) (live : List Bool) → answerOf (lentTasks s (s .line .left) (now (seat .exit)) (now (joined .entry)) (s .tasks .name) serial live (now (started .entry)) (now (suspended .entry)) (now (priorities .exit)) running) noWakes r ≡ taskSetPriorityAt (lentTasks s (s .line .left) (now (seat .entry)) (now (joined .entry)) (s .tasks .name) serial live (now (started .entry)) (now (suspended .entry)) (now (priorities .entry)) running) priority t) ⌝ }
+    ensures { λ r. ⌜ ((s : State) (serial : List ℕ) (live : List Bool) → answerOf (lentTasks s (s .line .left) (now (seat .exit))
+        (now (joined .entry)) (s .tasks .name) serial live (now (started .entry)) (now (suspended .entry))
+        (now (priorities .exit)) running) noWakes r
+        ≡ taskSetPriorityAt (lentTasks s (s .line .left) (now (seat .entry)) (now (joined .entry)) (s .tasks .name) serial live
+        (now (started .entry)) (now (suspended .entry)) (now (priorities .entry)) running) priority t) ⌝ }
 {
     if LAST_PRIORITY < priority {
-        return answers::plain(19, running);
+        return answers::plain(scope::INVALID_PRIORITY, running);
     }
     let before = priorities[t];
     let after = priority as u8;
@@ -363,7 +407,11 @@ pub fn task_set_priority<'a>(
     id: u32,
     priority: u32,
 ) -> Outcome
-    ensures { λ r. ⌜ ((s : State) → answerOf (lentTasks s (s .line .left) (now (seat .exit)) (now (joined .entry)) (s .tasks .name) (now (serial .entry)) (now (live .entry)) (now (started .entry)) (now (suspended .entry)) (now (priorities .exit)) running) noWakes r ≡ taskSetPriority (lentTasks s (s .line .left) (now (seat .entry)) (now (joined .entry)) (s .tasks .name) (now (serial .entry)) (now (live .entry)) (now (started .entry)) (now (suspended .entry)) (now (priorities .entry)) running) id priority) ⌝ }
+    ensures { λ r. ⌜ ((s : State) → answerOf (lentTasks s (s .line .left) (now (seat .exit)) (now (joined .entry)) (s .tasks .name)
+        (now (serial .entry)) (now (live .entry)) (now (started .entry)) (now (suspended .entry))
+        (now (priorities .exit)) running) noWakes r
+        ≡ taskSetPriority (lentTasks s (s .line .left) (now (seat .entry)) (now (joined .entry)) (s .tasks .name) (now (serial .entry))
+        (now (live .entry)) (now (started .entry)) (now (suspended .entry)) (now (priorities .entry)) running) id priority) ⌝ }
 {
     match find(serial, live, running, id) {
         Found::At(t) => set_priority_at(
@@ -376,7 +424,7 @@ pub fn task_set_priority<'a>(
             priority,
             t,
         ),
-        Found::Deleted => answers::plain(5, running),
-        Found::Invalid => answers::plain(4, running),
+        Found::Deleted => answers::plain(scope::OBJECT_DELETED, running),
+        Found::Invalid => answers::plain(scope::INVALID_ID, running),
     }
 }

@@ -126,7 +126,8 @@ fn put_signed_field(out: &mut [u8], at: usize, negative: bool, n: u32) -> usize
 // The same for a wake: a space, the task, a colon and its status.
 fn put_wake(out: &mut [u8], at: usize, task: u32, why: u32) -> usize
     requires { ⌜ at + 22 ≤ length (now out) ⌝ }
-    ensures { λ r. ⌜ (r ≡ at + length (field (decimal task ++ (58 ∷ decimal why)))) × (take r (now (out .exit)) ≡ take at (now (out .entry)) ++ field (decimal task ++ (58 ∷ decimal why))) ⌝ }
+    ensures { λ r. ⌜ (r ≡ at + length (field (decimal task ++ (58 ∷ decimal why))))
+        × (take r (now (out .exit)) ≡ take at (now (out .entry)) ++ field (decimal task ++ (58 ∷ decimal why))) ⌝ }
 {
     let k = put_field(out, at, task);
     let m = put_byte(out, k, b':');
@@ -136,7 +137,8 @@ fn put_wake(out: &mut [u8], at: usize, task: u32, why: u32) -> usize
 // The same for the first `woken` of a wake list, in order.
 fn put_wakes(out: &mut [u8], at: usize, wakes: &[u32], woken: usize, why: u32) -> usize
     requires { ⌜ (at + 22 * woken ≤ length (now out)) × (woken ≤ length (now wakes)) ⌝ }
-    ensures { λ r. ⌜ (r ≡ at + length (wakeFields (wakesFrom woken 0 (now (wakes .entry)) why))) × (take r (now (out .exit)) ≡ take at (now (out .entry)) ++ wakeFields (wakesFrom woken 0 (now (wakes .entry)) why)) ⌝ }
+    ensures { λ r. ⌜ (r ≡ at + length (wakeFields (wakesFrom woken 0 (now (wakes .entry)) why)))
+        × (take r (now (out .exit)) ≡ take at (now (out .entry)) ++ wakeFields (wakesFrom woken 0 (now (wakes .entry)) why)) ⌝ }
 {
     let mut r = at;
     let mut k = 0;
@@ -161,7 +163,8 @@ pub fn put_line(
     running: u32,
 ) -> usize
     requires { ⌜ (at + 782 ≤ length (now out)) × (o .woken ≤ 32) ⌝ }
-    ensures { λ r. ⌜ (r ≡ at + length (lineOf number (replyBy (now (wakes .entry)) o running))) × (take r (now (out .exit)) ≡ take at (now (out .entry)) ++ lineOf number (replyBy (now (wakes .entry)) o running)) ⌝ }
+    ensures { λ r. ⌜ (r ≡ at + length (lineOf number (replyBy (now (wakes .entry)) o running)))
+        × (take r (now (out .exit)) ≡ take at (now (out .entry)) ++ lineOf number (replyBy (now (wakes .entry)) o running)) ⌝ }
 {
     let values = o.values;
     let p0 = put_decimal(out, at, number);

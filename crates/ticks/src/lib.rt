@@ -66,7 +66,11 @@ fn wake_if_due(
 ) -> usize
     requires { ⌜ (t < 32) × (woken < 32) ⌝ }
     ensures few { λ r. ⌜ r ≤ woken + 1 ⌝ }
-    ensures { λ r. ⌜ ((k : Tasks) → wakingOf (now (left .exit)) (now (seat .exit)) (now (joined .exit)) (now (wakes .exit)) r ≡ pick (isDue (lineOf (now (left .entry)) (now (seat .entry)) (now (joined .entry))) t) (wakeNext (wakers k (now (serial .entry)) (now (suspended .entry)) (now (priority .entry))) (wakingOf (now (left .entry)) (now (seat .entry)) (now (joined .entry)) (now (wakes .entry)) woken) t) (wakingOf (now (left .entry)) (now (seat .entry)) (now (joined .entry)) (now (wakes .entry)) woken)) ⌝ }
+    ensures { λ r. ⌜ ((k : Tasks) → wakingOf (now (left .exit)) (now (seat .exit)) (now (joined .exit)) (now (wakes .exit)) r
+        ≡ pick (isDue (lineOf (now (left .entry)) (now (seat .entry)) (now (joined .entry))) t) (wakeNext (wakers k (now (serial .entry))
+        (now (suspended .entry)) (now (priority .entry))) (wakingOf (now (left .entry)) (now (seat .entry)) (now (joined .entry))
+        (now (wakes .entry)) woken) t) (wakingOf (now (left .entry)) (now (seat .entry)) (now (joined .entry))
+        (now (wakes .entry)) woken)) ⌝ }
 {
     if is_due(seat[t], left[t]) {
         semaphores::wake_next(
@@ -95,7 +99,9 @@ fn wake_due(
     priority: &[u8; 32],
     wakes: &mut [u32; 32],
 ) -> usize
-    ensures { λ r. ⌜ ((k : Tasks) → wakingOf (now (left .exit)) (now (seat .exit)) (now (joined .exit)) (now (wakes .exit)) r ≡ wakeDue (wakers k (now (serial .entry)) (now (suspended .entry)) (now (priority .entry))) 32 0 (wakingOf (now (left .entry)) (now (seat .entry)) (now (joined .entry)) (now (wakes .entry)) 0)) ⌝ }
+    ensures { λ r. ⌜ ((k : Tasks) → wakingOf (now (left .exit)) (now (seat .exit)) (now (joined .exit)) (now (wakes .exit)) r
+        ≡ wakeDue (wakers k (now (serial .entry)) (now (suspended .entry)) (now (priority .entry))) 32 0 (wakingOf (now (left .entry))
+        (now (seat .entry)) (now (joined .entry)) (now (wakes .entry)) 0)) ⌝ }
 {
     let mut woken: usize = 0;
     let mut t: usize = 0;
@@ -128,10 +134,13 @@ pub fn tick(
     priority: &[u8; 32],
     wakes: &mut [u32; 32],
 ) -> Outcome
-    ensures { λ r. ⌜ ((s : State) (running : ℕ) → answerOf (lentLine s (now (left .exit)) (now (seat .exit)) (now (joined .exit)) (now (serial .entry)) (now (suspended .entry)) (now (priority .entry)) running) (now (wakes .exit)) r ≡ tick (lentLine s (now (left .entry)) (now (seat .entry)) (now (joined .entry)) (now (serial .entry)) (now (suspended .entry)) (now (priority .entry)) running)) ⌝ }
+    ensures { λ r. ⌜ ((s : State) (running : ℕ) → answerOf (lentLine s (now (left .exit)) (now (seat .exit)) (now (joined .exit))
+        (now (serial .entry)) (now (suspended .entry)) (now (priority .entry)) running) (now (wakes .exit)) r
+        ≡ tick (lentLine s (now (left .entry)) (now (seat .entry)) (now (joined .entry)) (now (serial .entry)) (now (suspended .entry))
+        (now (priority .entry)) running)) ⌝ }
 {
     *wakes = [0; 32];
     *left = times_left(*suspended, *left);
     let woken = wake_due(left, seat, joined, serial, suspended, priority, wakes);
-    answers::woke(woken, 13, seats::runner(*seat))
+    answers::woke(woken, scope::TIME_OUT, seats::runner(*seat))
 }
