@@ -151,14 +151,7 @@ sTy = pointee (S.the-row .written)
       nothing ! $ ''' + ''.join(f'owned ! u32 (Is u32) (uint-makes 𝓤 H A W w32) ({X7[i]}) _ (refl, {F7[i]}) $ fjoin ! $ ' for i in reversed(range(7))) + f'''
       move ! (1 ∷ 0 ∷ []) $ fjoin ! $ move ! (1 ∷ 0 ∷ []) $ fjoin ! $ done !
 
-  abbrev ghost : (((κs : _) × _) : Type 0) → Unit {{0}}
-  ghost _ = tt
-
 ''')
-    W.out[-1] = W.out[-1].replace('''  abbrev ghost : (((κs : _) × _) : Type 0) → Unit {0}
-  ghost _ = tt
-
-''', '')
     g = '(((κ, (κ′, tt)), (q, (q′, tt)), tt, a, vals), tt)'
     w('  module _ (C : Calls 𝓤 H) (Λ : Loops 𝓤 H) (fm : FmC 𝓤 H (W .laws) C)' + ''.join(f' (known-{n} : Triple 𝓤 (C #{BELOW}·{n}) (G{n} 𝓤 H A at-mem run))' for n in names) + ' where\n')
     w(f'''    abbrev En : {' → '.join(['ℕ'] * N)} → Env 𝓤 H

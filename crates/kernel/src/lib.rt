@@ -8,7 +8,7 @@ use scope::Semaphores;
 use scope::State;
 use scope::Tasks;
 ghost use mathlib.Core.Path.{_≡_};
-ghost use mathlib.Core.Bool.{Bool, true, false};
+ghost use mathlib.Core.Bool.{true, false};
 ghost use Rattle.scope.specs.Fresh.{freshTasks, freshLine, noSemaphores, noPools, freshState, fresh};
 ghost use Rattle.scope.specs.Step.{answered};
 ghost use Rattle.scope.specs.Statuses.{BAD-STATE};

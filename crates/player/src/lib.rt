@@ -3,9 +3,8 @@
 use scope::State;
 use text::LONGEST_LINE;
 ghost use mathlib.Core.Path.{_≡_};
-ghost use mathlib.Core.Bool.{Bool, true, false};
-ghost use Prim.Native.Nat.{ℕ, _+_, _≤_, _<_};
-ghost use lib.ListN.{length};
+ghost use mathlib.Core.Bool.{true, false};
+ghost use Prim.Native.Nat.{_+_, _≤_, _<_};
 ghost use Rattle.scope.specs.Script.{isScript};
 ghost use Rattle.player.specs.Place.{Begun, Playing, PlayedPart};
 

@@ -1,13 +1,12 @@
-use mathlib.Core.Path.{_≡_, refl, sym, _∙_}
-use borrow.Author.Tests.{lt-ltb, le-ltb, le-leb, lt-leb, eq-eqb, ne-eqb, not-true, not-false}
+-- `kernel::fresh`: by whether the priority is one.
+-- Assumes nothing.
+use mathlib.Core.Path.{_≡_, _∙_}
+use borrow.Author.Tests.{lt-ltb, le-ltb}
 use Rattle.laws.proofs.Branches.{pick-yes, pick-no}
 use Rattle.scope.specs.Fresh.{fresh}
 use borrow.Author.Needs.{needs}
 use Rattle.kernel.proofs.fresh.Statement.{statement}
 use Rattle.kernel.proofs.fresh.Tie as tie
-use Rattle.kernel.proofs.fresh.Reads as reads
-use Rattle.kernel.proofs.fresh.Lts as lts
-use Rattle.kernel.proofs.fresh_state.Reads as fresh-state-reads
 
 fresh-state-requires : tie.Need-fresh-state-requires
 fresh-state-requires c κs = search needs

@@ -1,9 +1,8 @@
+-- `kernel::fresh_line`: the first task on the first seat of its priority.
+-- Assumes nothing.
 use borrow.Author.Needs.{needs}
 use Rattle.kernel.proofs.fresh_line.Statement.{statement}
 use Rattle.kernel.proofs.fresh_line.Tie as tie
-use Rattle.kernel.proofs.fresh_line.Reads as reads
-use Rattle.kernel.proofs.fresh_line.Lts as lts
-use Rattle.kernel.proofs.wide.Reads as wide-reads
 
 wide-requires : tie.Need-wide-requires
 wide-requires c κs = search needs

@@ -1,13 +1,9 @@
+-- `kernel::fresh_state`: the four tables.
+-- Assumes nothing.
 use Rattle.scope.specs.Fresh.{freshState}
 use borrow.Author.Needs.{needs}
 use Rattle.kernel.proofs.fresh_state.Statement.{statement}
 use Rattle.kernel.proofs.fresh_state.Tie as tie
-use Rattle.kernel.proofs.fresh_state.Reads as reads
-use Rattle.kernel.proofs.fresh_state.Lts as lts
-use Rattle.kernel.proofs.fresh_line.Reads as fresh-line-reads
-use Rattle.kernel.proofs.fresh_tasks.Reads as fresh-tasks-reads
-use Rattle.kernel.proofs.no_pools.Reads as no-pools-reads
-use Rattle.kernel.proofs.no_semaphores.Reads as no-semaphores-reads
 
 fresh-line-requires : tie.Need-fresh-line-requires
 fresh-line-requires c κs = search needs

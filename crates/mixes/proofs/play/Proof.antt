@@ -48,7 +48,6 @@ use lib.WfN.{Nat·lt-wfRel}
 use Rattle.scope.specs.declared.State.{State}
 use Rattle.answers.specs.declared.Outcome.{Outcome}
 use Rattle.text.specs.declared.Record.{Record}
-use Rattle.scope.specs.Views.{runningTask}
 use Rattle.scope.specs.Step.{answered}
 use Rattle.answers.specs.Outcomes.{answerOf}
 use Rattle.mixes.specs.declared.Played.{Played}

@@ -48,7 +48,6 @@ use lib.WfN.{Nat·lt-wfRel}
 use Rattle.scope.specs.declared.State.{State}
 use Rattle.answers.specs.declared.Outcome.{Outcome}
 use Rattle.text.specs.declared.Record.{Record}
-use Rattle.scope.specs.Views.{runningTask}
 use Rattle.kernel.specs.Steps.{Steps}
 use Rattle.mixes_checked.specs.declared.Played.{Played}
 use Rattle.answers.proofs.Outcome as O

@@ -1,6 +1,6 @@
 -- `mixes_checked::rounds`: the loop ends.
 -- Assumes nothing.
-use Prim.Native.Nat.{ℕ, _≤_, _-_}
+use Prim.Native.Nat.{_≤_, _-_}
 use native.Mathlib.Omega.{arith}
 use borrow.Author.Needs.{needs}
 use Rattle.mixes_checked.proofs.rounds.Statement.{statement}
