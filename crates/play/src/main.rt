@@ -1,29 +1,85 @@
-// Plays the script in the file that the first argument names, or that standard input gives where there is no argument, and writes
-// its listing to standard output.
+// Plays the script in the file that the first argument names (with `-` or no argument, the one that standard input gives) and writes
+// its listing to standard output. What could not be opened, read or written is said on standard error. A program of the language has
+// no exit status: where there is a second argument, the last word, `done` or `failed`, goes to descriptor 3, and the launcher `play`
+// makes the exit status of it.
+use libc::STDERR_FILENO;
 use libc::STDIN_FILENO;
 
-fn play_from(fd: i32) {
+const REPORT: i32 = 3;
+
+// One line: the program, whose name it is, what could not be done with it, and errno's text.
+fn complain(name: &[u8], what: &[u8]) {
+    io::write_all(STDERR_FILENO, b"play: ");
+    io::write_all(STDERR_FILENO, name);
+    os::fail(what);
+}
+
+// errno is 0 afterwards, so that a read which fails can be told from the end of the input. (Asking for an argument "always sets errno".)
+fn clear_errno() {
+    let mut program = io::buffer();
+    os::arg(0, &mut program);
+}
+
+fn play_from(fd: i32, name: &[u8]) -> bool {
     let mut script = shown::script_room();
+    clear_errno();
     let n = io::read_full(fd, &mut script);
-    shown::play(&script[..n]);
+    if os::errno() != 0 {
+        complain(name, b": cannot be read");
+        return false;
+    }
+    if !shown::play(&script[..n]) {
+        complain(b"standard output", b": cannot be written");
+        return false;
+    }
+    true
+}
+
+fn play_file(path: &[u8]) -> bool {
+    let fd = os::open_read(path);
+    if fd < 0 {
+        complain(path, b": cannot be opened");
+        return false;
+    }
+    let done = play_from(fd, path);
+    libc::close(fd);
+    done
+}
+
+// `-` names standard input.
+fn is_dash(path: &[u8]) -> bool {
+    if path.len() == 1 {
+        path[0] == b'-'
+    } else {
+        false
+    }
+}
+
+fn play_argument() -> bool {
+    let mut path = io::buffer();
+    let n = os::arg(1, &mut path);
+    if os::errno() != 0 {
+        complain(b"FILE", b": no path");
+        return false;
+    }
+    if is_dash(&path[..n]) {
+        return play_from(STDIN_FILENO, b"standard input");
+    }
+    play_file(&path[..n])
 }
 
 fn main() {
     if os::arg_count() < 2 {
-        play_from(STDIN_FILENO);
+        play_from(STDIN_FILENO, b"standard input");
         return;
     }
-    let mut path = io::buffer();
-    let n = os::arg(1, &mut path);
-    if os::errno() != 0 {
-        os::fail(b"path");
+    let done = play_argument();
+    if os::arg_count() < 3 {
         return;
     }
-    let fd = os::open_read(&path[..n]);
-    if fd < 0 {
-        os::fail(&path[..n]);
-        return;
+    if done {
+        io::write_all(REPORT, b"done\n");
+    } else {
+        io::write_all(REPORT, b"failed\n");
     }
-    play_from(fd);
-    libc::close(fd);
 }

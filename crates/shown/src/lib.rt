@@ -12,8 +12,8 @@ fn listing_room() -> [u8; 32768]
     [0; 32768]
 }
 
-// Writes the listing of a script, a part at a time, and stops where no more can be written.
-fn write_listing(script: &[u8], out: &mut [u8])
+// Writes the listing of a script, a part at a time, and stops where no more can be written: then false.
+fn write_listing(script: &[u8], out: &mut [u8]) -> bool
     requires { ⌜ (isScript (now script) ≡ true) × (782 ≤ length (now out)) ⌝ }
 {
     let mut p = player::begin(script);
@@ -21,27 +21,28 @@ fn write_listing(script: &[u8], out: &mut [u8])
         let r = player::play_part(script, p, out);
         let n = r.written;
         if !io::write_all(STDOUT_FILENO, &out[..n]) {
-            return;
+            return false;
         }
         let q = r.place;
         p = q;
     }
+    true
 }
 
-fn write_refused(out: &mut [u8])
+fn write_refused(out: &mut [u8]) -> bool
     requires { ⌜ 782 ≤ length (now out) ⌝ }
 {
     let n = text::put_refused(out, 0);
-    io::write_all(STDOUT_FILENO, &out[..n]);
+    io::write_all(STDOUT_FILENO, &out[..n])
 }
 
-// The listing of a script, or the one line that refuses it.
-pub fn play(script: &[u8]) {
+// The listing of a script, or the one line that refuses it. Answers whether all of it was written.
+pub fn play(script: &[u8]) -> bool {
     let mut out = listing_room();
     if text::is_script(script) {
-        write_listing(script, &mut out);
+        write_listing(script, &mut out)
     } else {
-        write_refused(&mut out);
+        write_refused(&mut out)
     }
 }
 
