@@ -10,7 +10,7 @@ from collections import namedtuple
 
 from lib import script as scripts
 from lib import tables
-from lib.files import Trouble, trouble_at
+from lib.files import Trouble, text_hint, trouble_at
 
 Answer = namedtuple("Answer", "status values running wakes")
 Wake = namedtuple("Wake", "task status")
@@ -28,12 +28,14 @@ def fitted(data, name, script, script_name):
     A refused script has the line `script refused` and gives None.
     """
     why = scripts.refusal(script)
-    lines = lines_of(data, name)
     if why is not None:
-        if lines != [REFUSED]:
+        if data != REFUSED.encode() + b"\n":
             raise trouble_at(name, 1, "expected the one line `%s`, for %s is "
-                             "refused: %s" % (REFUSED, script_name, why))
+                             "refused: %s%s" % (REFUSED, script_name, why,
+                                                text_hint(script,
+                                                          script_name)))
         return None
+    lines = lines_of(data, name)
     if lines == [REFUSED]:
         raise trouble_at(name, 1, "found `%s`, but %s is a good script of %s"
                          % (REFUSED, script_name, header_words(script)))
@@ -115,13 +117,42 @@ def fault_of(answer, record):
         if any(answer.values) or answer.wakes:
             return ("expected zero values and no wakes with a refusal (%s)"
                     % tables.STATUSES[answer.status].name)
+    if answer.running < 0:
+        return "expected a running task or 0, found %d" % answer.running
+    return row_fault(answer, record)
+
+
+def row_fault(answer, record):
+    """What the row of the record's call does not have, or None."""
     call = tables.call_of(record.call)
-    fields = call.values if call else ()
+    if call is None:
+        if tables.STATUSES[answer.status].name not in tables.OF_NO_CALL:
+            return "expected %s for call %d, which no row has, found %s" % (
+                tables.OF_NO_CALL[0], record.call, status_words(answer.status))
+        return None
+    if answer.status not in call.statuses:
+        return "expected a status that %s can give (%s), found %s" % (
+            call.name, " ".join(map(str, call.statuses)),
+            status_words(answer.status))
+    for wake in answer.wakes:
+        if wake.status not in call.wakes:
+            return "expected no task woken by %s with %s" % (
+                call.name, status_words(wake.status))
+    return values_fault(answer, call)
+
+
+def status_words(status):
+    return "%d, %s" % (status, tables.STATUSES[status].name)
+
+
+def values_fault(answer, call):
     for place, value in enumerate(answer.values):
-        kind = fields[place].kind if place < len(fields) else None
+        kind = (call.values[place].kind if place < len(call.values)
+                else None)
         if value < 0 and kind != "count":
             return "expected value %d not negative, found %d" % (
                 place + 1, value)
-    if answer.running < 0:
-        return "expected a running task or 0, found %d" % answer.running
+        if value != 0 and kind is None:
+            return "expected 0 for value %d, which %s does not name, found " \
+                "%d" % (place + 1, call.name, value)
     return None

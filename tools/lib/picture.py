@@ -9,13 +9,14 @@ import math
 
 from lib import svg, tables
 from lib.rows import (LEFT, Lane, PoolRow, SemaphoreRow, TaskRow,
-                      task_marks)
+                      buffer_lanes, lock_lanes, task_marks)
 
-PLOT, RIGHT, EDGE = 1120, 24, 18
+PLOT, RIGHT, EDGE, TOP = 1120, 24, 18, 66
 NARROWEST, WIDEST = 2.0, 92.0
 LABEL_COLUMN = 11.5        # narrower columns carry no call labels
 SLANT_COLUMN = 27.0        # wider columns carry them on a slant
 SLANT = 50
+TALL = 700                 # more than a screen shows at once
 LETTER = 5.9               # of the 10 pixel letters, on the wide side
 STEPS = [step * 10 ** power for power in range(5) for step in (1, 2, 5)]
 
@@ -63,17 +64,17 @@ def bands_of(run, first, last):
             return
 
 
-def call_label(event, whole):
+def call_label(run, event, whole):
     """The call with its first argument, or with the whole of them."""
     record = event.record
     call = tables.call_of(record.call)
     if call is None:
         words = "call %d" % record.call
     else:
-        pairs = list(zip(call.arguments, record.arguments))
+        places = range(len(call.arguments))
         words = " ".join([call.name] + [
-            tables.word_of(field.kind, number)
-            for field, number in (pairs if whole else pairs[:1])])
+            run.labels.argument(event.number, record, place)
+            for place in (places if whole else places[:1])])
     if record.mark == tables.BY_INTERRUPT and event.tick is None:
         words = "interrupt: " + words
     return words
@@ -85,9 +86,9 @@ def refused_label(event):
     return "\u00d7 " + tables.STATUSES[event.answer.status].name
 
 
-def label_lines(event, slant):
+def label_lines(run, event, slant):
     """The lines of a call's label: narrow columns have room for one."""
-    lines = [call_label(event, slant == SLANT), refused_label(event)]
+    lines = [call_label(run, event, slant == SLANT), refused_label(event)]
     return lines if slant == SLANT else [" ".join(lines).strip()]
 
 
@@ -102,7 +103,8 @@ def head_room(band):
     """The length of the longest call label."""
     slant = slant_of(band)
     return max([len(line) for event in band.events if slant
-                for line in label_lines(event, slant)], default=0) * LETTER
+                for line in label_lines(band.run, event, slant)],
+               default=0) * LETTER
 
 
 def label_parts(band, base):
@@ -112,7 +114,7 @@ def label_parts(band, base):
         x = band.x(event.number) + (4 if slant == 90 else 2)
         turn = "rotate(-%d %s %s)" % (slant, svg.figure(x), svg.figure(base))
         refused = tables.is_refusal(event.answer.status)
-        for place, line in enumerate(label_lines(event, slant)):
+        for place, line in enumerate(label_lines(band.run, event, slant)):
             if line:
                 parts.append(svg.text(
                     x + 9 * place, base + 13 * place, line,
@@ -147,13 +149,15 @@ def rows_of(band):
     run = band.run
     tasks = [TaskRow(run, slot, run.spans["task"][slot])
              for slot in band.slots("task")]
-    lanes = Lane.of(band)
-    sems = [SemaphoreRow(run, slot, run.spans["semaphore"][slot])
-            for slot in band.slots("semaphore")]
-    pools = [PoolRow(run, slot, run.spans["pool"][slot])
-             for slot in band.slots("pool")]
-    rows = [("tasks", tasks + lanes), ("semaphores: count", sems),
-            ("pools: buffers out", pools)]
+    rows = [("tasks", tasks + Lane.of(band))]
+    for heading, kind, look, lanes in (
+            ("semaphores: count", "semaphore", SemaphoreRow, lock_lanes),
+            ("pools: buffers out", "pool", PoolRow, buffer_lanes)):
+        part = []
+        for slot in band.slots(kind):
+            row = look(run, slot, run.spans[kind][slot])
+            part += [row] + lanes(run, row, band)
+        rows.append((heading, part))
     return [(heading, part) for heading, part in rows if part]
 
 
@@ -166,10 +170,11 @@ def band_parts(band, top):
         if heading != "tasks":
             y += 24
             parts.append(svg.text(EDGE, y - 6, heading, "head"))
-        dense = len(rows)
-        for place, row in enumerate(rows):
+        dense, place = sum(not row.is_lane for row in rows), 0
+        for row in rows:
             height = row.height(dense)
-            if place % 2 == 0:
+            place += not row.is_lane     # a lane belongs to the row above
+            if place % 2 == 1:
                 behind.append(svg.box(EDGE, y, band.right - EDGE, height,
                                       class_="stripe"))
             parts += row.label(band, y, height)
@@ -219,7 +224,8 @@ LEGEND = (
     ("run", "running"), ("ready", "ready"),
     ("wait", "waiting, in the semaphore's colour"),
     ("veil", "waiting and suspended"), ("stopped", "suspended"),
-    ("unborn", "not started"), ("idle", "nothing runs"),
+    ("unborn", "not started"), ("held", "held, by the task named"),
+    ("idle", "nothing runs"),
     ("cross", "call refused"), ("scratch", "call refused"),
     ("granted", "woken: granted"), ("timed", "woken: time-out"),
     ("gone", "woken: semaphore deleted"), ("irq", "interrupt's call"),
@@ -234,6 +240,9 @@ def swatch(kind, x, y):
         return svg.box(x + 10, y - 5, 2, 9, class_="scratch")
     if kind in ("granted", "timed", "gone", "irq"):
         return svg.dot(x + 11, y, 4, kind, None)
+    if kind == "held":
+        return svg.box(x, y - 6, 22, 12, class_="held", fill=svg.POOL_COLOUR,
+                       stroke=svg.POOL_COLOUR)
     if kind in ("wait", "veil"):
         under = svg.box(x, y - 6, 22, 12, fill=svg.WAIT_COLOURS[0])
         return under + (svg.box(x, y - 6, 22, 12, class_="veil")
@@ -262,18 +271,14 @@ def width_of(bands):
         if slant_of(band) == SLANT:
             right = max([right] + [
                 band.x(event.number) + 18 + math.cos(math.radians(SLANT))
-                * LETTER * max(map(len, label_lines(event, SLANT)))
+                * LETTER * max(map(len, label_lines(band.run, event, SLANT)))
                 for event in band.events])
     return max(760, right + RIGHT)
 
 
-def picture(run, name, first=None, last=None):
-    """The SVG text of records first to last of a run."""
-    first, last = first or 1, run.last if last is None else last
-    bands = list(bands_of(run, first, last))
-    width = math.ceil(width_of(bands))
-    parts = title_parts(run, name, first, last)
-    y = 66
+def bands_parts(bands, top, width):
+    """The bands one below the other, and the y of their end."""
+    parts, y = [], top
     for band in bands:
         if len(bands) > 1:
             parts += [svg.line(EDGE, y + 4, width - RIGHT, y + 4, "rule"),
@@ -282,5 +287,21 @@ def picture(run, name, first=None, last=None):
             y += 24
         more, y = band_parts(band, y)
         parts += more
-    legend, y = legend_parts(y + 22, width - RIGHT, "".join(parts))
-    return svg.page(width, math.ceil(y), parts + legend, "A run of " + name)
+    return parts, y
+
+
+def picture(run, name, first=None, last=None):
+    """The SVG text of records first to last of a run."""
+    first, last = first or 1, run.last if last is None else last
+    bands = list(bands_of(run, first, last))
+    width = math.ceil(width_of(bands))
+    parts, y = bands_parts(bands, TOP, width)
+    body = "".join(parts)
+    if len(bands) > 1 or y > TALL:
+        # A long run is read from the top: its legend stands there.
+        legend, y = legend_parts(TOP + 8, width - RIGHT, body)
+        parts, y = bands_parts(bands, y, width)
+    else:
+        legend, y = legend_parts(y + 22, width - RIGHT, body)
+    return svg.page(width, math.ceil(y), title_parts(run, name, first, last)
+                    + parts + legend, "A run of " + name)

@@ -14,7 +14,7 @@ from lib.files import trouble_at
 from lib.slots import fresh_slots
 from lib.text import usual_header
 
-Label = namedtuple("Label", "number kind line")
+Label = namedtuple("Label", "number kind line hex")
 
 LABEL_LINE = re.compile(r"\s*([A-Za-z_]\w*)\s*=\s*(.*)\Z")
 NUMBER = re.compile(r"(0[xX][0-9a-fA-F]+|[0-9]+)\Z")
@@ -28,6 +28,15 @@ RESERVED = set(HEADER_WORDS + PREFIXES + ("call", "bytes", "id", "unused")
                        for word in words))
 
 
+class Notes:
+    """What the text says beyond its bytes, by record numbers from 1."""
+
+    def __init__(self):
+        self.labels = {}             # record of a create to its label
+        self.used = {}               # (kind, number) to a label set by hand
+        self.hexes = set()           # (record, place) of arguments in hex
+
+
 class Reader:
     def __init__(self, name):
         self.name = name
@@ -37,6 +46,7 @@ class Reader:
         self.before, self.after = bytearray(), bytearray()
         self.labels = {}
         self.slots = fresh_slots()
+        self.notes = Notes()
 
     def wrong(self, what):
         return trouble_at(self.name, self.line, what)
@@ -93,10 +103,12 @@ class Reader:
             number, kind = self.number(words[0], None), None
         elif words:
             number, kind = self.read_create(name, words)
+            self.notes.labels[len(self.records)] = name
         else:
             raise self.wrong("expected a number or a create after `%s =`"
                              % name)
-        self.labels[name] = Label(number, kind, self.line)
+        self.labels[name] = Label(number, kind, self.line, bool(
+            words and is_hex(words[0])))
 
     def read_create(self, name, words):
         made, kind = self.read_call(words)
@@ -125,7 +137,7 @@ class Reader:
         if word in known:
             return known[word]
         if NUMBER.match(word):
-            number = int(word, 16 if word[1:2] in ("x", "X") else 10)
+            number = int(word, 16 if is_hex(word) else 10)
             if number > tables.MOST_NUMBER:
                 raise self.wrong("expected a number up to %d, found %s"
                                  % (tables.MOST_NUMBER, word))
@@ -151,7 +163,16 @@ class Reader:
             raise self.wrong("expected a %s for %s, found `%s`, the %s of "
                              "line %d" % (field.kind, field.name, word,
                                           label.kind, label.line))
+        if label.kind is None and field and field.kind in tables.TABLES:
+            self.notes.used[field.kind, label.number] = word
         return label.number
+
+    def note_hex(self, places):
+        """Keeps which of the last record's arguments are written in hex."""
+        for place, word in places:
+            label = self.labels.get(word)
+            if is_hex(word) or (label and label.hex):
+                self.notes.hexes.add((len(self.records), place))
 
     # -- calls
 
@@ -159,13 +180,14 @@ class Reader:
         """Adds a record; gives the identifier and kind of what it makes."""
         mark, refused, words = self.prefixes(list(words))
         number, call, words = self.call_named(words)
+        written = list(enumerate(words))
         if call is None:
             arguments = [self.number(word, None) for word in words]
             if len(arguments) > tables.ARGUMENTS:
                 raise self.wrong("expected at most five arguments, found %d"
                                  % len(arguments))
         else:
-            arguments = self.arguments(call, words)
+            arguments, written = self.arguments(call, words)
         arguments += [0] * (tables.ARGUMENTS - len(arguments))
         if mark is None:
             mark = call.mark if call else tables.BY_TASK
@@ -173,6 +195,7 @@ class Reader:
             raise self.wrong("expected no call after `bytes` that follow a "
                              "call: records stand together")
         self.records.append(scripts.Record(number, mark, tuple(arguments)))
+        self.note_hex(written)
         if call is None or refused or mark != tables.BY_TASK:
             return None, None
         return self.followed(call, arguments)
@@ -218,8 +241,9 @@ class Reader:
         return number, tables.CALLS[number], words[1:]
 
     def arguments(self, call, words):
-        """The call's arguments in order, then those it does not use."""
-        given, unused = {}, []
+        """The call's arguments in order, then those it does not use; and
+        the word of each place."""
+        given, unused, written = {}, [], []
         for place, word in enumerate(words):
             name, equals, value = word.partition("=")
             if equals and name == "unused":
@@ -231,6 +255,8 @@ class Reader:
                 raise self.wrong("expected %s once, found it twice"
                                  % field.name)
             given[field] = self.number(value if equals else word, field)
+            written.append((call.arguments.index(field),
+                            value if equals else word))
         for field in call.arguments:
             if field not in given:
                 raise self.wrong("expected %s: %s is missing"
@@ -239,7 +265,7 @@ class Reader:
             raise self.wrong("expected at most %d unused arguments, found %d"
                              % (tables.ARGUMENTS - len(call.arguments),
                                 len(unused)))
-        return [given[field] for field in call.arguments] + unused
+        return [given[field] for field in call.arguments] + unused, written
 
     def field_named(self, call, name):
         for field in call.arguments:
@@ -273,6 +299,10 @@ class Reader:
                  if name != "first"}
         return scripts.put_together(
             layout._replace(header=usual._replace(**given)))
+
+
+def is_hex(word):
+    return bool(NUMBER.match(word)) and word[1:2] in ("x", "X")
 
 
 def usage_of(call):

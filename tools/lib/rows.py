@@ -1,5 +1,6 @@
 """The rows of the picture: a task, a semaphore, a pool, or a lane for calls
-that no task makes. A row is a slot: its objects follow one another."""
+that no task makes. A row is a slot: its objects follow one another. Under a
+lock and under a small pool stand lanes that show who holds what."""
 
 import math
 
@@ -11,6 +12,8 @@ LETTER = 6.1               # of the 10 pixel letters in bars, on the wide side
 TINY_LETTER = 5.7          # of the 9 pixel figures above steps
 MARK_COLUMN = 6.0          # narrower columns mark refusals by a scratch
 ROOMY, SNUG = 10, 20       # up to how many rows of a kind are high
+NAME_LETTERS = 22          # of a name left of the plot
+SMALL_POOL = 8             # buffers that have a lane each
 WAKE_LOOKS = {tables.GRANTED: "granted", tables.TIMED_OUT: "timed",
               tables.OBJECT_GONE: "gone"}
 
@@ -49,23 +52,34 @@ def record_words(span):
     return "records %d to %d" % (span.first, span.last)
 
 
+def height_of(heights, rows):
+    """High rows where there are few, so that many still fit."""
+    return heights[(rows > ROOMY) + (rows > SNUG)]
+
+
 class Row:
     kind, heights = None, (0, 0, 0)
+    is_lane = False
 
     def __init__(self, run, slot, spans):
         self.run, self.slot, self.spans = run, slot, spans
 
     def height(self, rows):
-        """High rows where there are few, so that many still fit."""
-        return self.heights[(rows > ROOMY) + (rows > SNUG)]
+        return height_of(self.heights, rows)
+
+    def known(self, band):
+        """The identifiers of the slot's objects in a band."""
+        return sorted({span.view.identifier for span, _, _
+                       in band.cut(self.spans)})
 
     def label(self, band, y, height):
-        """The object's identifier and name, or the slot's several."""
-        known = sorted({span.view.identifier for span, _, _
-                        in band.cut(self.spans)})
+        """The object's label or identifier and its name, or the several."""
+        known = self.known(band)
         if len(known) == 1:
-            words = "%s %d" % (self.kind, known[0])
+            words = cut_short(self.run.labels.thing(self.kind, known[0]))
             more = "name %d" % self.run.names[self.kind, known[0]]
+            if self.run.labels.label(self.kind, known[0]):
+                more = "%d, %s" % (known[0], more)
         else:
             words = "%s slot %d" % (self.kind, self.slot)
             more = "%d in turn" % len(known)
@@ -75,6 +89,11 @@ class Row:
         else:
             places = ((words, "name", middle + 4),)
         return [svg.text(30, at, text, look) for text, look, at in places]
+
+
+def cut_short(words, most=NAME_LETTERS):
+    """Words for the room left of the plot."""
+    return words if len(words) <= most else words[:most - 1] + "\u2026"
 
 
 class TaskRow(Row):
@@ -99,8 +118,9 @@ class TaskRow(Row):
 
     def bar(self, span, left, right, bar):
         view, (y, high) = span.view, bar
-        title = "task %d %s; %s; priority %d" % (
-            view.identifier, state_words(view), record_words(span),
+        title = "%s %s; %s; priority %d" % (
+            self.run.labels.whole("task", view.identifier),
+            state_words(view, self.run.labels), record_words(span),
             view.priority)
         if view.state == runs.WAITING:
             slot = tables.slot_of(view.waits_on[1])
@@ -124,10 +144,11 @@ class TaskRow(Row):
             return []
         choices = {runs.RUNNING: ("runs",), runs.NOT_STARTED: ("not started",)}
         if view.state == runs.WAITING:
-            choices[view.state] = waiting_words(view)
+            choices[view.state] = waiting_words(view, self.run.labels)
         words = choices[view.state]
         if several:
-            words = ("%d %s" % (view.identifier, words[0]),) + words
+            who = self.run.labels.short("task", view.identifier)
+            words = ("%s %s" % (who, words[0]),) + words
         words = first_fitting(words, right - left)
         if not words:
             return []
@@ -156,8 +177,9 @@ class TaskRow(Row):
             if wake is None:
                 parts += refusal_mark(event, band, middle, bar[1])
                 continue
-            title = "record %d: task %d woken with %s" % (
-                event.number, wake.task, tables.STATUSES[wake.status].name)
+            title = "record %d: %s woken with %s" % (
+                event.number, self.run.labels.whole("task", wake.task),
+                tables.STATUSES[wake.status].name)
             parts.append(svg.dot(band.x(event.number), middle, size,
                                  WAKE_LOOKS.get(wake.status, "gone"), title))
         return parts
@@ -176,16 +198,17 @@ def task_marks(events):
     return marks
 
 
-def waiting_words(view):
+def waiting_words(view, labels):
     kind, identifier = view.waits_on
-    return ("waits for %s %d" % (kind, identifier),
-            "waits for %d" % identifier, "%d" % identifier)
+    short = labels.short(kind, identifier)
+    return ("waits for " + labels.thing(kind, identifier),
+            "waits for " + short, short)
 
 
-def state_words(view):
+def state_words(view, labels):
     words = view.state
     if view.state == runs.WAITING:
-        words = waiting_words(view)[0]
+        words = waiting_words(view, labels)[0]
         words += ", suspended" if view.suspended else ""
     return words
 
@@ -234,8 +257,9 @@ class StepRow(Row):
     def step(self, span, left, right, scale):
         value = self.value(span.view)
         zero, at = scale.y(0), scale.y(value)
-        title = "%s %d: %s; %s" % (self.kind, span.view.identifier,
-                                   self.words(span.view), record_words(span))
+        title = "%s: %s; %s" % (
+            self.run.labels.whole(self.kind, span.view.identifier),
+            self.words(span.view), record_words(span))
         strong = .85 if value < 0 or self.kind == "pool" else .35
         return [svg.box(left, min(zero, at), right - left, abs(zero - at),
                         title, fill=self.colour(), fill_opacity=strong)]
@@ -308,8 +332,82 @@ class PoolRow(StepRow):
         return svg.POOL_COLOUR
 
 
+class HeldLane:
+    """Who holds one thing, as bars with the holders' names."""
+    heights = (17, 14, 11)
+    is_lane = True
+
+    def __init__(self, run, name, colour, holds):
+        self.run, self.name, self.colour = run, name, colour
+        self.holds = holds           # spans whose view is (holder, title)
+
+    def height(self, rows):
+        return height_of(self.heights, rows)
+
+    def label(self, _band, y, height):
+        return [svg.text(LEFT - 10, y + height / 2 + 3.4,
+                         cut_short(self.name), "tiny", text_anchor="end")]
+
+    def parts(self, band, y, height):
+        parts = []
+        for span, left, right in band.cut(self.holds):
+            holder, title = span.view
+            parts.append(svg.box(left, y + 2, right - left, height - 4,
+                                 "%s; %s" % (title, record_words(span)),
+                                 class_="held", fill=self.colour,
+                                 stroke=self.colour))
+            words = first_fitting((
+                self.run.labels.thing("task", holder),
+                self.run.labels.short("task", holder)), right - left)
+            if words and height >= 14:
+                parts.append(svg.text((left + right) / 2, y + height / 2 + 3.5,
+                                      words, "in", text_anchor="middle"))
+        return parts
+
+
+def lock_lanes(run, row, band):
+    """A lane for a semaphore of initial count 1: who has its one."""
+    holds = []
+    for span, _, _ in band.cut(runs.holds_of(row.spans)):
+        semaphore, holder = span.view
+        title = "%s is held by %s" % (run.labels.whole("semaphore", semaphore),
+                                      run.labels.whole("task", holder))
+        holds.append(span._replace(view=(holder, title)))
+    return [HeldLane(run, "held by", row.colour(), holds)] if holds else []
+
+
+def buffer_lanes(run, row, band):
+    """A lane for each buffer of a small pool, by its address; where several
+    take turns in the slot, for each that is out, by its place."""
+    small = [identifier for identifier in row.known(band)
+             if run.pools[identifier].buffers <= SMALL_POOL]
+    alone = len(small) == 1
+    holds = {place: [] for place in range(
+        run.pools[small[0]].buffers if alone else 0)}
+    for held in run.held:
+        if held.pool in small:
+            title = "%s of %s is held by %s" % (
+                run.labels.address(held.pool, held.address),
+                run.labels.whole("pool", held.pool),
+                run.labels.whole("task", held.holder))
+            holds.setdefault(held.place, []).append(
+                runs.Span(held.first, held.last, (held.holder, title)))
+    return [HeldLane(run, lane_name(run, small, place), row.colour(), spans)
+            for place, spans in sorted(holds.items())
+            if alone or any(True for _ in band.cut(spans))]
+
+
+def lane_name(run, pools, place):
+    if len(pools) > 1:
+        return "buffer %d" % place
+    pool = run.pools[pools[0]]
+    return run.labels.address(pool.identifier,
+                              pool.address + place * pool.size)
+
+
 class Lane:
     """Calls that no task makes: by interrupts, by nobody, by other marks."""
+    is_lane = False
 
     def __init__(self, name, chosen, idle):
         self.name, self.chosen, self.idle = name, chosen, idle

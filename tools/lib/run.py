@@ -7,16 +7,19 @@ otherwise) the run keeps a doubt for its reader and goes on.
 
 from collections import namedtuple
 
-from lib import tables
+from lib import reader, tables
+from lib.names import Names
 
 # What a row of the picture shows of an object between two records.
 TaskView = namedtuple("TaskView", "identifier state waits_on suspended "
                                   "priority")
-SemaphoreView = namedtuple("SemaphoreView", "identifier count")
+SemaphoreView = namedtuple("SemaphoreView", "identifier count holder")
 PoolView = namedtuple("PoolView", "identifier out buffers")
 
 # A view that holds after records first to last; 0 is before the first.
 Span = namedtuple("Span", "first last view")
+# A buffer of a pool that is out after records first to last, and who got it.
+Held = namedtuple("Held", "first last pool place address holder")
 Event = namedtuple("Event", "number record answer caller wakes tick")
 Doubt = namedtuple("Doubt", "number words")
 
@@ -46,15 +49,33 @@ class Task:
 class Semaphore:
     def __init__(self, identifier, name, count):
         self.identifier, self.name, self.count = identifier, name, count
+        self.is_lock = count == 1    # until it counts higher
+        self.holders = []
+
+    def release(self, caller):
+        """Its caller's one comes back, or the one that is out longest."""
+        self.count += 1
+        self.is_lock = self.is_lock and self.count <= 1
+        if caller in self.holders:
+            self.holders.remove(caller)
+        elif self.holders:
+            self.holders.pop(0)
 
     def view(self, _running):
-        return SemaphoreView(self.identifier, self.count)
+        holder = self.holders[0] if self.is_lock and self.holders else None
+        return SemaphoreView(self.identifier, self.count, holder)
 
 
 class Pool:
-    def __init__(self, identifier, name, buffers):
-        self.identifier, self.name, self.buffers = identifier, name, buffers
-        self.out = 0
+    def __init__(self, identifier, name, address, length, size):
+        self.identifier, self.name = identifier, name
+        self.address, self.size = address, size
+        self.buffers = length // size if size else 0
+        self.held = {}               # address to the Held that is open
+
+    @property
+    def out(self):
+        return len(self.held)
 
     def view(self, _running):
         return PoolView(self.identifier, self.out, self.buffers)
@@ -66,7 +87,8 @@ class State:
     def __init__(self, priority):
         self.objects = {kind: {} for kind in tables.TABLES}
         self.running = tables.FIRST_TASK
-        self.names = {}
+        self.number = 0              # of the record that is taken in
+        self.names, self.pools, self.held = {}, {}, []
         first = Task(tables.FIRST_TASK, 0, priority)
         first.started = True
         self.add("task", first)
@@ -90,9 +112,18 @@ class State:
             where.count += 1
 
     def wake(self, task, status):
+        where = self.find(*task.waits_on) if task.waits_on else None
         if status == tables.TIMED_OUT:
             self.give_back(task)
+        elif status == tables.GRANTED and isinstance(where, Semaphore):
+            where.holders.append(task.identifier)
         task.waits_on = None
+
+    def let_go(self, pool, address):
+        """A buffer that was out until this record."""
+        held = pool.held.pop(address, None)
+        if held:
+            self.held.append(held._replace(last=self.number - 1))
 
 
 # One function for each call that changes something: the state, the object of
@@ -136,10 +167,13 @@ def sem_claim(state, semaphore, _record, answer):
     caller = state.find("task", tables.SELF)
     if answer.status == tables.PENDING and caller:
         caller.waits_on = ("semaphore", semaphore.identifier)
+    elif answer.status == tables.OK:
+        semaphore.holders.append(state.running)
 
 
-def sem_release(_state, semaphore, _record, _answer):
-    semaphore.count += 1
+def sem_release(state, semaphore, record, _answer):
+    semaphore.release(state.running if record.mark == tables.BY_TASK
+                      else None)
 
 
 def sem_info(_state, semaphore, _record, answer):
@@ -149,21 +183,31 @@ def sem_info(_state, semaphore, _record, answer):
 
 
 def pool_create(state, _thing, record, answer):
-    _, _, length, size, _ = record.arguments
-    buffers = length // size if size else 0
-    state.add("pool", Pool(answer.values[0], record.arguments[0], buffers))
+    pool = Pool(answer.values[0], *record.arguments[:4])
+    state.add("pool", pool)
+    state.pools[pool.identifier] = pool
 
 
 def pool_delete(state, pool, _record, _answer):
+    for address in list(pool.held):
+        state.let_go(pool, address)
     state.end("pool", pool)
 
 
-def pool_get_buff(_state, pool, _record, _answer):
-    pool.out += 1
+def pool_get_buff(state, pool, _record, answer):
+    address = answer.values[0]
+    doubt = "address %d is handed out twice" % address
+    place = (address - pool.address) // pool.size if pool.size else 0
+    taken = address in pool.held
+    pool.held[address] = Held(state.number, None, pool.identifier, place,
+                              address, state.running)
+    return doubt if taken else None
 
 
-def pool_ret_buff(_state, pool, _record, _answer):
-    pool.out -= 1
+def pool_ret_buff(state, pool, record, _answer):
+    if record.arguments[1] not in pool.held:
+        return "address %d comes back, but was not out" % record.arguments[1]
+    state.let_go(pool, record.arguments[1])
 
 
 def pool_info(_state, pool, _record, answer):
@@ -222,10 +266,25 @@ def run_doubt(state):
     return None
 
 
+def holds_of(spans):
+    """The spans in which a semaphore of initial count 1 is held: the view is
+    the semaphore and its holder, whatever the count does meanwhile."""
+    result = []
+    for span in spans:
+        now = (span.view.identifier, span.view.holder)
+        last = result[-1] if result else None
+        if last and last.view == now and last.last + 1 == span.first:
+            result[-1] = last._replace(last=span.last)
+        elif span.view.holder is not None:
+            result.append(Span(span.first, span.last, now))
+    return result
+
+
 class Run:
     """Spans for each slot of each table, events, and doubts."""
 
-    def __init__(self, records, answers, priority):
+    def __init__(self, records, answers, priority, notes=None):
+        self.labels = Names(notes or reader.Notes(), records, answers)
         self.priority, self.last = priority, len(records)
         self.spans = {kind: {} for kind in tables.TABLES}
         self.events, self.doubts = [], []
@@ -234,6 +293,8 @@ class Run:
         self.open = {}
         state = State(priority)
         self.names = state.names     # (kind, identifier) to name
+        self.pools = state.pools     # identifier to pool, gone ones too
+        self.held = state.held       # buffers that were out, and for how long
         self.look(0, state)
         for number, (record, answer) in enumerate(zip(records, answers), 1):
             before = state.running
@@ -241,8 +302,12 @@ class Run:
             if before != state.running or not tables.is_refusal(answer.status):
                 self.look(number, state)
         self.close_all()
+        for pool in state.objects["pool"].values():
+            self.held += [held._replace(last=self.last)
+                          for held in pool.held.values()]
 
     def take(self, number, state, record, answer):
+        state.number = number
         caller = state.running if record.mark == tables.BY_TASK else None
         doubts = []
         if not tables.is_refusal(answer.status):

@@ -32,6 +32,7 @@ rect{shape-rendering:crispEdges}
 .veil{fill:url(#veil)}
 .unborn{fill:#fff;stroke:#9aa6b4;stroke-width:1;stroke-dasharray:3 2}
 .idle{fill:#f3d9d9}
+.held{fill-opacity:.3;stroke-width:1}
 .cross{stroke:#c8102e;stroke-width:1.8;fill:none;stroke-linecap:round}
 .scratch{fill:#e0142f}
 .halo{stroke:#fff;stroke-width:4;fill:none;stroke-linecap:round}

@@ -1,17 +1,21 @@
 """The tables of document 01: rooms, statuses, caller marks and calls.
 
-Everything that a new call or status needs stands here: a row in CALLS, a row
-in STATUSES, and for a new kind of object a row in TABLES. The text form, the
-words and the checks of the other modules read these tables; the run module
-adds what the call changes.
+A new call is a row of tools/calls.tsv, a new status one of statuses.tsv, a
+new kind of object a row in TABLES here. The text form, the words and the
+checks of the other modules read these tables; the run module adds what the
+call changes.
 """
 
+import os
 from collections import namedtuple
+
+FOLDER = os.path.dirname(os.path.dirname(os.path.abspath(__file__)))
 
 Table = namedtuple("Table", "kind room")
 Status = namedtuple("Status", "name when")
 Field = namedtuple("Field", "name kind")
-Call = namedtuple("Call", "name arguments values makes ends mark")
+Call = namedtuple("Call", "name arguments values makes ends mark caller "
+                          "statuses wakes does")
 
 MOST_NUMBER = 2 ** 32 - 1
 FOREVER = MOST_NUMBER
@@ -25,6 +29,7 @@ ARGUMENTS = 5
 BY_TASK, BY_INTERRUPT = 0, 1
 OK, PENDING = 0, 1
 GRANTED, OBJECT_GONE, TIMED_OUT = 0, 11, 13
+OF_NO_CALL = ("BAD_CALL", "BAD_STATE")     # what an unknown call can be told
 
 TABLES = {table.kind: table for table in (
     Table("task", 32),
@@ -41,35 +46,12 @@ WORDS = {
     "FORCED_DELETE": {"FORCED_DELETE": 1},
 }
 
-STATUSES = tuple(Status(*row) for row in (
-    ("OK", "done"),
-    ("PENDING", "claim accepted, caller now waits"),
-    ("ILLEGAL_USE", "interrupt caller, call neither sem_release nor tick"),
-    ("INVALID_PARAMETER", "pool area or time_out out of range"),
-    ("INVALID_ID", "no object ever had this identifier"),
-    ("OBJECT_DELETED", "the object of this identifier is gone"),
-    ("INVALID_OPTIONS", "a bit other than bit 0 set"),
-    ("TOO_MANY_OBJECTS", "no slot is free with a serial left"),
-    ("NAME_NOT_FOUND", "no live object so named"),
-    ("INVALID_COUNT", "initial count negative or above 32,767"),
-    ("SEMAPHORE_NOT_AVAILABLE", "NOWAIT, count 0 or less"),
-    ("SEMAPHORE_DELETED", "to woken tasks only"),
-    ("SEMAPHORE_OVERFLOW", "release at count 32,767"),
-    ("TIME_OUT", "to woken tasks only"),
-    ("INVALID_BUFF_SIZE", "size 0, or length / size not in 1 to 64"),
-    ("POOL_OVERLAP", "area shares a byte with a live pool's"),
-    ("POOL_IN_USE", "buffers out, not FORCED_DELETE"),
-    ("NO_MORE_MEMORY", "no free buffer"),
-    ("INVALID_BUFF", "address not the start of a buffer out"),
-    ("INVALID_PRIORITY", "above 15"),
-    ("TASK_ALREADY_STARTED", "the task was started before"),
-    ("TASK_NOT_STARTED", "suspend or resume of a task not started"),
-    ("TASK_ALREADY_SUSPENDED", "the task is suspended"),
-    ("TASK_NOT_SUSPENDED", "the task is not suspended"),
-    ("NO_CALLER", "task caller, nothing runs"),
-    ("BAD_CALL", "unknown call or caller mark, or a tick with mark 0"),
-    ("BAD_STATE", "state breaks a rule"),
-))
+
+def rows_of(name):
+    """The rows of a table of the tools, by the words of its first line."""
+    with open(os.path.join(FOLDER, name), encoding="utf-8") as file:
+        lines = [line.rstrip("\n").split("\t") for line in file]
+    return [dict(zip(lines[0], line)) for line in lines[1:]]
 
 
 def fields(words):
@@ -78,37 +60,26 @@ def fields(words):
     return tuple(Field(name, kind or name) for name, _, kind in pairs)
 
 
-def row(name, arguments="", values="", makes=None, ends=None, mark=BY_TASK):
-    """A row of the call table; `mark` is the one a plain line means."""
-    return Call(name, fields(arguments), fields(values), makes, ends, mark)
+def numbers(words):
+    return tuple(map(int, words.split()))
 
 
-CALLS = (
-    row("tick", mark=BY_INTERRUPT),      # "A tick has mark 1."
-    row("task_create", "name priority", "id:task", makes="task"),
-    row("task_delete", "task", ends="task"),
-    row("task_ident", "name", "id:task"),
-    row("task_start", "task"),
-    row("task_suspend", "task"),
-    row("task_resume", "task"),
-    row("task_set_priority", "task priority", "earlier_priority"),
-    row("sem_create", "name count options:FIFO", "id:semaphore",
-        makes="semaphore"),
-    row("sem_delete", "id:semaphore", ends="semaphore"),
-    row("sem_ident", "name", "id:semaphore"),
-    row("sem_claim", "id:semaphore options:NOWAIT time_out"),
-    row("sem_release", "id:semaphore"),
-    row("sem_info", "id:semaphore", "options:FIFO count waiting"),
-    row("pool_create",
-        "name address length buffer_size options:FORCED_DELETE", "id:pool",
-        makes="pool"),
-    row("pool_delete", "id:pool", ends="pool"),
-    row("pool_ident", "name", "id:pool"),
-    row("pool_get_buff", "id:pool", "address"),
-    row("pool_ret_buff", "id:pool address"),
-    row("pool_info", "id:pool", "buffers free size options:FORCED_DELETE"),
-)
+def call_row(row):
+    """A call from its row: a create makes what it answers, a delete ends
+    what it is given, and a plain line means the mark of who may call."""
+    arguments, values = fields(row["arguments"]), fields(row["values"])
+    return Call(
+        row["name"], arguments, values,
+        values[0].kind if row["name"].endswith("_create") else None,
+        arguments[0].kind if row["name"].endswith("_delete") else None,
+        BY_INTERRUPT if row["caller"] == "interrupt" else BY_TASK,
+        row["caller"], numbers(row["statuses"]), numbers(row["wakes"]),
+        row["does"])
 
+
+STATUSES = tuple(Status(row["name"], row["meaning"])
+                 for row in rows_of("statuses.tsv"))
+CALLS = tuple(call_row(row) for row in rows_of("calls.tsv"))
 NUMBER_OF = {call.name: number for number, call in enumerate(CALLS)}
 
 

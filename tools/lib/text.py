@@ -16,16 +16,18 @@ def call_words(record):
     return " ".join(words)
 
 
-def bare_words(record):
-    """The call and the arguments it looks at, by name."""
+def bare_words(record, word=None):
+    """The call and the arguments it looks at, by name; `word` gives the word
+    of a place where it is not the plain one."""
     call = tables.call_of(record.call)
     if call is None:
         numbers = cut_zeros(record.arguments)
         return " ".join(["call", str(record.call)] + list(map(str, numbers)))
-    pairs = zip(call.arguments, record.arguments)
+    word = word or (lambda place: tables.word_of(
+        call.arguments[place].kind, record.arguments[place]))
     return " ".join([call.name] + [
-        "%s=%s" % (field.name, tables.word_of(field.kind, number))
-        for field, number in pairs])
+        "%s=%s" % (field.name, word(place))
+        for place, field in enumerate(call.arguments)])
 
 
 def mark_words(call, mark):

@@ -21,35 +21,33 @@ def painted(pieces, colour):
         if LOOKS[piece.look] else piece.text for piece in pieces)
 
 
-def caller_words(mark, running):
+def caller_words(mark, running, names):
     """Who makes the call: the mark says, and for mark 0 who ran before."""
     if mark == tables.BY_INTERRUPT:
         return "interrupt"
     if mark != tables.BY_TASK:
         return "mark %d" % mark
-    return "task %d" % running if running else "nobody"
+    return names.thing("task", running) if running else "nobody"
 
 
-def value_words(call, values):
-    """The values by their meaning; one without meaning is shown as odd."""
-    fields = call.values if call else ()
-    words = []
-    for place, value in enumerate(values):
-        if place < len(fields):
-            words.append(one_value(fields[place], value))
-        elif value != 0:
-            words.append("value %d without a meaning: %d" % (place + 1, value))
-    return ", ".join(words)
+def value_words(record, values, names):
+    """The values by their meaning."""
+    call = tables.call_of(record.call)
+    return ", ".join(one_value(field, value, record, names)
+                     for field, value in zip(call.values if call else (),
+                                             values))
 
 
-def one_value(field, value):
+def one_value(field, value, record, names):
     if field.kind in tables.TABLES:
-        return "%s %d" % (field.kind, value)
+        return names.whole(field.kind, value)
+    if field.kind == "address":
+        return "address " + names.address(record.arguments[0], value)
     return "%s %s" % (field.name.replace("_", " "),
                       tables.word_of(field.kind, value))
 
 
-def status_pieces(record, answer, caller):
+def status_pieces(record, answer, caller, names):
     status = tables.STATUSES[answer.status]
     if tables.is_refusal(answer.status):
         return [Piece(status.name, "bad"),
@@ -57,33 +55,42 @@ def status_pieces(record, answer, caller):
     if answer.status == tables.PENDING:
         return [Piece(status.name, "wait"), Piece(", %s waits" % caller,
                                                   "plain")]
-    values = value_words(tables.call_of(record.call), answer.values)
+    values = value_words(record, answer.values, names)
     return [Piece(status.name, "good"),
             Piece(", " + values if values else "", "plain")]
 
 
-def wake_pieces(answer):
+def wake_pieces(answer, names):
     pieces = []
     for wake in answer.wakes:
         look = "good" if wake.status == tables.GRANTED else "wait"
-        pieces += [Piece("; wakes task %d with " % wake.task, "plain"),
+        who = names.thing("task", wake.task)
+        pieces += [Piece("; wakes %s with " % who, "plain"),
                    Piece(tables.STATUSES[wake.status].name, look)]
     return pieces
 
 
-def running_piece(answer, before):
-    who = "task %d runs" % answer.running if answer.running else "nothing runs"
+def running_piece(answer, before, names):
+    who = "nothing runs"
+    if answer.running:
+        who = names.thing("task", answer.running) + " runs"
     if answer.running == before:
         return Piece("; %s on" % who if answer.running else "; " + who, "dim")
     return Piece("; now %s" % who, "now")
 
 
-def story(records, answers):
+def call_words(number, record, names):
+    return bare_words(record, lambda place: names.argument(number, record,
+                                                           place))
+
+
+def story(records, answers, names):
     """The pieces of each line, calls set in a column of their own."""
-    calls = [bare_words(record) for record in records]
+    calls = [call_words(number, record, names)
+             for number, record in enumerate(records, 1)]
     callers, running = [], tables.FIRST_TASK
     for record, answer in zip(records, answers):
-        callers.append((caller_words(record.mark, running), running))
+        callers.append((caller_words(record.mark, running, names), running))
         running = answer.running
     wide = max([10] + [len(who) for who, _ in callers])
     wider = min(WIDEST_CALL, max([4] + [len(call) for call in calls]))
@@ -95,5 +102,6 @@ def story(records, answers):
         yield [Piece("%6d  " % (number + 1), "dim"),
                Piece("%-*s  " % (wide, who), "plain"),
                Piece("%-*s  " % (wider, calls[number]), "call"),
-               *status_pieces(record, answer, who), *wake_pieces(answer),
-               running_piece(answer, before)]
+               *status_pieces(record, answer, who, names),
+               *wake_pieces(answer, names),
+               running_piece(answer, before, names)]

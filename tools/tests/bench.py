@@ -15,7 +15,7 @@ EXAMPLES = os.path.join(ROOT, "examples")
 class Bench:
     def __init__(self, scratch):
         self.scratch = scratch       # a folder that goes away afterwards
-        self.passed, self.failures = 0, []
+        self.passed, self.failures, self.skipped = 0, [], []
         self.told = {}
 
     def check(self, what, good, detail=""):
@@ -24,6 +24,12 @@ class Bench:
         else:
             self.failures.append("%s%s" % (what, ": " + detail if detail
                                            else ""))
+
+    def skip(self, what, why):
+        """What cannot be tried here is said once, and is no failure."""
+        words = "%s: %s" % (what, why)
+        if words not in self.skipped:
+            self.skipped.append(words)
 
     def equal(self, what, found, expected):
         self.check(what, found == expected,

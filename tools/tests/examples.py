@@ -3,7 +3,7 @@
 import os
 import subprocess
 
-from lib import listing, picture, reader, run, script
+from lib import listing, names as labels, picture, reader, run, script
 from tests.bench import EXAMPLES, ROOT, read
 
 SECOND = os.path.join(ROOT, "second")
@@ -26,8 +26,8 @@ def played(program, path):
                           check=True).stdout
 
 
-def test_five(bench):
-    bench.check("five examples or more", len(names()) >= 5)
+def test_six(bench):
+    bench.check("six examples or more", len(names()) >= 6)
 
 
 def test_examples(bench):
@@ -43,7 +43,8 @@ def test_examples(bench):
         bench.check(name + ".listing is the second program's", played(
             program, path + ".script") == answers)
         told = run.Run(*listing.fitted(answers, name, data, name),
-                       script.taken_apart(data).header.priority)
+                       script.taken_apart(data).header.priority,
+                       labels.notes_for(None, path + ".script", data))
         bench.equal(name + " has no doubts", told.doubts, [])
         bench.check(name + ".svg is its picture", picture.picture(
             told, name + ".script") == read(path + ".svg").decode())

@@ -35,11 +35,11 @@ def test_words_of_nine(bench):
 
 
 def test_words_of_stored(bench):
-    for name, (records, answers, _) in bench.some_runs():
+    for name, (records, answers, told) in bench.some_runs():
         lines = [words.painted(line, False)
-                 for line in words.story(records, answers)]
+                 for line in words.story(records, answers, told.labels)]
         good = len(lines) == len(records) + 1 and not any(
-            "without a meaning" in line or "\033" in line for line in lines)
+            "\033" in line for line in lines)
         bench.check("words of stored/" + name, good)
 
 
@@ -74,6 +74,14 @@ MISFITS = (
     ("3 0 65", "3 0 -65", "L:3: expected value 1 not negative"),
     ("\n4 0", "\n4  0", "L:4: expected a number without leading zeros"),
     ("\n4 0", "\n4 \u00b2", "L:4: expected figures"),
+    ("\n4 0", "\n4 10", "L:4: expected a status that task_start can give (0 2 "
+                       "4 5 20 24 25 26), found 10, SEMAPHORE_NOT_AVAILABLE"),
+    ("\n6 0", "\n6 1", "L:6: expected a status that tick can give (0 25 26), "
+                     "found 1, PENDING"),
+    ("65:13", "65:11", "L:7: expected no task woken by tick with 11, "
+                       "SEMAPHORE_DELETED"),
+    ("\n2 0 0", "\n2 0 65", "L:2: expected 0 for value 1, which sem_claim "
+                          "does not name, found 65"),
 )
 
 
@@ -100,6 +108,76 @@ def test_misfits(bench):
     bench.equal("exit status of a misfit, and no words", (status, out),
                 (1, b""))
     bench.holds("the misfit names its file", said, "short.listing:9: ")
+
+
+def test_wrong_pairs(bench):
+    """The listing of each longer script with the next: none fits."""
+    names = [name for name, told in bench.runs() if len(told[0]) > 20]
+    fits = [(one, other) for one, other in zip(names, names[1:] + names[:1])
+            if stored(one)[1] != stored(other)[1]
+            and complaint(stored(one)[1], stored(other)[0]) == "none"]
+    bench.equal("listings of other scripts that fit", fits, [])
+    script, _ = stored("nine")
+    unknown = script[:16] + b"\x63" + script[17:]
+    bench.holds("an unknown call", complaint(stored("nine")[1], unknown),
+                "L:1: expected BAD_CALL for call 99, which no row has")
+
+
+def shell(bench, words, **more):
+    """A tool called by words of the shell; status, output, errors."""
+    done = subprocess.run(["bash", "-c", words], cwd=TOOLS,
+                          stdout=subprocess.PIPE, stderr=subprocess.PIPE,
+                          stdin=subprocess.DEVNULL, timeout=20, **more)
+    return done.returncode, done.stdout.decode(), done.stderr.decode()
+
+
+def test_no_traceback(bench):
+    pair = "%s %s" % (nine("script"), nine("listing"))
+    full = "standard output: cannot be written: No space left on device\n"
+    closed = "standard output: cannot be written: it is closed\n"
+    for words, expected in (
+            ("./listing %s > /dev/full" % pair, (1, "", full)),
+            ("./listing %s >&-" % pair, (1, "", closed)),
+            ("./script show %s > /dev/full" % nine("script"), (1, "", full)),
+            ("./script show %s >&-" % nine("script"), (1, "", closed)),
+            ("./script calls > /dev/full", (1, "", full)),
+            ("./trace %s --svg - > /dev/full" % pair, (1, "", full)),
+            ("./trace %s --svg - >&-" % pair, (1, "", closed)),
+            ("env -u PYTHONUNBUFFERED ./trace --help > /dev/full", (
+                1, "", full)),
+            ("./listing absent absent 2>&-", (1, "", "")),
+            ("./script show - <&-", (
+                1, "", "standard input: cannot be read: it is closed\n"))):
+        bench.equal("tools" + words[1:].replace(STORED, "stored"),
+                    shell(bench, words), expected)
+    status, out, said = shell(
+        bench, "./script calls | head -c 1 > /dev/null; echo ${PIPESTATUS[0]}")
+    bench.check("a reader that has seen enough", "Traceback" not in said
+                and not said, said)
+
+
+def test_hints(bench):
+    words = bench.file("lock.txt", "first priority 5\ntick\n")
+    hint = ("lock.txt looks like text: `tools/script make %s -o SCRIPT` makes "
+            "a script of it" % words)
+    refused = bench.file("refused.listing", "script refused\n")
+    for tool, more in (("listing", [words, refused]),
+                       ("listing", [words, nine("listing")]),
+                       ("trace", [words, refused, "--svg", "-"]),
+                       ("script", ["show", words])):
+        _, out, said = bench.tool(tool, *more)
+        more = [os.path.basename(word) for word in more]
+        bench.holds("the hint of tools/%s %s" % (tool, " ".join(more)),
+                    out.decode() + said, hint)
+    _, out, said = bench.tool("script", "show", nine("script"))
+    bench.equal("no hint for a script", said, "")
+    _, _, said = bench.tool("listing", nine("listing"), nine("script"))
+    bench.holds("script and listing in the wrong order", said,
+                "nine.listing looks like a listing: the script comes first")
+    status, _, said = bench.tool("script", "make", nine("script"))
+    bench.equal("a script given for a text", status, 1)
+    bench.holds("a script given for a text gets a hint", said,
+                "`tools/script show` gives the text of one")
 
 
 def on_terminal(environment):

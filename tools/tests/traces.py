@@ -138,7 +138,8 @@ def expected_finals(told):
     for kind, field, part in (("task", "state", 1), ("semaphore", "count", 1),
                               ("pool", "out", 1)):
         for slot, spans in told.spans[kind].items():
-            path = "run/%s_slot_%d/%s" % (kind, slot, field)
+            path = "run/%ss/%s_%s" % (kind, waves.slot_name(
+                told, kind, slot), field)
             alive = spans[-1].last == told.last
             value = spans[-1].view[part] if alive else None
             if kind == "task":
@@ -160,7 +161,7 @@ def read_value(text):
 def test_waves(bench):
     for name, (_, _, told) in bench.some_runs():
         try:
-            last = parsed(waves.vcd_of(told))
+            last = parsed(waves.waves_of(told).text())
         except AssertionError as wrong:
             bench.check("waves of " + name, False, str(wrong))
             continue

@@ -1,0 +1,50 @@
+"""README.md and the other pages: what they quote and name is there."""
+
+import os
+import re
+
+from tests.bench import ROOT, STORED, read
+
+PAGES = ("README.md", "CONTRIBUTING.md", "docs/TOOLS.md", "docs/CALLS.md")
+PLACES = "crates|tools|docs|examples|stored|second|bench|include|play|\\.ci"
+PATH = re.compile(r"`(?:\./)?((?:%s)(?:/[\w.-]+)*/?)[` ]" % PLACES)
+QUOTE = re.compile(r"^From `([^`]+)`[^\n]*:\n\n((?:    .*\n)+)", re.M)
+PATTERN = re.compile(r"NAME|LABEL|landings")     # names for what is to come
+
+
+def page(name):
+    return read(ROOT, name).decode()
+
+
+def test_paths(bench):
+    for name in PAGES:
+        absent = [path for path in PATH.findall(page(name))
+                  if not PATTERN.search(path)
+                  and not os.path.exists(os.path.join(ROOT, path))]
+        bench.equal("%s names what is there" % name, absent, [])
+
+
+def test_quotes(bench):
+    """A line that a page quotes from a file stands in that file."""
+    quotes = [(name, *found) for name in PAGES
+              for found in QUOTE.findall(page(name))]
+    bench.check("README.md quotes a theorem", any(
+        name == "README.md" for name, _, _ in quotes))
+    for name, path, lines in quotes:
+        known = {line.strip() for line in page(path).split("\n")}
+        missing = [line.strip() for line in lines.split("\n")
+                   if line.strip() not in known]
+        bench.equal("what %s quotes from %s" % (name, path), missing, [])
+
+
+def test_first_listing(bench):
+    lines = read(STORED, "nine.listing").decode().splitlines(True)
+    bench.holds("README.md has the nine's listing", page("README.md"),
+                "".join("    " + line for line in lines))
+
+
+def test_short_lines(bench):
+    """A quoted line is as long as it is; a table's row too."""
+    long = [line for line in page("README.md").split("\n")
+            if len(line) > 125 and not line.startswith(("    ", "|"))]
+    bench.equal("short lines in README.md", long, [])
