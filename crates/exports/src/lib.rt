@@ -1,4 +1,4 @@
-// The functions that C calls. A slice is a pointer and then its length. (bench/dryswennol.h.)
+// The functions that C calls. A slice is a pointer and then its length. (include/dryswennol.h.)
 ghost use Rattle.listings.specs.Whole.{Whole};
 
 // The length of the script's listing; the listing at the start of `out` exactly if it fits there, and else nothing.
