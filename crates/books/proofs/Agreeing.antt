@@ -14,7 +14,6 @@ use borrow.Author.Tests.{eq-eqb, ne-eqb, eqb-true}
 use Rattle.scope.specs.declared.State.{State}
 use Rattle.scope.specs.declared.Answer.{Answer}
 use Rattle.scope.specs.Statuses.{OK, PENDING}
-use Rattle.scope.specs.Identifiers.{identifier}
 use Rattle.scope.specs.Seats.{queueSeats}
 use Rattle.scope.specs.Lists.{has, keep}
 use Rattle.scope.specs.Views.{runningTask}
@@ -25,14 +24,8 @@ use Rattle.histories.specs.Order.{Arrivals, WaitsFor}
 use Rattle.histories.proofs.Staying.{Fewer}
 use Rattle.books.specs.Past.{Turn, isAnswer, isAnswerOf, value, creates, runningIn}
 use Rattle.books.specs.Waiting.{isFifo, target, doneTo, priorityIn, pends, claimed, joinedWith, arrivedAt, endsWait, waiting}
-use Rattle.books.proofs.Members.{Once, has-kept, kept-has, once-kept}
-
--- a live task's identifier, a live semaphore's
-abbrev pub taskId : State → ℕ → ℕ
-taskId s t = identifier (getD (s .tasks .serial) t 0) t
-
-abbrev pub semId : State → ℕ → ℕ
-semId s i = identifier (getD (s .semaphores .serial) i 0) i
+use Rattle.books.proofs.Members.{has-kept, kept-has, once-kept}
+use Rattle.books.specs.Told.{Once, taskId, semId}
 
 abbrev pub turnOf : Event → Answer → Turn
 turnOf x a = record { event = x; reply = replyOf a }

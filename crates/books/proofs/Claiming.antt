@@ -31,9 +31,10 @@ use Rattle.histories.proofs.Staying.{Good, leaves-stays, leaves-good}
 use Rattle.histories.proofs.Arriving.{joined-stood}
 use Rattle.books.specs.Past.{Turn, isAnswer, isAnswerOf, runningIn}
 use Rattle.books.specs.Waiting.{priorityIn, claimed, joinedWith, arrivedAt, endsWait, waiting}
-use Rattle.books.proofs.Members.{Once, has-before, has-last, has-grown, once-grown, has-kept, kept-has, once-kept, none-has}
+use Rattle.books.proofs.Members.{has-before, has-last, has-grown, once-grown, has-kept, kept-has, once-kept, none-has}
 use Rattle.books.proofs.Woken.{leaves-others}
-use Rattle.books.proofs.Agreeing.{taskId, semId, Waiter, Waiters, is-of, of-is, pends-other, is-pending, waiting-more, waiting-less}
+use Rattle.books.proofs.Agreeing.{Waiter, Waiters, is-of, of-is, pends-other, is-pending, waiting-more, waiting-less}
+use Rattle.books.specs.Told.{taskId, semId, Once}
 
 -- identifiers of two slots differ
 pub apart-slots : (a b t u : ℕ) → t < 64 → u < 64 → identifier a t ≡ identifier b u → t ≡ u

@@ -14,7 +14,7 @@ use Rattle.scope.specs.declared.Found.{Found}
 use Rattle.scope.specs.Choice.{pick}
 use Rattle.scope.specs.Statuses.{OK, PENDING}
 use Rattle.scope.specs.Answers.{answer, plain, gives, badState, wakesWith, onFound}
-use Rattle.scope.specs.Replies.{Wake, wakesFrom, wakeList, replyOf}
+use Rattle.scope.specs.Replies.{wakesFrom, wakeList, replyOf}
 use Rattle.scope.specs.Tasks.{taskCreateAt, taskCreate, taskDeleteAt, taskDelete, taskIdentAt, taskIdent, taskStartAt, taskStart, taskSuspendAt, taskSuspend, taskResumeAt, taskResume, taskSetPriorityAt, taskSetPriority}
 use Rattle.scope.specs.Semaphores.{semCreateAt, semCreate, semDeleteAt, semDelete, semIdentAt, semIdent, semWaitAt, semClaimAt, semClaim, semInfoAt, semInfo}
 use Rattle.scope.specs.Pools.{poolCreateAt, poolCreate, poolDeleteAt, poolDelete, poolIdentAt, poolIdent, poolGetBuffer, poolGetBuffAt, poolGetBuff, poolRetBuffer, poolRetBuffAt, poolRetBuff, poolInfoAt, poolInfo}
@@ -23,11 +23,7 @@ use Rattle.histories.specs.History.{Event, answerTo}
 use Rattle.histories.proofs.Refused.{by-choice}
 use Rattle.histories.proofs.Refusals.{refusal}
 use Rattle.histories.proofs.Answered.{none, more, by-name, by-row}
-
--- nobody on the wake list is woken with 0
-abbrev pub NoGrant : List Wake → Type 0
-NoGrant [] = record {}
-NoGrant (w ∷ ws) = (w .status ≡ OK → ⊥) × NoGrant ws
+use Rattle.books.specs.Told.{NoGrant}
 
 woken-other : (n k : ℕ) (tasks : List ℕ) (why : ℕ) → (why ≡ OK → ⊥) → NoGrant (wakesFrom n k tasks why)
 woken-other zero k tasks why ne = record {}

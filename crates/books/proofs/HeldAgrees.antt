@@ -15,9 +15,9 @@ use Rattle.scope.specs.Identifiers.{identifier, found}
 use Rattle.scope.specs.Pools.{poolBuffers}
 use Rattle.tables.proofs.Laws.{Names, found-names, found-identifier, identifier-found}
 use Rattle.books.specs.Past.{Turn}
-use Rattle.books.specs.Held.{lengthIn, sizeIn, isForced, poolLives, held}
+use Rattle.books.specs.Held.{addressIn, lengthIn, sizeIn, isForced, poolLives, held}
 use Rattle.books.proofs.HeldMarks.{Listed}
-use Rattle.books.proofs.HeldTurns.{addressIn, Quiet, address-same, length-same, size-same, forced-same, lives-same, held-same}
+use Rattle.books.proofs.HeldTurns.{Quiet, address-same, length-same, size-same, forced-same, lives-same, held-same}
 
 -- the identifier names the live pool in slot i
 abbrev pub NamedAt : Pools → ℕ → ℕ → Type 0

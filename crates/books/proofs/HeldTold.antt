@@ -17,7 +17,7 @@ use Rattle.scope.specs.Choice.{least, number}
 use Rattle.scope.specs.Statuses.{OK}
 use Rattle.scope.specs.Lists.{has}
 use Rattle.scope.specs.Areas.{isArea, isSize, isOut, isFree, lowestFree, freeOf, bufferAddress, bufferAt}
-use Rattle.scope.specs.Answers.{bitOf, answer, plain, gives, badState, onFound}
+use Rattle.scope.specs.Answers.{answer, plain, gives, badState, onFound}
 use Rattle.scope.specs.Calls.{callAt}
 use Rattle.scope.specs.Pools.{poolFound, poolBuffers, poolInfoAt, poolDeleteAt, poolGetBuffer, poolGetBuffAt, poolRetBuffer, poolRetBuffAt}
 use Rattle.laws.proofs.Branches.{both-true, second-decides, not-of-false, picked-yes, picked-no, true-false, true-or-false, eq-or-not}
@@ -34,26 +34,12 @@ use Rattle.histories.proofs.Answered.{by-name, by-number}
 use Rattle.histories.proofs.Ledger.{event-keeps}
 use Rattle.histories.proofs.Owners.{Out, InBuffer, buffers-out-apart}
 use Rattle.books.specs.Past.{Turn}
-use Rattle.books.specs.Held.{lengthIn, sizeIn, isForced, buffersIn, poolLives, held}
+use Rattle.books.specs.Held.{addressIn, lengthIn, sizeIn, isForced, buffersIn, held}
 use Rattle.books.proofs.HeldMarks.{OutAt}
-use Rattle.books.proofs.HeldTurns.{turnOf, is-answer, not-call, is-of, not-answer, quiet-other, addressIn, held-same}
+use Rattle.books.proofs.HeldTurns.{turnOf, is-answer, not-call, is-of, not-answer, quiet-other, held-same}
 use Rattle.books.proofs.HeldAgrees.{NamedAt, Holds, Agrees, slot-or-none, one-name}
 use Rattle.books.proofs.HeldSteps.{turn-agrees}
-
--- "pool_info gives buffers, free, size, options": these four values, and what is free or held are all
-pub record InfoTold (past : List Turn) (id : ℕ) (values : List ℕ) : Type 0 where
-  pub lives : poolLives past id ≡ true
-  pub free : ℕ
-  pub all : free + length (held past id) ≡ buffersIn past id
-  pub four : values ≡ buffersIn past id ∷ free ∷ sizeIn past id ∷ bitOf (isForced past id) ∷ []
-
--- v is the address of the lowest buffer of pool id that is not held: "Get gives the lowest free buffer"
-pub record LowestFree (past : List Turn) (id v : ℕ) : Type 0 where
-  pub lives : poolLives past id ≡ true
-  pub buffer : ℕ
-  pub below : buffer < buffersIn past id
-  pub starts : addressIn past id + buffer * sizeIn past id ≡ v
-  pub lower : (k : ℕ) → k < buffer → has (held past id) (addressIn past id + k * sizeIn past id) ≡ true
+use Rattle.books.specs.Told.{PoolInfoTold, LowestFree}
 
 empty : (l : List ℕ) → length l ≡ 0 → l ≡ []
 empty [] e = refl
@@ -144,10 +130,10 @@ module _ (s : State) (ok : Sound s) (past : List Turn) (agrees : Agrees (s .pool
           by-number IfDone s not-done x k at (λ d. absurd (omega arith))
           (subst IfDone (sym row) (by-name IfDone s not-done (poolFound s (x .a)) f g))
 
-    pub info-told : x .call ≡ 19 → answerTo s x .status ≡ OK → InfoTold past (x .a) (answerTo s x .values)
+    pub info-told : x .call ≡ 19 → answerTo s x .status ≡ OK → PoolInfoTold past (x .a) (answerTo s x .values)
     unfolding poolInfoAt answer
     info-told at =
-        by-pool (λ a. InfoTold past (x .a) (a .values)) 19 (poolInfoAt s) at refl
+        by-pool (λ a. PoolInfoTold past (x .a) (a .values)) 19 (poolInfoAt s) at refl
         (λ i names d. let h : Holds p past (x .a) i = holds (x .a) i names in
         record {
           lives = h .lives;

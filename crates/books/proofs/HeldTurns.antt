@@ -10,13 +10,12 @@ use lib.ListN.{getD}
 use lib.Dec.{eqb}
 use borrow.Author.Tests.{eq-eqb, ne-eqb}
 use Rattle.scope.specs.declared.Answer.{Answer}
-use Rattle.scope.specs.Choice.{pick}
 use Rattle.scope.specs.Statuses.{OK}
 use Rattle.scope.specs.Replies.{replyOf}
 use Rattle.laws.proofs.Branches.{both, first-fails, second-fails, picked-no}
 use Rattle.histories.specs.History.{Event}
 use Rattle.books.specs.Past.{Turn, isAnswer, isAnswerOf, creates}
-use Rattle.books.specs.Held.{lengthIn, sizeIn, isForced, poolLives, held}
+use Rattle.books.specs.Held.{addressIn, lengthIn, sizeIn, isForced, poolLives, held}
 
 -- the turn of a call and its answer
 abbrev pub turnOf : Event → Answer → Turn
@@ -107,11 +106,6 @@ module _ (id : ℕ) (x : Event) (a : Answer) where
         got = not-answer 17 id t (not-call 17 x a (λ d. omega arith));
         back = not-answer 18 id t (not-call 18 x a (λ d. omega arith));
       }
-
--- where the pool began, by its creation
-abbrev pub addressIn : List Turn → ℕ → ℕ
-addressIn [] id = 0
-addressIn (x ∷ past) id = pick (creates 14 id x) (x .event .b) (addressIn past id)
 
 -- such a turn changes nothing of what is told
 module _ (id : ℕ) (t : Turn) (past : List Turn) where

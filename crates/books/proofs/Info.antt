@@ -4,9 +4,9 @@
 use Prim.Native.Nat.{ℕ, _+_, _≤_, _<_}
 use native.Mathlib.Omega.{arith}
 use mathlib.Core.Path.{_≡_, refl, sym, subst, ap, _∙_}
-use mathlib.Core.Bool.{true, false}
+use mathlib.Core.Bool.{false}
 use mathlib.Core.List.{List}
-use lib.ListN.{length, getD}
+use lib.ListN.{length}
 use lib.Dec.{eqb}
 use borrow.Author.Tests.{eqb-false}
 use Rattle.scope.specs.declared.State.{State}
@@ -15,7 +15,7 @@ use Rattle.scope.specs.Statuses.{OK}
 use Rattle.scope.specs.Views.{waitersOf, less}
 use Rattle.scope.specs.Answers.{bitOf, answer, plain, badState}
 use Rattle.scope.specs.Semaphores.{semFound, semInfoAt}
-use Rattle.scope.specs.Replies.{Reply, replyOf}
+use Rattle.scope.specs.Replies.{replyOf}
 use Rattle.scope.specs.Fresh.{freshState}
 use Rattle.tables.proofs.Laws.{found-below, found-live, found-identifier}
 use Rattle.histories.specs.History.{Event, answerTo, after, total, SemaphoreAt}
@@ -24,19 +24,10 @@ use Rattle.histories.proofs.Answered.{by-name, by-number}
 use Rattle.histories.proofs.Ledger.{Creation}
 use Rattle.histories.proofs.Demand.{WaitingNegative, end-sound, count-of-history, waiting-of-history}
 use Rattle.books.specs.Past.{Turn, pastOf}
-use Rattle.books.specs.Waiting.{initialCount, isFifo, releases, grants, waiting}
-use Rattle.books.proofs.Agreeing.{semId}
-use Rattle.books.proofs.Told.{SeatsTold, seats-told}
+use Rattle.books.specs.Waiting.{isFifo, releases, waiting}
+use Rattle.books.proofs.Told.{seats-told}
 use Rattle.books.proofs.Totals.{releases-told, grants-told, initial-told}
-
--- "sem_info gives options, count, tasks waiting": what it gives of semaphore id. A negative count's size is the second value.
-pub record InfoTold (past : List Turn) (id : ℕ) (reply : Reply) : Type 0 where
-  pub option : getD (reply .values) 0 0 ≡ bitOf (isFifo past id)
-  pub counted : record { negative = reply .negative; size = getD (reply .values) 1 0 } ≡ less (initialCount past id + releases past id) (grants past id + length (waiting past id))
-  pub waiters : getD (reply .values) 2 0 ≡ length (waiting past id)
-  pub minus : 0 < length (waiting past id) → reply .negative ≡ true
-  pub some : reply .negative ≡ true → 0 < length (waiting past id)
-  pub size : reply .negative ≡ true → getD (reply .values) 1 0 ≡ length (waiting past id)
+use Rattle.books.specs.Told.{SemInfoTold, SeatsTold, semId}
 
 less-of : {a b c d : ℕ} → a ≡ c → b ≡ d → less a b ≡ less c d
 less-of p q = rw (p, q)
@@ -67,7 +58,7 @@ module _ (p : ℕ) (h : p ≤ 15) (xs : List Event) where
   abbrev past : List Turn
   past = pastOf p xs
 
-  slot-told : (id i : ℕ) → SemaphoreAt now id i → InfoTold past id (replyOf (semInfoAt now i))
+  slot-told : (id i : ℕ) → SemaphoreAt now id i → SemInfoTold past id (replyOf (semInfoAt now i))
   unfolding semInfoAt answer
   slot-told id i names =
       let hi : i < 16 = omega (arith, found-below (now .semaphores .serial) (now .semaphores .live) id names, end-sound p h xs .semaphores .serials) in
@@ -92,7 +83,7 @@ module _ (p : ℕ) (h : p ≤ 15) (xs : List Event) where
       }
 
   -- what sem_info answers
-  pub info-told : (x : Event) → x .call ≡ 13 → answerTo now x .status ≡ OK → InfoTold past (x .a) (replyOf (answerTo now x))
+  pub info-told : (x : Event) → x .call ≡ 13 → answerTo now x .status ≡ OK → SemInfoTold past (x .a) (replyOf (answerTo now x))
   info-told x at done =
       let k : Asked now (x .a) (answerTo now x) = info-done now x at done in
-      subst (λ (a : Answer). InfoTold past (x .a) (replyOf a)) (sym (k .same)) (slot-told (x .a) (k .slot) (k .names))
+      subst (λ (a : Answer). SemInfoTold past (x .a) (replyOf a)) (sym (k .same)) (slot-told (x .a) (k .slot) (k .names))

@@ -6,7 +6,7 @@ use mathlib.Core.Path.{_≡_, sym, ap, _∙_}
 use mathlib.Core.Bool.{true}
 use mathlib.Core.List.{List, [], _∷_, _++_, append-nil, append-assoc}
 use Rattle.scope.specs.declared.State.{State}
-use Rattle.scope.specs.Replies.{Reply, replyOf}
+use Rattle.scope.specs.Replies.{replyOf}
 use Rattle.scope.specs.Fresh.{freshState}
 use Rattle.scope.specs.Script.{firstPriority, isScript}
 use Rattle.scope.specs.Listing.{listing}

@@ -14,11 +14,7 @@ use Rattle.scope.specs.Choice.{number}
 use Rattle.scope.specs.Lists.{has, keep}
 use Rattle.laws.proofs.Branches.{true-false, true-or-false, picked-yes, picked-no, both, both-true, first-fails, second-fails, not-of-true, not-of-false}
 use Rattle.scope.proofs.Seats.{number-more}
-
--- each is on the list once
-abbrev pub Once : List ℕ → Type 0
-Once [] = record {}
-Once (x ∷ xs) = (has xs x ≡ false) × Once xs
+use Rattle.books.specs.Told.{Once}
 
 pub has-here : (x : ℕ) (xs : List ℕ) → has (x ∷ xs) x ≡ true
 has-here x xs = picked-yes (eqb x x) true _ (eq-eqb x x refl)

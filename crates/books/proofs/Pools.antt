@@ -32,8 +32,9 @@ use Rattle.books.specs.Held.{sizeIn, isForced, poolLives, held, gets, re
 use Rattle.books.proofs.HeldTurns.{turnOf}
 use Rattle.books.proofs.HeldAgrees.{Holds, Nothing, Agrees, slot-or-none}
 use Rattle.books.proofs.HeldSteps.{turn-agrees}
-use Rattle.books.proofs.HeldTold.{InfoTold, LowestFree, held-apart, info-told, lowest-told, not-held, names-held, none-held}
+use Rattle.books.proofs.HeldTold.{held-apart, info-told, lowest-told, not-held, names-held, none-held}
 use Rattle.books.proofs.HeldCounts.{gets-told, returns-told}
+use Rattle.books.specs.Told.{PoolInfoTold, GetTold}
 
 -- a history keeps the agreement
 history-agrees : (s : State) → Sound s → (past : List Turn) → Agrees (s .pools) past → (xs : List Event) → Agrees (after s xs .pools) (pastFrom past s xs)
@@ -62,11 +63,6 @@ pub record MarksTold (s : State) (past : List Turn) : Type 0 where
   pub lives : (id : ℕ) → poolLives past id ≡ true → (i : ℕ) × PoolAt s id i
   pub live : (id i : ℕ) → PoolAt s id i → Holds (s .pools) past id i
   pub dead : (id : ℕ) → ((i : ℕ) → PoolAt s id i → ⊥) → Nothing past id
-
--- What a get answers: "the lowest free buffer", an address that is held of no pool.
-pub record GetTold (past : List Turn) (id v : ℕ) : Type 0 where
-  pub lowest : LowestFree past id v
-  pub unheld : (jd : ℕ) → has (held past jd) v ≡ false
 
 -- "For any history from a fresh state"
 module _ (p : ℕ) (h : p ≤ 15) (xs : List Event) where
@@ -120,7 +116,7 @@ module _ (p : ℕ) (h : p ≤ 15) (xs : List Event) where
     reply = replyOf (answerTo now x)
 
     -- "pool_info gives buffers, free, size, options"
-    pub pool-info-told : x .call ≡ 19 → reply .status ≡ OK → InfoTold past (x .a) (reply .values)
+    pub pool-info-told : x .call ≡ 19 → reply .status ≡ OK → PoolInfoTold past (x .a) (reply .values)
     pool-info-told = info-told now now-sound past end-agrees x
 
     -- a get answers the address of the pool's own lowest buffer that is not held, and of no pool is that address held

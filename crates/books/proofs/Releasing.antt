@@ -35,15 +35,8 @@ use Rattle.books.specs.Past.{Turn, pastOf}
 use Rattle.books.specs.Waiting.{waiting, Precedes}
 use Rattle.books.proofs.Granting.{nobody}
 use Rattle.books.proofs.Members.{has-here}
-use Rattle.books.proofs.Agreeing.{taskId, semId}
-use Rattle.books.proofs.Told.{StandsAt, SeatsTold, fresh-same, history-agrees, in-order, precedes-told, seats-told}
-
--- one task is woken, with status 0: it waited for semaphore id, and precedes all others who do
-pub record GrantTold (p : ℕ) (past : List Turn) (id : ℕ) (wakes : List Wake) : Type 0 where
-  pub task : ℕ
-  pub only : wakes ≡ record { task = task; status = OK } ∷ []
-  pub waited : has (waiting past id) task ≡ true
-  pub first : (u : ℕ) → has (waiting past id) u ≡ true → (u ≡ task → ⊥) → Precedes p past id task u
+use Rattle.books.proofs.Told.{fresh-same, history-agrees, in-order, precedes-told, seats-told}
+use Rattle.books.specs.Told.{GrantTold, StandsAt, SeatsTold, taskId, semId}
 
 -- who sits on the first seat of a queue stands in it
 pub first-stands : (q : List ℕ) (o : ℕ) → firstOf q o < 32 → In q o (firstOf q o)

@@ -35,8 +35,9 @@ use Rattle.books.specs.Past.{Turn, isAnswer, isAnswerOf, value, runningI
 use Rattle.books.specs.Waiting.{target, doneTo, priorityIn, isFifo, wakes, endsWait}
 use Rattle.books.proofs.Granting.{nobody}
 use Rattle.books.proofs.Woken.{wakes-at, at-wakes, Woke}
-use Rattle.books.proofs.Agreeing.{taskId, semId, turnOf, Waiters, Agrees, not-call, not-status, is-answer, not-creates, not-new, is-new, not-of, not-on, not-done, done-other, is-done, waiters-fewer}
+use Rattle.books.proofs.Agreeing.{turnOf, Waiters, Agrees, not-call, not-status, is-answer, not-creates, not-new, is-new, not-of, not-on, not-done, done-other, is-done, waiters-fewer}
 use Rattle.books.proofs.Claiming.{apart-slots, waits-room}
+use Rattle.books.specs.Told.{taskId, semId}
 
 -- an answer after which the state agrees, if it did before
 pub record Steps (s : State) (x : Event) (a : Answer) : Type 0 where

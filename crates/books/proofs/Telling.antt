@@ -47,9 +47,10 @@ use Rattle.histories.proofs.Turns.{dead-nobody, good, task-room, slot-room, rea
 use Rattle.histories.proofs.Ledger.{event-keeps}
 use Rattle.books.specs.Past.{Turn, isAnswer, runningIn, pastFrom}
 use Rattle.books.proofs.Woken.{ready-others, Left, leaves-left, ready-left, none-woke, next-woke, all-woke, due-woke}
-use Rattle.books.proofs.Agreeing.{taskId, turnOf, Agrees, is-answer, not-call, not-of, not-creates, not-done}
+use Rattle.books.proofs.Agreeing.{turnOf, Agrees, is-answer, not-call, not-of, not-creates, not-done}
 use Rattle.books.proofs.Claiming.{waiters-more, claim-stays, claim-came, claim-new, claim-kept, claim-joined}
 use Rattle.books.proofs.Steps.{Steps, waiter-live, waiter-seen, ends-woken, SameSems, Moves, moves-none, moves-woke, status-steps, call-steps, create-steps, set-steps, delete-steps, born-steps, gone-steps}
+use Rattle.books.specs.Told.{taskId}
 
 module _ (s : State) (x : Event) where
   line-moves : (a : Answer) → a .state .line ≡ s .line → a .woken ≡ 0 → Moves s a

@@ -28,40 +28,13 @@ use Rattle.histories.proofs.Moves.{queue-waits}
 use Rattle.histories.proofs.Order.{history-in-order}
 use Rattle.histories.proofs.Turns.{dead-nobody}
 use Rattle.histories.proofs.Demand.{end-sound}
-use Rattle.books.specs.Past.{Turn, runningIn, pastOf}
-use Rattle.books.specs.Waiting.{isFifo, priorityIn, claimed, joinedWith, arrivedAt, waiting, Ahead, Precedes}
-use Rattle.books.proofs.Members.{Once, length-number}
-use Rattle.books.proofs.Agreeing.{taskId, semId, Waiter, Agrees}
+use Rattle.books.specs.Past.{Turn, pastOf}
+use Rattle.books.specs.Waiting.{isFifo, priorityIn, joinedWith, arrivedAt, waiting, Ahead, Precedes}
+use Rattle.books.proofs.Members.{length-number}
+use Rattle.books.proofs.Agreeing.{Waiter, Agrees}
 use Rattle.books.proofs.Claiming.{apart-slots, waits-room}
 use Rattle.books.proofs.Telling.{agrees-after}
-
--- y is a task that waits for the semaphore that id names
-pub record StandsAt (s : State) (id y : ℕ) : Type 0 where
-  pub slot : ℕ
-  pub task : ℕ
-  pub names : SemaphoreAt s id slot
-  pub waits : WaitsFor s slot task
-  pub who : y ≡ taskId s task
-
--- The state says what the answers tell.
-pub record SeatsTold (p : ℕ) (s : State) (past : List Turn) : Type 0 where
-  pub running : runningIn past ≡ runningTask s
-  pub priority : (t : ℕ) → t < 32 → getD (s .tasks .live) t false ≡ true → priorityIn p past (taskId s t) ≡ getD (s .tasks .priority) t 0
-  pub fifo : (i : ℕ) → i < 16 → getD (s .semaphores .live) i false ≡ true → isFifo past (semId s i) ≡ getD (s .semaphores .fifo) i false
-  -- who stands in a queue is on the semaphore's list, and the other way round; each once
-  pub listed : (i : ℕ) → i < 16 → (t : ℕ) → WaitsFor s i t → has (waiting past (semId s i)) (taskId s t) ≡ true
-  pub stands : (i : ℕ) → i < 16 → (t : ℕ) → t < 32 → has (waiting past (semId s i)) (taskId s t) ≡ true → WaitsFor s i t
-  pub others : (id y : ℕ) → has (waiting past id) y ≡ true → StandsAt s id y
-  pub once : (id : ℕ) → Once (waiting past id)
-  pub number : (i : ℕ) → i < 16 → length (waiting past (semId s i)) ≡ waitersOf (s .line) i
-  -- what is told of who stands in a queue
-  pub claims : (i : ℕ) → i < 16 → (t : ℕ) → WaitsFor s i t → claimed past (taskId s t) ≡ semId s i
-  pub joined : (i : ℕ) → i < 16 → (t : ℕ) → WaitsFor s i t → joinedWith p past (taskId s t) ≡ getD (s .line .joined) t 0
-  -- the order
-  pub forward : (i : ℕ) → i < 16 → (t u : ℕ) → WaitsFor s i t → WaitsFor s i u → getD (s .line .seat) t 0 < getD (s .line .seat) u 0
-      → Precedes p past (semId s i) (taskId s t) (taskId s u)
-  pub back : (i : ℕ) → i < 16 → (t u : ℕ) → WaitsFor s i t → WaitsFor s i u → Precedes p past (semId s i) (taskId s t) (taskId s u)
-      → getD (s .line .seat) t 0 < getD (s .line .seat) u 0
+use Rattle.books.specs.Told.{StandsAt, SeatsTold, taskId, semId}
 
 -- a fresh state has no semaphore, so nobody waits
 fresh-idle : (p : ℕ) → p ≤ 15 → (i : ℕ) → i < 16 → (t : ℕ) → WaitsFor (freshState p) i t → ⊥

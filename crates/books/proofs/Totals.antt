@@ -34,11 +34,12 @@ use Rattle.histories.proofs.Ledger.{Creation, event-keeps}
 use Rattle.histories.proofs.Fresh.{fresh-sound}
 use Rattle.books.specs.Past.{Turn, isAnswer, isAnswerOf, value, creates, pastFrom, pastOf}
 use Rattle.books.specs.Waiting.{initialCount, claimed, releases, grantedTo, grants}
-use Rattle.books.proofs.Granting.{NoGrant, nobody, only-releases-grant}
-use Rattle.books.proofs.Agreeing.{taskId, turnOf, Agrees, is-answer, is-new}
+use Rattle.books.proofs.Granting.{nobody, only-releases-grant}
+use Rattle.books.proofs.Agreeing.{turnOf, Agrees, is-answer, is-new}
 use Rattle.books.proofs.Telling.{event-steps}
 use Rattle.books.proofs.Told.{fresh-agrees}
 use Rattle.books.proofs.Releasing.{Released, release-done, wakes-one}
+use Rattle.books.specs.Told.{taskId, NoGrant}
 
 and-swap : (a b c : Bool) → ((a && b) && c) ≡ (a && (c && b))
 and-swap true true true = refl

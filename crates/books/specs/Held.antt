@@ -11,6 +11,10 @@ use Rattle.scope.specs.Statuses.{OK}
 use Rattle.books.specs.Past.{Turn, isAnswerOf, value, creates, times}
 
 -- what the creation of pool id asked for
+abbrev pub addressIn : List Turn → ℕ → ℕ
+addressIn [] id = 0
+addressIn (x ∷ past) id = pick (creates 14 id x) (x .event .b) (addressIn past id)
+
 abbrev pub lengthIn : List Turn → ℕ → ℕ
 lengthIn [] id = 0
 lengthIn (x ∷ past) id = pick (creates 14 id x) (x .event .c) (lengthIn past id)

@@ -4,3 +4,4 @@ pub mod Past
 pub mod Waiting
 pub mod Held
 pub mod Link
+pub mod Told

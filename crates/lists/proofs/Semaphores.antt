@@ -19,7 +19,7 @@ use Rattle.scope.specs.Views.{withSeats}
 use Rattle.scope.specs.Answers.{answer, plain, wakesWith}
 use Rattle.scope.specs.Replies.{wakeList}
 use Rattle.scope.specs.Semaphores.{isTimeOut, wakeNext, noneWoken, wakeAll, semDeleteAt, queueKey, waits, semWaitAt, semClaimAt, semReleaseAt}
-use Rattle.laws.proofs.Branches.{eq-or-not, true-false, true-or-false, first-fails, not-of-true, picked-yes, picked-no}
+use Rattle.laws.proofs.Branches.{eq-or-not, true-or-false, first-fails, not-of-true, picked-yes, picked-no}
 use Rattle.seats.specs.Rule.{In}
 use Rattle.seats.proofs.Counting.{standing-le}
 use Rattle.histories.specs.Sound.{Ready, Sound}

@@ -8,14 +8,14 @@ use mathlib.Core.Bool.{Bool, true, false, not, _&&_}
 use mathlib.Core.List.{List}
 use lib.ListN.{getD}
 use lib.Dec.{ltb, leb, eqb}
-use borrow.Author.Tests.{lt-ltb, le-ltb, le-leb, eq-eqb, ltb-true, leb-true, eqb-true, not-true}
+use borrow.Author.Tests.{lt-ltb, le-leb, eq-eqb, ltb-true, leb-true, eqb-true, not-true}
 use Rattle.scope.specs.declared.Tasks.{Tasks}
 use Rattle.scope.specs.Choice.{pick}
 use Rattle.scope.specs.Seats.{ringSeats, waitsOn, queueOf, onSeat}
 use Rattle.scope.specs.Views.{readyWith}
 use Rattle.scope.specs.Semaphores.{isTimeOut}
 use Rattle.scope.specs.Rules.{readyRight, waitRight, joinedRight, startRight, taskRight}
-use Rattle.laws.proofs.Branches.{picked-yes, picked-no, both, both-true, not-of-false, true-or-false, lt-or-le}
+use Rattle.laws.proofs.Branches.{picked-yes, picked-no, both, both-true, not-of-false, true-or-false}
 use Rattle.histories.proofs.Refused.{by-choice}
 
 chosen-yes : (b x y : Bool) → pick b x y ≡ true → b ≡ true → x ≡ true
