@@ -4,6 +4,7 @@ use answers::Outcome;
 use text::Record;
 ghost use mathlib.Core.Path.{_≡_};
 ghost use Prim.Native.Nat.{_<_};
+ghost use Rattle.mixing.specs.Mixes.{headOf, mixRecord, mixedWith, summedWith};
 
 pub struct Head {
     pub count: usize,
@@ -24,7 +25,9 @@ fn wider(x: u32) -> u64
 }
 
 // The head of a mix; nothing to play where there is none.
-pub fn head_of(file: &[u8]) -> Head {
+pub fn head_of(file: &[u8]) -> Head
+    ensures { λ r. ⌜ r ≡ headOf (now (file .entry)) ⌝ }
+{
     if file.len() < 16 {
         return Head {
             count: 0,
@@ -40,7 +43,9 @@ pub fn head_of(file: &[u8]) -> Head {
 }
 
 // Record k of a mix; a tick by nobody past its end.
-pub fn record_at(file: &[u8], k: usize) -> Record {
+pub fn record_at(file: &[u8], k: usize) -> Record
+    ensures { λ r. ⌜ r ≡ mixRecord (now (file .entry)) k ⌝ }
+{
     if k < 2340 {
         let at = 16 + 28 * k;
         if at + 28 <= file.len() {
@@ -59,12 +64,16 @@ pub fn record_at(file: &[u8], k: usize) -> Record {
 }
 
 // A checksum that depends on the order.
-fn mixed(sum: u32, x: u32) -> u32 {
+fn mixed(sum: u32, x: u32) -> u32
+    ensures { λ r. ⌜ r ≡ mixedWith sum x ⌝ }
+{
     ((wider(sum) * 31 + wider(x)) % 4294967296) as u32
 }
 
 // The checksum with an answer's status, running task, first two values, number of wakes and first wake.
-pub fn summed(sum: u32, o: Outcome, running: u32, wakes: &[u32; 32]) -> u32 {
+pub fn summed(sum: u32, o: Outcome, running: u32, wakes: &[u32; 32]) -> u32
+    ensures { λ r. ⌜ r ≡ summedWith sum o running (now (wakes .entry)) ⌝ }
+{
     let v = o.values;
     let a = mixed(mixed(mixed(sum, o.status), running), v[0]);
     mixed(mixed(mixed(a, v[1]), (o.woken % 64) as u32), wakes[0])
