@@ -8,6 +8,8 @@ pub mod Pools
 pub mod Stays
 pub mod Meaning
 pub mod Fresh
+pub mod Callers
+pub mod Deeds
 pub mod Outcomes
 pub mod Refusals
 pub mod Rows

@@ -1,0 +1,322 @@
+-- What an event does: the one walk over the call table. An answer is a refusal, or tells, or changes one part of the state, or
+-- leaves the caller waiting, or wakes: each deed has what the call's own tests showed, so no state need be sound. Whatever is to
+-- hold of every answer is shown of the deeds.
+-- Assumes nothing.
+use Prim.Native.Nat.{ℕ, _+_, _-_, _^_, _<_}
+use native.Mathlib.Omega.{arith}
+use mathlib.Core.Path.{_≡_, refl, sym, ap, _∙_}
+use mathlib.Core.Bool.{Bool, true, false, not, _&&_}
+use mathlib.Core.List.{[], _∷_}
+use lib.ListN.{length, getD}
+use lib.Dec.{ltb, leb, eqb}
+use Rattle.scope.specs.declared.State.{State}
+use Rattle.scope.specs.declared.Line.{Line}
+use Rattle.scope.specs.declared.Tasks.{Tasks}
+use Rattle.scope.specs.declared.Semaphores.{Semaphores}
+use Rattle.scope.specs.declared.Pools.{Pools}
+use Rattle.scope.specs.declared.Answer.{Answer}
+use Rattle.scope.specs.declared.Found.{Found}
+use Rattle.scope.specs.declared.Found.the-variants.{At, Deleted, Invalid}
+use Rattle.scope.specs.Choice.{pick}
+use Rattle.scope.specs.Statuses.{OK, PENDING, INVALID-ID, OBJECT-DELETED, BAD-CALL}
+use Rattle.scope.specs.Identifiers.{identifier, lowestUsable}
+use Rattle.scope.specs.Areas.{isArea, isSize, isOut, lowestFree, bufferAddress, bufferAt}
+use Rattle.scope.specs.Seats.{queueSeats, firstOf, leaves, becomesReady, waitsOn}
+use Rattle.scope.specs.Views.{withLine, withTasks, withSemaphores, withPools, withSeats, withWait, isReady}
+use Rattle.scope.specs.Answers.{answer, plain, gives, badState, wakesWith, onFound}
+use Rattle.scope.specs.Tasks.{lastPriority, taskFound, taskBorn, taskGone, withStarted, withSuspended, withPriority, readied}
+use Rattle.scope.specs.Tasks.{taskCreateAt, taskCreate, taskDeleteAt, taskDelete, taskIdentAt, taskIdent, taskStartAt, taskStart, taskSuspendAt, taskSuspend, taskResumeAt, taskResume, taskSetPriorityAt, taskSetPriority}
+use Rattle.scope.specs.Semaphores.{lastCount, lastOption, semFound, semBorn, withUnits, wakeNext, noneWoken, waits}
+use Rattle.scope.specs.Semaphores.{semCreateAt, semCreate, semDeleteAt, semDelete, semIdentAt, semIdent, semWaitAt, semClaimAt, semClaim, semReleaseAt, semRelease, semInfoAt, semInfo}
+use Rattle.scope.specs.Pools.{poolFound, poolBuffers, overlapped, poolBorn, poolGone, withOut}
+use Rattle.scope.specs.Pools.{poolCreateAt, poolCreate, poolDeleteAt, poolDelete, poolIdentAt, poolIdent, poolGetBuffer, poolGetBuffAt, poolGetBuff, poolRetBuffer, poolRetBuffAt, poolRetBuff, poolInfoAt, poolInfo}
+use Rattle.scope.specs.Ticks.{tick}
+use Rattle.scope.specs.Calls.{Call, calls, callAt}
+use Rattle.scope.specs.Rules.{sound}
+use Rattle.scope.specs.Step.{callerRefusal, answered, stepped}
+use Rattle.scope.proofs.Rows.{Rows, none, more, row-at, by-choice}
+use Rattle.laws.proofs.Branches.{both-true, true-false}
+use Rattle.histories.specs.History.{Event, answerTo}
+use Rattle.histories.proofs.Callers.{has, fits, refusal-fits, not-pending, listed-bad}
+
+-- the slots that creation takes
+abbrev pub newTask : State → ℕ
+newTask s = lowestUsable (s .tasks .serial) (s .tasks .live)
+
+abbrev pub newSemaphore : State → ℕ
+newSemaphore s = lowestUsable (s .semaphores .serial) (s .semaphores .live)
+
+abbrev pub newPool : State → ℕ
+newPool s = lowestUsable (s .pools .serial) (s .pools .live)
+
+-- the buffer that a get gives, and the one that a return's address names
+abbrev pub freeBuffer : State → ℕ → ℕ
+freeBuffer s i = lowestFree (getD (s .pools .out) i 0) (poolBuffers (s .pools) i)
+
+abbrev pub namedBuffer : State → ℕ → ℕ → ℕ
+namedBuffer s i address = bufferAt (getD (s .pools .address) i 0) (getD (s .pools .size) i 0) (poolBuffers (s .pools) i) address
+
+-- the calls that tell and change nothing: ident and info
+abbrev pub asks : ℕ → Bool
+asks call = has (3 ∷ 10 ∷ 13 ∷ 16 ∷ 19 ∷ []) call
+
+-- the tasks' table changes, and the value that is given; nobody moves
+pub data TaskChange (s : State) (x : Event) : Tasks → ℕ → Type 0 where
+  task-created : x .call ≡ 1 → ltb lastPriority (x .b) ≡ false → leb (length (s .tasks .serial)) (newTask s) ≡ false
+      → TaskChange s x (taskBorn (s .tasks) (newTask s) (x .a) (x .b)) (identifier (getD (s .tasks .serial) (newTask s) 0 + 1) (newTask s))
+  waiter-suspended : x .call ≡ 5 → (t : ℕ) → taskFound s (x .a) ≡ At t → not (getD (s .tasks .started) t false) ≡ false
+      → getD (s .tasks .suspended) t false ≡ false → waitsOn (getD (s .line .seat) t 0) ≡ true
+      → TaskChange s x (withSuspended (s .tasks) t true) 0
+  waiter-resumed : x .call ≡ 6 → (t : ℕ) → taskFound s (x .a) ≡ At t → not (getD (s .tasks .started) t false) ≡ false
+      → not (getD (s .tasks .suspended) t false) ≡ false → waitsOn (getD (s .line .seat) t 0) ≡ true
+      → TaskChange s x (withSuspended (s .tasks) t false) 0
+  priority-noted : x .call ≡ 7 → (t : ℕ) → taskFound s (x .a) ≡ At t → ltb lastPriority (x .b) ≡ false
+      → isReady (s .line) (s .tasks) t ≡ false → TaskChange s x (withPriority (s .tasks) t (x .b)) (getD (s .tasks .priority) t 0)
+
+-- it changes, and task t stands elsewhere
+pub data TaskMove (s : State) (x : Event) : Tasks → Line → ℕ → Type 0 where
+  task-deleted : x .call ≡ 2 → (t : ℕ) → taskFound s (x .a) ≡ At t
+      → TaskMove s x (taskGone (s .tasks) t) (withWait (s .line) t 0 0 (leaves (s .line .seat) t)) 0
+  task-started : x .call ≡ 4 → (t : ℕ) → taskFound s (x .a) ≡ At t → getD (s .tasks .started) t false ≡ false
+      → TaskMove s x (withStarted (s .tasks) t) (readied (s .line) (s .tasks) t) 0
+  task-suspended : x .call ≡ 5 → (t : ℕ) → taskFound s (x .a) ≡ At t → not (getD (s .tasks .started) t false) ≡ false
+      → getD (s .tasks .suspended) t false ≡ false → waitsOn (getD (s .line .seat) t 0) ≡ false
+      → TaskMove s x (withSuspended (s .tasks) t true) (withSeats (s .line) (leaves (s .line .seat) t)) 0
+  task-resumed : x .call ≡ 6 → (t : ℕ) → taskFound s (x .a) ≡ At t → not (getD (s .tasks .started) t false) ≡ false
+      → not (getD (s .tasks .suspended) t false) ≡ false → waitsOn (getD (s .line .seat) t 0) ≡ false
+      → TaskMove s x (withSuspended (s .tasks) t false) (readied (s .line) (s .tasks) t) 0
+  priority-set : x .call ≡ 7 → (t : ℕ) → taskFound s (x .a) ≡ At t → ltb lastPriority (x .b) ≡ false
+      → isReady (s .line) (s .tasks) t ≡ true
+      → TaskMove s x (withPriority (s .tasks) t (x .b))
+      (withSeats (s .line) (becomesReady (leaves (s .line .seat) t) (s .line .joined) t (x .b))) (getD (s .tasks .priority) t 0)
+
+-- the semaphores' table changes, and nothing else
+pub data SemChange (s : State) (x : Event) : Semaphores → ℕ → Type 0 where
+  sem-created : x .call ≡ 8 → ltb lastCount (x .b) ≡ false → ltb lastOption (x .c) ≡ false
+      → leb (length (s .semaphores .serial)) (newSemaphore s) ≡ false
+      → SemChange s x (semBorn (s .semaphores) (newSemaphore s) (x .a) (x .b) (eqb (x .c) 1))
+      (identifier (getD (s .semaphores .serial) (newSemaphore s) 0 + 1) (newSemaphore s))
+  unit-claimed : x .call ≡ 11 → (i : ℕ) → semFound s (x .a) ≡ At i → ltb 0 (getD (s .semaphores .units) i 0) ≡ true
+      → SemChange s x (withUnits (s .semaphores) i (getD (s .semaphores .units) i 0 - 1)) 0
+  unit-released : x .call ≡ 12 → (i : ℕ) → semFound s (x .a) ≡ At i
+      → (not (ltb (firstOf (s .line .seat) (queueSeats i)) 32) && leb lastCount (getD (s .semaphores .units) i 0)) ≡ false
+      → ltb (firstOf (s .line .seat) (queueSeats i)) 32 ≡ false
+      → SemChange s x (withUnits (s .semaphores) i (getD (s .semaphores .units) i 0 + 1)) 0
+
+-- the pools' table changes, and nothing else
+pub data PoolChange (s : State) (x : Event) : Pools → ℕ → Type 0 where
+  pool-created : x .call ≡ 14 → not (isArea (x .b) (x .c)) ≡ false → not (isSize (x .c) (x .d)) ≡ false → ltb lastOption (x .e) ≡ false
+      → leb 8 (newPool s) ≡ false → ltb (overlapped (s .pools) (x .b) (x .c)) 8 ≡ false
+      → PoolChange s x (poolBorn (s .pools) (newPool s) (x .a) (x .b) (x .c) (x .d) (eqb (x .e) 1))
+      (identifier (getD (s .pools .serial) (newPool s) 0 + 1) (newPool s))
+  pool-deleted : x .call ≡ 15 → (i : ℕ) → poolFound s (x .a) ≡ At i
+      → (not (getD (s .pools .forced) i false) && ltb 0 (getD (s .pools .out) i 0)) ≡ false → PoolChange s x (poolGone (s .pools) i) 0
+  buffer-got : x .call ≡ 17 → (i : ℕ) → poolFound s (x .a) ≡ At i → leb (poolBuffers (s .pools) i) (freeBuffer s i) ≡ false
+      → PoolChange s x (withOut (s .pools) i (getD (s .pools .out) i 0 + 2 ^ freeBuffer s i))
+      (bufferAddress (getD (s .pools .address) i 0) (getD (s .pools .size) i 0) (freeBuffer s i))
+  buffer-returned : x .call ≡ 18 → (i : ℕ) → poolFound s (x .a) ≡ At i
+      → not (ltb (namedBuffer s i (x .b)) 64 && isOut (getD (s .pools .out) i 0) (namedBuffer s i (x .b))) ≡ false
+      → PoolChange s x (withOut (s .pools) i (getD (s .pools .out) i 0 - 2 ^ namedBuffer s i (x .b))) 0
+
+-- the answer to x
+pub data Deed (s : State) (x : Event) : Answer → Type 0 where
+  -- "A refusal (any status but 0 and 1)", which the call's row lists
+  refused : (status : ℕ) → eqb status OK ≡ false → eqb status PENDING ≡ false
+      → (x .call < 20 → fits (callAt (x .call) .statuses) status ≡ true) → Deed s x (plain s status)
+  tells : (call : ℕ) → x .call ≡ call → asks call ≡ true → (v0 v1 v2 v3 : ℕ) (negative : Bool) → Deed s x (answer s OK v0 v1 v2 v3 negative)
+  tasks-change : {k : Tasks} {v : ℕ} → TaskChange s x k v → Deed s x (answer (withTasks s k) OK v 0 0 0 false)
+  task-moves : {k : Tasks} {l : Line} {v : ℕ} → TaskMove s x k l v → Deed s x (answer (withLine (withTasks s k) l) OK v 0 0 0 false)
+  sems-change : {m : Semaphores} {v : ℕ} → SemChange s x m v → Deed s x (answer (withSemaphores s m) OK v 0 0 0 false)
+  pools-change : {p : Pools} {v : ℕ} → PoolChange s x p v → Deed s x (answer (withPools s p) OK v 0 0 0 false)
+  -- "below 0 the caller joins the queue"
+  caller-waits : x .call ≡ 11 → (i : ℕ) → semFound s (x .a) ≡ At i → ltb 0 (getD (s .semaphores .units) i 0) ≡ false → leb 32 (s .running) ≡ false
+      → Deed s x (answer
+      (withLine s (waits (s .line) i (getD (s .semaphores .fifo) i false) (getD (s .tasks .priority) (s .running) 0) (x .c) (s .running)))
+      PENDING 0 0 0 0 false)
+  -- "If there were waiters the first leaves, woken with OK"
+  first-woken : x .call ≡ 12 → (i : ℕ) → semFound s (x .a) ≡ At i → ltb (firstOf (s .line .seat) (queueSeats i)) 32 ≡ true
+      → Deed s x (wakesWith s (wakeNext (s .tasks) (noneWoken (s .line)) (firstOf (s .line .seat) (queueSeats i))) OK)
+  sem-deleted : x .call ≡ 9 → (i : ℕ) → semFound s (x .a) ≡ At i → Deed s x (semDeleteAt s i)
+  time-passes : x .call ≡ 0 → Deed s x (tick s)
+
+-- a call that tells is none that does not
+pub not-asked : (call other : ℕ) → asks call ≡ true → asks other ≡ false → call ≡ other → ⊥
+not-asked call other e f d = true-false (ap asks (sym d) ∙ e) f
+
+-- a call's own refusal, by its row
+abbrev own : ℕ → ℕ → Bool
+own call status = fits (callAt call .statuses) status && (not (eqb status OK) && not (eqb status PENDING))
+
+not-true : (b : Bool) → not b ≡ true → b ≡ false
+not-true true e = absurd (true-false refl (sym e))
+not-true false e = refl
+
+module _ (s : State) (x : Event) where
+  no : {call : ℕ} → x .call ≡ call → (status : ℕ) → own call status ≡ true → Deed s x (plain s status)
+  no {call} at status e =
+      let p = both-true (fits (callAt call .statuses) status) _ e in
+      let q = both-true (not (eqb status OK)) _ (p .1) in
+      refused status (not-true _ (q .0)) (not-true _ (q .1)) (λ known. ap (λ (c : ℕ). fits (callAt c .statuses) status) at ∙ p .0)
+
+  -- a choice of the call, and what an identifier names
+  choose : (b : Bool) {y z : Answer} → (b ≡ true → Deed s x y) → (b ≡ false → Deed s x z) → Deed s x (pick b y z)
+  choose b f g = by-choice (Deed s x) b f g
+
+  named : {call : ℕ} → x .call ≡ call → own call INVALID-ID ≡ true → own call OBJECT-DELETED ≡ true
+      → (o : Found) (f : ℕ → Answer) → ((i : ℕ) → o ≡ At i → Deed s x (f i)) → Deed s x (onFound o s f)
+  unfolding onFound
+  named at e g (At i) f h = h i refl
+  named at e g Deleted f h = no at _ g
+  named at e g Invalid f h = no at _ e
+
+  task-create : x .call ≡ 1 → Deed s x (taskCreate s (x .a) (x .b))
+  unfolding taskCreate taskCreateAt gives
+  task-create at = choose _ (λ e. no at _ refl) (λ e. choose _ (λ f. no at _ refl) (λ f. tasks-change (task-created at e f)))
+
+  task-delete : x .call ≡ 2 → Deed s x (taskDelete s (x .a))
+  unfolding taskDeleteAt plain
+  task-delete at = named at refl refl _ (taskDeleteAt s) (λ t e. task-moves (task-deleted at t e))
+
+  task-ident : x .call ≡ 3 → Deed s x (taskIdent s (x .a))
+  unfolding taskIdent taskIdentAt gives
+  task-ident at = choose _ (λ e. no at _ refl) (λ e. tells 3 at refl _ _ _ _ _)
+
+  task-start : x .call ≡ 4 → Deed s x (taskStart s (x .a))
+  unfolding taskStartAt plain
+  task-start at = named at refl refl _ (taskStartAt s) (λ t e. choose _ (λ f. no at _ refl) (λ f. task-moves (task-started at t e f)))
+
+  task-suspend : x .call ≡ 5 → Deed s x (taskSuspend s (x .a))
+  unfolding taskSuspendAt plain
+  task-suspend at =
+      named at refl refl _ (taskSuspendAt s)
+      (λ t e. choose _ (λ f. no at _ refl)
+      (λ f. choose _ (λ g. no at _ refl)
+      (λ g. choose _ (λ h. tasks-change (waiter-suspended at t e f g h)) (λ h. task-moves (task-suspended at t e f g h)))))
+
+  task-resume : x .call ≡ 6 → Deed s x (taskResume s (x .a))
+  unfolding taskResumeAt plain
+  task-resume at =
+      named at refl refl _ (taskResumeAt s)
+      (λ t e. choose _ (λ f. no at _ refl)
+      (λ f. choose _ (λ g. no at _ refl)
+      (λ g. choose _ (λ h. tasks-change (waiter-resumed at t e f g h)) (λ h. task-moves (task-resumed at t e f g h)))))
+
+  task-set-priority : x .call ≡ 7 → Deed s x (taskSetPriority s (x .a) (x .b))
+  unfolding taskSetPriorityAt gives
+  task-set-priority at =
+      named at refl refl _ (taskSetPriorityAt s (x .b))
+      (λ t e. choose _ (λ f. no at _ refl)
+      (λ f. choose _ (λ g. task-moves (priority-set at t e f g)) (λ g. tasks-change (priority-noted at t e f g))))
+
+  sem-create : x .call ≡ 8 → Deed s x (semCreate s (x .a) (x .b) (x .c))
+  unfolding semCreate semCreateAt gives
+  sem-create at =
+      choose _ (λ e. no at _ refl)
+      (λ e. choose _ (λ f. no at _ refl) (λ f. choose _ (λ g. no at _ refl) (λ g. sems-change (sem-created at e f g))))
+
+  sem-delete : x .call ≡ 9 → Deed s x (semDelete s (x .a))
+  sem-delete at = named at refl refl _ (semDeleteAt s) (λ i e. sem-deleted at i e)
+
+  sem-ident : x .call ≡ 10 → Deed s x (semIdent s (x .a))
+  unfolding semIdent semIdentAt gives
+  sem-ident at = choose _ (λ e. no at _ refl) (λ e. tells 10 at refl _ _ _ _ _)
+
+  sem-claim : x .call ≡ 11 → Deed s x (semClaim s (x .a) (x .b) (x .c))
+  unfolding semClaimAt semWaitAt plain
+  sem-claim at =
+      named at refl refl _ (semClaimAt s (x .b) (x .c))
+      (λ i e. choose _ (λ f. no at _ refl)
+      (λ f. choose _ (λ g. no at _ refl)
+      (λ g. choose _ (λ h. no at _ refl)
+      (λ h. choose _ (λ j. sems-change (unit-claimed at i e j)) (λ j. choose _ (λ n. no at _ refl) (λ n. caller-waits at i e j n))))))
+
+  sem-release : x .call ≡ 12 → Deed s x (semRelease s (x .a))
+  unfolding semReleaseAt plain
+  sem-release at =
+      named at refl refl _ (semReleaseAt s)
+      (λ i e. choose _ (λ f. no at _ refl) (λ f. choose _ (λ g. first-woken at i e g) (λ g. sems-change (unit-released at i e f g))))
+
+  sem-info : x .call ≡ 13 → Deed s x (semInfo s (x .a))
+  unfolding semInfoAt
+  sem-info at = named at refl refl _ (semInfoAt s) (λ i e. tells 13 at refl _ _ _ _ _)
+
+  pool-create : x .call ≡ 14 → Deed s x (poolCreate s (x .a) (x .b) (x .c) (x .d) (x .e))
+  unfolding poolCreate poolCreateAt gives
+  pool-create at =
+      choose _ (λ e. no at _ refl)
+      (λ e. choose _ (λ f. no at _ refl)
+      (λ f. choose _ (λ g. no at _ refl)
+      (λ g. choose _ (λ h. no at _ refl) (λ h. choose _ (λ j. no at _ refl) (λ j. pools-change (pool-created at e f g h j))))))
+
+  pool-delete : x .call ≡ 15 → Deed s x (poolDelete s (x .a))
+  unfolding poolDeleteAt plain
+  pool-delete at = named at refl refl _ (poolDeleteAt s) (λ i e. choose _ (λ f. no at _ refl) (λ f. pools-change (pool-deleted at i e f)))
+
+  pool-ident : x .call ≡ 16 → Deed s x (poolIdent s (x .a))
+  unfolding poolIdent poolIdentAt gives
+  pool-ident at = choose _ (λ e. no at _ refl) (λ e. tells 16 at refl _ _ _ _ _)
+
+  pool-get : x .call ≡ 17 → Deed s x (poolGetBuff s (x .a))
+  unfolding poolGetBuffAt poolGetBuffer gives
+  pool-get at = named at refl refl _ (poolGetBuffAt s) (λ i e. choose _ (λ f. no at _ refl) (λ f. pools-change (buffer-got at i e f)))
+
+  pool-return : x .call ≡ 18 → Deed s x (poolRetBuff s (x .a) (x .b))
+  unfolding poolRetBuffAt poolRetBuffer plain
+  pool-return at =
+      named at refl refl _ (poolRetBuffAt s (x .b)) (λ i e. choose _ (λ f. no at _ refl) (λ f. pools-change (buffer-returned at i e f)))
+
+  pool-info : x .call ≡ 19 → Deed s x (poolInfo s (x .a))
+  unfolding poolInfoAt
+  pool-info at = named at refl refl _ (poolInfoAt s) (λ i e. tells 19 at refl _ _ _ _ _)
+
+  -- each row of the table
+  abbrev Row : ℕ → Call → Type 0
+  Row call row = x .call ≡ call → Deed s x (row .does s (x .a) (x .b) (x .c) (x .d) (x .e))
+
+  all-rows : Rows Row 0 calls
+  all-rows =
+      more time-passes
+      (more task-create
+      (more task-delete
+      (more task-ident
+      (more task-start
+      (more task-suspend
+      (more task-resume
+      (more task-set-priority
+      (more sem-create
+      (more sem-delete
+      (more sem-ident
+      (more sem-claim
+      (more sem-release
+      (more sem-info
+      (more pool-create
+      (more pool-delete
+      (more pool-ident
+      (more pool-get
+      (more pool-return
+      (more pool-info
+      none)))))))))))))))))))
+
+  -- the answer on a state that keeps the rules
+  pub deed : Deed s x (answered s (x .call) (x .mark) (x .a) (x .b) (x .c) (x .d) (x .e))
+  unfolding answered
+  deed = go (eqb refusal OK) refl
+    where
+      refusal : ℕ
+      refusal = callerRefusal (x .call) (x .mark) (s .running)
+
+      go : (b : Bool) → eqb refusal OK ≡ b
+          → Deed s x (elim b as (λ y. Answer) [ true ↦ callAt (x .call) .does s (x .a) (x .b) (x .c) (x .d) (x .e) | false ↦ plain s refusal ])
+      go true e =
+          row-at Row 0 calls all-rows (λ k f. refused BAD-CALL refl refl (λ known. listed-bad (x .call) known)) (x .call) (omega arith)
+      go false e = refused refusal e (not-pending (x .call) (x .mark) (s .running)) (λ known. refusal-fits (x .call) known (x .mark) (s .running) e)
+
+  -- what holds of every deed holds of the answer, if it holds of BAD_STATE
+  pub by-deed : (P : Answer → Type 0) → ((a : Answer) → Deed s x a → P a) → (sound s ≡ false → P (badState s)) → P (answerTo s x)
+  unfolding stepped
+  by-deed P f g = go (sound s) refl
+    where
+      go : (b : Bool) → sound s ≡ b
+          → P (elim b as (λ y. Answer) [ true ↦ answered s (x .call) (x .mark) (x .a) (x .b) (x .c) (x .d) (x .e) | false ↦ badState s ])
+      go true h = f _ deed
+      go false h = g h
