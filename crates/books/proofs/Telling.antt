@@ -1,4 +1,4 @@
--- Every event's answer keeps the state in agreement with what the answers tell: one walk over the call table.
+-- Every event's answer keeps the state in agreement with what the answers tell, by the deeds.
 -- Assumes nothing.
 use Prim.Native.Nat.{ℕ, suc, _+_, _<_}
 use native.Mathlib.Omega.{arith}
@@ -9,26 +9,22 @@ use mathlib.Core.List.{List, [], _∷_}
 use lib.ListN.{length, getD, set, length-set}
 use lib.Seq.{getD-set-same, getD-set-other}
 use lib.Dec.{eqb}
-use borrow.Author.Tests.{ltb-true, leb-false, lt-ltb, not-false}
+use borrow.Author.Tests.{ltb-true, leb-false, lt-ltb, ne-eqb, not-false}
 use Rattle.scope.specs.declared.State.{State}
 use Rattle.scope.specs.declared.Line.{Line}
 use Rattle.scope.specs.declared.Answer.{Answer}
 use Rattle.scope.specs.declared.Tasks.{Tasks}
 use Rattle.scope.specs.declared.Semaphores.{Semaphores}
 use Rattle.scope.specs.declared.Pools.{Pools}
-use Rattle.scope.specs.declared.Found.{Found}
-use Rattle.scope.specs.declared.Found.the-variants.{At, Deleted, Invalid}
-use Rattle.scope.specs.Statuses.{OK, PENDING, TIME-OUT, BAD-CALL}
-use Rattle.scope.specs.Identifiers.{identifier, lowestUsable}
+use Rattle.scope.specs.declared.Found.the-variants.{At}
+use Rattle.scope.specs.Statuses.{OK, PENDING, TIME-OUT}
+use Rattle.scope.specs.Identifiers.{identifier}
 use Rattle.scope.specs.Seats.{queueSeats, waitsOn, firstOf, leaves, becomesReady}
 use Rattle.scope.specs.Views.{withLine, withTasks, withSemaphores, withPools, withSeats, readyWith, runningTask}
-use Rattle.scope.specs.Answers.{answer, plain, gives, wakesWith, onFound}
-use Rattle.scope.specs.Tasks.{taskBorn, taskCreateAt, taskCreate, taskDeleteAt, taskDelete, taskIdentAt, taskIdent, taskStartAt, taskStart, taskSuspendAt, taskSuspend, taskResumeAt, taskResume, taskSetPriorityAt, taskSetPriority}
-use Rattle.scope.specs.Semaphores.{semFound, semBorn, semGone, withUnits, noneWoken, wakeNext, wakeAll, semCreateAt, semCreate, semDeleteAt, semDelete, semIdentAt, semIdent, waits, semWaitAt, semClaimAt, semClaim, semReleaseAt, semRelease, semInfoAt, semInfo}
-use Rattle.scope.specs.Pools.{poolCreateAt, poolCreate, poolDeleteAt, poolDelete, poolIdentAt, poolIdent, poolGetBuffer, poolGetBuffAt, poolGetBuff, poolRetBuffer, poolRetBuffAt, poolRetBuff, poolInfoAt, poolInfo}
+use Rattle.scope.specs.Answers.{answer, plain, wakesWith}
+use Rattle.scope.specs.Tasks.{taskBorn}
+use Rattle.scope.specs.Semaphores.{semFound, semBorn, semGone, withUnits, noneWoken, wakeNext, wakeAll, semDeleteAt, waits}
 use Rattle.scope.specs.Ticks.{ticked, wakeDue, tick}
-use Rattle.scope.specs.Calls.{Call, calls, callAt}
-use Rattle.scope.specs.Step.{callerRefusal, answered}
 use Rattle.laws.proofs.Branches.{both-true, not-of-true, true-false, true-or-false, eq-or-not, picked-yes, picked-no}
 use Rattle.tables.proofs.Laws.{found-live, found-identifier, usable-at, usable-free}
 use Rattle.seats.specs.Rule.{In}
@@ -36,14 +32,14 @@ use Rattle.seats.proofs.Leaving.{leaves-out}
 use Rattle.histories.specs.Sound.{Ready, Sound}
 use Rattle.histories.specs.History.{Event, answerTo, after}
 use Rattle.histories.specs.Order.{Arrivals, arrival, arrives, arrivedAfter}
-use Rattle.histories.proofs.Refused.{by-choice}
-use Rattle.histories.proofs.Refusals.{by-rules}
-use Rattle.histories.proofs.Answered.{Rows, none, more, row-at}
+use Rattle.histories.proofs.Deeds.{newTask, newSemaphore, asks, not-asked, TaskChange, task-created, waiter-suspended, waiter-resumed, priority-noted, TaskMove, task-deleted, task-started, task-suspended, task-resumed, priority-set}
+use Rattle.histories.proofs.Deeds.{SemChange, sem-created, unit-claimed, unit-released, PoolChange, pool-created, pool-deleted, buffer-got, buffer-returned}
+use Rattle.histories.proofs.Deeds.{Deed, refused, tells, tasks-change, task-moves, sems-change, pools-change, caller-waits, first-woken, sem-deleted, time-passes, by-deed}
 use Rattle.histories.proofs.Meaning.{sound-right}
 use Rattle.histories.proofs.Moves.{idle-nowhere, off-nowhere}
 use Rattle.histories.proofs.Semaphores.{runs-ready, sem-delete-at}
 use Rattle.histories.proofs.Staying.{Good, Fewer, stays-same, stays-then, leaves-stays, leaves-good, ready-stays, fewer-same, fewer-then, left-fewer, next-fewer, all-fewer, due-fewer, ticked-fewer}
-use Rattle.histories.proofs.Turns.{dead-nobody, good, task-room, slot-room, readied-goes, not-pending}
+use Rattle.histories.proofs.Turns.{dead-nobody, good, task-room, slot-room, readied-goes}
 use Rattle.histories.proofs.Ledger.{event-keeps}
 use Rattle.books.specs.Past.{Turn, isAnswer, runningIn, pastFrom}
 use Rattle.books.proofs.Woken.{ready-others, Left, leaves-left, ready-left, none-woke, next-woke, all-woke, due-woke}
@@ -64,12 +60,6 @@ module _ (s : State) (x : Event) where
   stay status e f =
       status-steps s x (plain s status) f refl e
       (record { serial = refl; live = refl; priority = refl }) (record { serial = refl; live = refl; fifo = refl }) (line-moves (plain s status) refl refl)
-
-  named : (o : Found) (f : ℕ → Answer) → ((i : ℕ) → o ≡ At i → Steps s x (f i)) → Steps s x (onFound o s f)
-  unfolding onFound
-  named (At i) f g = g i refl
-  named Deleted f g = stay _ refl refl
-  named Invalid f g = stay _ refl refl
 
   -- a call that touches neither tasks, semaphores' identifiers and options, nor who stands where
   quiet : (a : Answer) → eqb (a .status) PENDING ≡ false → a .running ≡ runningTask (a .state)
@@ -122,10 +112,10 @@ module _ (s : State) (ok : Sound s) (x : Event) where
 
   -- the task calls
   task-create-at : x .call ≡ 1 → (t : ℕ) → t < 32 → getD (k .live) t false ≡ false
-      → Steps s x (gives (withTasks s (taskBorn k t (x .a) (x .b))) (identifier (getD (k .serial) t 0 + 1) t))
-  unfolding gives answer
+      → Steps s x (answer (withTasks s (taskBorn k t (x .a) (x .b))) OK (identifier (getD (k .serial) t 0 + 1) t) 0 0 0 false)
+  unfolding answer
   task-create-at at t room free =
-      create-steps s x (gives (withTasks s (taskBorn k t (x .a) (x .b))) (identifier (getD (k .serial) t 0 + 1) t)) refl refl at refl t room
+      create-steps s x _ refl refl at refl t room
       (getD (k .serial) t 0 + 1) refl
       (getD-set-same (k .serial) t (getD (k .serial) t 0 + 1) 0 (omega (arith, ok .tasks .serials)))
       (getD-set-same (k .priority) t (x .b) 0 (omega (arith, ok .tasks .priorities)))
@@ -138,36 +128,23 @@ module _ (s : State) (ok : Sound s) (x : Event) where
       (record { serial = refl; live = refl; fifo = refl })
       (line-moves s x _ refl refl)
 
-  task-create-steps : x .call ≡ 1 → Steps s x (taskCreate s (x .a) (x .b))
-  unfolding taskCreate taskCreateAt
-  task-create-steps at =
-      by-choice (Steps s x) _ (λ e. stay s x _ refl refl)
-      (λ e. by-choice (Steps s x) _ (λ f. stay s x _ refl refl)
-      (λ f. let h = leb-false (length (k .serial)) (lowestUsable (k .serial) (k .live)) f in
-      task-create-at at (lowestUsable (k .serial) (k .live)) (omega (arith, h, ok .tasks .serials))
-      (usable-free (k .serial) (k .live) _ (usable-at (k .serial) (k .live) h))))
-
-  task-delete-steps : x .call ≡ 2 → Steps s x (taskDelete s (x .a))
-  unfolding taskDeleteAt plain answer
-  task-delete-steps at =
-      named s x _ (taskDeleteAt s)
-      (λ t e. let room : t < 32 = task-room s ok (x .a) t e in
-      let left : Left (l .seat) (leaves (l .seat) t) t = leaves-left (l .seat) whole t in
-      delete-steps s x (taskDeleteAt s t) refl refl ok at refl refl t room e refl
-      (λ u alive. ⊎-elim
-      (λ d. absurd (true-false alive (ap (λ (v : ℕ). getD (set (k .live) t false) v false) d
-      ∙ getD-set-same (k .live) t false false (omega (arith, ok .tasks .lives)))))
-      (λ ne. (sym (getD-set-other (k .live) t u false false ne) ∙ alive, getD-set-other (k .priority) t u 0 0 ne))
-      (eq-or-not u t))
-      (left-fewer l whole t 0 0 (leaves (l .seat) t) (stays-same (leaves (l .seat) t)))
-      (left .others) (left .out)
-      (record { serial = refl; live = refl; fifo = refl }))
-
-  task-ident-steps : x .call ≡ 3 → Steps s x (taskIdent s (x .a))
-  unfolding taskIdent taskIdentAt gives answer
-  task-ident-steps at =
-      by-choice (Steps s x) _ (λ e. stay s x _ refl refl)
-      (λ e. quiet s x (gives s _) refl refl 3 at refl refl refl refl refl refl (record { serial = refl; live = refl; fifo = refl }) refl refl)
+  -- the tasks' table changes, and nobody moves
+  change-steps : {r : Tasks} {v : ℕ} → TaskChange s x r v → Steps s x (answer (withTasks s r) OK v 0 0 0 false)
+  unfolding answer
+  change-steps (task-created at e f) =
+      let h = leb-false (length (k .serial)) (newTask s) f in
+      task-create-at at (newTask s) (omega (arith, h, ok .tasks .serials)) (usable-free (k .serial) (k .live) _ (usable-at (k .serial) (k .live) h))
+  change-steps (waiter-suspended at t e f g h) =
+      call-steps s x _ refl refl 5 at refl refl refl refl refl
+      (record { serial = refl; live = refl; priority = refl }) (record { serial = refl; live = refl; fifo = refl }) (line-moves s x _ refl refl)
+  change-steps (waiter-resumed at t e f g h) =
+      call-steps s x _ refl refl 6 at refl refl refl refl refl
+      (record { serial = refl; live = refl; priority = refl }) (record { serial = refl; live = refl; fifo = refl }) (line-moves s x _ refl refl)
+  change-steps (priority-noted at t e f g) =
+      let room : t < 32 = task-room s ok (x .a) t e in
+      set-steps s x _ refl refl at refl t room e (getD-set-same (k .priority) t (x .b) 0 (omega (arith, ok .tasks .priorities))) refl refl
+      (λ u ne. getD-set-other (k .priority) t u (x .b) 0 ne)
+      (record { serial = refl; live = refl; fifo = refl }) (line-moves s x _ refl refl)
 
   -- a task that stands nowhere becomes ready: whatever else the call does
   readied-moves : (a : Answer) (t p : ℕ) → t < 32 → getD (l .seat) t 0 ≡ 0
@@ -178,57 +155,43 @@ module _ (s : State) (ok : Sound s) (x : Event) where
       (ready-others (l .seat) (l .joined) t p whole room out (queueSeats i) (omega arith) (omega arith) u w))
       unwoken
 
-  task-start-steps : x .call ≡ 4 → Steps s x (taskStart s (x .a))
-  unfolding taskStartAt plain answer
-  task-start-steps at =
-      named s x _ (taskStartAt s)
-      (λ t e. by-choice (Steps s x) _ (λ f. stay s x _ refl refl)
-      (λ f. let room : t < 32 = task-room s ok (x .a) t e in
-      call-steps s x _ refl refl 4 at refl refl refl refl refl
-      (record { serial = refl; live = refl; priority = refl }) (record { serial = refl; live = refl; fifo = refl })
-      (readied-moves _ t (getD (k .priority) t 0) room (idle-nowhere l k m (ok .line) t room f .seat) refl refl)))
-
   -- a task that does not wait leaves where it stands, and may become ready: nobody's wait ends
   off-other : (t : ℕ) → waitsOn (getD (l .seat) t 0) ≡ false → (i : ℕ) → i < 16 → (u : ℕ) → In (l .seat) (queueSeats i) u → u ≡ t → ⊥
   off-other t off i h u w e = true-false (waiter-seen (l .seat) i h u w) (ap (λ (v : ℕ). waitsOn (getD (l .seat) v 0)) e ∙ off)
 
-  task-suspend-steps : x .call ≡ 5 → Steps s x (taskSuspend s (x .a))
-  unfolding taskSuspendAt plain answer
-  task-suspend-steps at =
-      named s x _ (taskSuspendAt s)
-      (λ t e. by-choice (Steps s x) _ (λ f. stay s x _ refl refl)
-      (λ f. by-choice (Steps s x) _ (λ g. stay s x _ refl refl)
-      (λ g. by-choice (Steps s x) _
-      (λ h. call-steps s x _ refl refl 5 at refl refl refl refl refl
-      (record { serial = refl; live = refl; priority = refl }) (record { serial = refl; live = refl; fifo = refl }) (line-moves s x _ refl refl))
-      (λ h. call-steps s x _ refl refl 5 at refl refl refl refl refl
+  move-steps : {r : Tasks} {q : Line} {v : ℕ} → TaskMove s x r q v → Steps s x (answer (withLine (withTasks s r) q) OK v 0 0 0 false)
+  unfolding answer
+  move-steps (task-deleted at t e) =
+      let room : t < 32 = task-room s ok (x .a) t e in
+      let left : Left (l .seat) (leaves (l .seat) t) t = leaves-left (l .seat) whole t in
+      delete-steps s x _ refl refl ok at refl refl t room e refl
+      (λ u alive. ⊎-elim
+      (λ d. absurd (true-false alive (ap (λ (v : ℕ). getD (set (k .live) t false) v false) d
+      ∙ getD-set-same (k .live) t false false (omega (arith, ok .tasks .lives)))))
+      (λ ne. (sym (getD-set-other (k .live) t u false false ne) ∙ alive, getD-set-other (k .priority) t u 0 0 ne))
+      (eq-or-not u t))
+      (left-fewer l whole t 0 0 (leaves (l .seat) t) (stays-same (leaves (l .seat) t)))
+      (left .others) (left .out)
+      (record { serial = refl; live = refl; fifo = refl })
+  move-steps (task-started at t e f) =
+      let room : t < 32 = task-room s ok (x .a) t e in
+      call-steps s x _ refl refl 4 at refl refl refl refl refl
+      (record { serial = refl; live = refl; priority = refl }) (record { serial = refl; live = refl; fifo = refl })
+      (readied-moves _ t (getD (k .priority) t 0) room (idle-nowhere l k m (ok .line) t room f .seat) refl refl)
+  move-steps (task-suspended at t e f g h) =
+      call-steps s x _ refl refl 5 at refl refl refl refl refl
       (record { serial = refl; live = refl; priority = refl }) (record { serial = refl; live = refl; fifo = refl })
       (moves-none s _ (record { seats = leaves-stays (l .seat) whole t; joined = λ o a b u i. refl })
-      (λ i c u w. leaves-left (l .seat) whole t .others i c u (off-other t h i c u w) w) refl)))))
-
-  task-resume-steps : x .call ≡ 6 → Steps s x (taskResume s (x .a))
-  unfolding taskResumeAt plain answer
-  task-resume-steps at =
-      named s x _ (taskResumeAt s)
-      (λ t e. by-choice (Steps s x) _ (λ f. stay s x _ refl refl)
-      (λ f. by-choice (Steps s x) _ (λ g. stay s x _ refl refl)
-      (λ g. by-choice (Steps s x) _
-      (λ h. call-steps s x _ refl refl 6 at refl refl refl refl refl
-      (record { serial = refl; live = refl; priority = refl }) (record { serial = refl; live = refl; fifo = refl }) (line-moves s x _ refl refl))
-      (λ h. let room : t < 32 = task-room s ok (x .a) t e in
+      (λ i c u w. leaves-left (l .seat) whole t .others i c u (off-other t h i c u w) w) refl)
+  move-steps (task-resumed at t e f g h) =
+      let room : t < 32 = task-room s ok (x .a) t e in
       call-steps s x _ refl refl 6 at refl refl refl refl refl
       (record { serial = refl; live = refl; priority = refl }) (record { serial = refl; live = refl; fifo = refl })
-      (readied-moves _ t (getD (k .priority) t 0) room (off-nowhere l k m (ok .line) t room h (not-false (getD (k .suspended) t false) g) .seat) refl refl)))))
-
-  task-set-priority-steps : x .call ≡ 7 → Steps s x (taskSetPriority s (x .a) (x .b))
-  unfolding taskSetPriorityAt gives answer
-  task-set-priority-steps at =
-      named s x _ (taskSetPriorityAt s (x .b))
-      (λ t e. let room : t < 32 = task-room s ok (x .a) t e in
-      let urgent : getD (set (k .priority) t (x .b)) t 0 ≡ x .b = getD-set-same (k .priority) t (x .b) 0 (omega (arith, ok .tasks .priorities)) in
-      by-choice (Steps s x) _ (λ f. stay s x _ refl refl)
-      (λ f. by-choice (Steps s x) _
-      (λ g. set-steps s x _ refl refl at refl t room e urgent refl refl (λ u ne. getD-set-other (k .priority) t u (x .b) 0 ne)
+      (readied-moves _ t (getD (k .priority) t 0) room (off-nowhere l k m (ok .line) t room h (not-false (getD (k .suspended) t false) g) .seat) refl refl)
+  move-steps (priority-set at t e f g) =
+      let room : t < 32 = task-room s ok (x .a) t e in
+      set-steps s x _ refl refl at refl t room e (getD-set-same (k .priority) t (x .b) 0 (omega (arith, ok .tasks .priorities))) refl refl
+      (λ u ne. getD-set-other (k .priority) t u (x .b) 0 ne)
       (record { serial = refl; live = refl; fifo = refl })
       (moves-none s _
       (record {
@@ -236,16 +199,14 @@ module _ (s : State) (ok : Sound s) (x : Event) where
             (ready-stays (leaves (l .seat) t) (l .joined) t (x .b) (leaves-good (l .seat) whole t) room (leaves-out (l .seat) t));
         joined = λ o a b u h. refl;
       })
-      (λ i c u w. ready-left (l .seat) whole (l .joined) t (x .b) room .others i c u (off-other t (ready-off _ _ _ g) i c u w) w) refl))
-      (λ g. set-steps s x _ refl refl at refl t room e urgent refl refl (λ u ne. getD-set-other (k .priority) t u (x .b) 0 ne)
-      (record { serial = refl; live = refl; fifo = refl }) (line-moves s x _ refl refl))))
+      (λ i c u w. ready-left (l .seat) whole (l .joined) t (x .b) room .others i c u (off-other t (ready-off _ _ _ g) i c u w) w) refl)
 
   -- the semaphore calls
   sem-create-at : x .call ≡ 8 → (i : ℕ) → i < 16 → getD (m .live) i false ≡ false
-      → Steps s x (gives (withSemaphores s (semBorn m i (x .a) (x .b) (eqb (x .c) 1))) (identifier (getD (m .serial) i 0 + 1) i))
-  unfolding gives answer
+      → Steps s x (answer (withSemaphores s (semBorn m i (x .a) (x .b) (eqb (x .c) 1))) OK (identifier (getD (m .serial) i 0 + 1) i) 0 0 0 false)
+  unfolding answer
   sem-create-at at i room free =
-      born-steps s x (gives (withSemaphores s (semBorn m i (x .a) (x .b) (eqb (x .c) 1))) (identifier (getD (m .serial) i 0 + 1) i)) refl refl at refl i room
+      born-steps s x _ refl refl at refl i room
       (getD (m .serial) i 0 + 1) refl
       (getD-set-same (m .serial) i (getD (m .serial) i 0 + 1) 0 (omega (arith, ok .semaphores .serials)))
       (getD-set-same (m .fifo) i (eqb (x .c) 1) false (omega (arith, ok .semaphores .fifos)))
@@ -258,21 +219,10 @@ module _ (s : State) (ok : Sound s) (x : Event) where
       (record { serial = refl; live = refl; priority = refl })
       (line-moves s x _ refl refl)
 
-  sem-create-steps : x .call ≡ 8 → Steps s x (semCreate s (x .a) (x .b) (x .c))
-  unfolding semCreate semCreateAt
-  sem-create-steps at =
-      by-choice (Steps s x) _ (λ e. stay s x _ refl refl)
-      (λ e. by-choice (Steps s x) _ (λ f. stay s x _ refl refl)
-      (λ f. by-choice (Steps s x) _ (λ g. stay s x _ refl refl)
-      (λ g. let h = leb-false (length (m .serial)) (lowestUsable (m .serial) (m .live)) g in
-      sem-create-at at (lowestUsable (m .serial) (m .live)) (omega (arith, h, ok .semaphores .serials))
-      (usable-free (m .serial) (m .live) _ (usable-at (m .serial) (m .live) h)))))
-
-  sem-delete-steps : x .call ≡ 9 → Steps s x (semDelete s (x .a))
+  sem-delete-steps : x .call ≡ 9 → (i : ℕ) → semFound s (x .a) ≡ At i → Steps s x (semDeleteAt s i)
   unfolding semDeleteAt wakesWith
-  sem-delete-steps at =
-      named s x _ (semDeleteAt s)
-      (λ i e. let hi : i < 16 = slot-room s ok (x .a) i e in
+  sem-delete-steps at i e =
+      let hi : i < 16 = slot-room s ok (x .a) i e in
       let dead : getD (set (m .live) i false) i false ≡ false = getD-set-same (m .live) i false false (omega (arith, ok .semaphores .lives)) in
       gone-steps s x (semDeleteAt s i) refl refl at i hi (found-identifier (m .serial) (m .live) (x .a) e) refl
       (λ j alive. ⊎-elim
@@ -282,13 +232,7 @@ module _ (s : State) (ok : Sound s) (x : Event) where
       (dead-nobody (semDeleteAt s i .state) (sem-delete-at s ok i hi (found-live (m .serial) (m .live) (x .a) e)) i hi dead)
       (record { serial = refl; live = refl; priority = refl })
       (moves-woke s ok (withSemaphores s (semGone m i)) l (wakeAll k i 32 (noneWoken l)) _ refl (all-fewer k i 32 (noneWoken l) whole)
-      (all-woke k l i 32 (noneWoken l) (omega arith) (none-woke k l whole))))
-
-  sem-ident-steps : x .call ≡ 10 → Steps s x (semIdent s (x .a))
-  unfolding semIdent semIdentAt gives answer
-  sem-ident-steps at =
-      by-choice (Steps s x) _ (λ e. stay s x _ refl refl)
-      (λ e. quiet s x (gives s _) refl refl 10 at refl refl refl refl refl refl (record { serial = refl; live = refl; fifo = refl }) refl refl)
+      (all-woke k l i 32 (noneWoken l) (omega arith) (none-woke k l whole)))
 
   runs-told : s .running < 32 → runningTask s ≡ taskId s (s .running)
   unfolding runningTask
@@ -357,119 +301,54 @@ module _ (s : State) (ok : Sound s) (x : Event) where
               });
         }
 
-  sem-claim-steps : x .call ≡ 11 → Steps s x (semClaim s (x .a) (x .b) (x .c))
-  unfolding semClaimAt semWaitAt
-  sem-claim-steps at =
-      named s x _ (semClaimAt s (x .b) (x .c))
-      (λ i e. by-choice (Steps s x) _ (λ f. stay s x _ refl refl)
-      (λ f. by-choice (Steps s x) _ (λ g. stay s x _ refl refl)
-      (λ g. by-choice (Steps s x) _ (λ h. stay s x _ refl refl)
-      (λ h. by-choice (Steps s x) _ (λ j. units-steps 11 at i _ refl refl refl refl refl)
-      (λ j. by-choice (Steps s x) _ (λ n. stay s x _ refl refl) (λ n. pending-steps at (x .c) i e (leb-false 32 (s .running) n)))))))
-
-  sem-release-steps : x .call ≡ 12 → Steps s x (semRelease s (x .a))
-  unfolding semReleaseAt
-  sem-release-steps at =
-      named s x _ (semReleaseAt s)
-      (λ i e. by-choice (Steps s x) _ (λ f. stay s x _ refl refl)
-      (λ f. by-choice (Steps s x) _
-      (λ g. woken-steps at (firstOf (l .seat) (queueSeats i)) (ltb-true _ 32 g))
-      (λ g. units-steps 12 at i _ refl refl refl refl refl)))
-
-  sem-info-steps : x .call ≡ 13 → Steps s x (semInfo s (x .a))
-  unfolding semInfoAt answer
-  sem-info-steps at =
-      named s x _ (semInfoAt s)
-      (λ i e. quiet s x (semInfoAt s i) refl refl 13 at refl refl refl refl refl refl (record { serial = refl; live = refl; fifo = refl }) refl refl)
+  sem-steps : {n : Semaphores} {v : ℕ} → SemChange s x n v → Steps s x (answer (withSemaphores s n) OK v 0 0 0 false)
+  unfolding plain
+  sem-steps (sem-created at e f g) =
+      let h = leb-false (length (m .serial)) (newSemaphore s) g in
+      sem-create-at at (newSemaphore s) (omega (arith, h, ok .semaphores .serials)) (usable-free (m .serial) (m .live) _ (usable-at (m .serial) (m .live) h))
+  sem-steps (unit-claimed at i e f) = units-steps 11 at i _ refl refl refl refl refl
+  sem-steps (unit-released at i e f g) = units-steps 12 at i _ refl refl refl refl refl
 
   -- the pool calls
-  pools-steps : (c : ℕ) → x .call ≡ c → eqb c 1 ≡ false → eqb c 2 ≡ false → eqb c 7 ≡ false → eqb c 8 ≡ false → eqb c 9 ≡ false
-      → (q : Pools) (status a b d e : ℕ) (negative : Bool) → eqb status PENDING ≡ false → Steps s x (answer (withPools s q) status a b d e negative)
+  pool-steps : (c : ℕ) → x .call ≡ c → eqb c 1 ≡ false → eqb c 2 ≡ false → eqb c 7 ≡ false → eqb c 8 ≡ false → eqb c 9 ≡ false
+      → (q : Pools) (v : ℕ) → Steps s x (answer (withPools s q) OK v 0 0 0 false)
   unfolding answer
-  pools-steps c at e1 e2 e7 e8 e9 q status a b d e negative mute =
-      quiet s x (answer (withPools s q) status a b d e negative) mute refl c at e1 e2 e7 e8 e9 refl
+  pool-steps c at e1 e2 e7 e8 e9 q v =
+      quiet s x (answer (withPools s q) OK v 0 0 0 false) refl refl c at e1 e2 e7 e8 e9 refl
       (record { serial = refl; live = refl; fifo = refl }) refl refl
 
-  pool-create-steps : x .call ≡ 14 → Steps s x (poolCreate s (x .a) (x .b) (x .c) (x .d) (x .e))
-  unfolding poolCreate poolCreateAt gives
-  pool-create-steps at =
-      by-choice (Steps s x) _ (λ a. stay s x _ refl refl)
-      (λ a. by-choice (Steps s x) _ (λ b. stay s x _ refl refl)
-      (λ b. by-choice (Steps s x) _ (λ c. stay s x _ refl refl)
-      (λ c. by-choice (Steps s x) _ (λ d. stay s x _ refl refl)
-      (λ d. by-choice (Steps s x) _ (λ e. stay s x _ refl refl) (λ e. pools-steps 14 at refl refl refl refl refl _ OK _ _ _ _ _ refl)))))
+  pools-steps : {q : Pools} {v : ℕ} → PoolChange s x q v → Steps s x (answer (withPools s q) OK v 0 0 0 false)
+  pools-steps (pool-created at e f g h j) = pool-steps 14 at refl refl refl refl refl _ _
+  pools-steps (pool-deleted at i e f) = pool-steps 15 at refl refl refl refl refl _ _
+  pools-steps (buffer-got at i e f) = pool-steps 17 at refl refl refl refl refl _ _
+  pools-steps (buffer-returned at i e f) = pool-steps 18 at refl refl refl refl refl _ _
 
-  pool-delete-steps : x .call ≡ 15 → Steps s x (poolDelete s (x .a))
-  unfolding poolDeleteAt plain
-  pool-delete-steps at =
-      named s x _ (poolDeleteAt s)
-      (λ i e. by-choice (Steps s x) _ (λ f. stay s x _ refl refl) (λ f. pools-steps 15 at refl refl refl refl refl _ OK _ _ _ _ _ refl))
+  -- a call that tells
+  tells-steps : (c : ℕ) → x .call ≡ c → asks c ≡ true → (v0 v1 v2 v3 : ℕ) (negative : Bool) → Steps s x (answer s OK v0 v1 v2 v3 negative)
+  unfolding answer
+  tells-steps c at e v0 v1 v2 v3 negative =
+      quiet s x (answer s OK v0 v1 v2 v3 negative) refl refl c at (other 1 refl) (other 2 refl) (other 7 refl) (other 8 refl) (other 9 refl) refl
+      (record { serial = refl; live = refl; fifo = refl }) refl refl
+    where
+      other : (j : ℕ) → asks j ≡ false → eqb c j ≡ false
+      other j f = ne-eqb c j (not-asked c j e f)
 
-  pool-ident-steps : x .call ≡ 16 → Steps s x (poolIdent s (x .a))
-  unfolding poolIdent poolIdentAt gives
-  pool-ident-steps at =
-      by-choice (Steps s x) _ (λ e. stay s x _ refl refl) (λ e. pools-steps 16 at refl refl refl refl refl (s .pools) OK _ _ _ _ _ refl)
-
-  pool-get-steps : x .call ≡ 17 → Steps s x (poolGetBuff s (x .a))
-  unfolding poolGetBuffAt poolGetBuffer gives
-  pool-get-steps at =
-      named s x _ (poolGetBuffAt s)
-      (λ i e. by-choice (Steps s x) _ (λ f. stay s x _ refl refl) (λ f. pools-steps 17 at refl refl refl refl refl _ OK _ _ _ _ _ refl))
-
-  pool-return-steps : x .call ≡ 18 → Steps s x (poolRetBuff s (x .a) (x .b))
-  unfolding poolRetBuffAt poolRetBuffer plain
-  pool-return-steps at =
-      named s x _ (poolRetBuffAt s (x .b))
-      (λ i e. by-choice (Steps s x) _ (λ f. stay s x _ refl refl) (λ f. pools-steps 18 at refl refl refl refl refl _ OK _ _ _ _ _ refl))
-
-  pool-info-steps : x .call ≡ 19 → Steps s x (poolInfo s (x .a))
-  unfolding poolInfoAt
-  pool-info-steps at =
-      named s x _ (poolInfoAt s) (λ i e. pools-steps 19 at refl refl refl refl refl (s .pools) OK _ _ _ _ _ refl)
-
-  -- each row of the table
-  abbrev Row : ℕ → Call → Type 0
-  Row n c = x .call ≡ n → Steps s x (c .does s (x .a) (x .b) (x .c) (x .d) (x .e))
-
-  all-rows : Rows Row 0 calls
-  all-rows =
-      more tick-steps
-      (more task-create-steps
-      (more task-delete-steps
-      (more task-ident-steps
-      (more task-start-steps
-      (more task-suspend-steps
-      (more task-resume-steps
-      (more task-set-priority-steps
-      (more sem-create-steps
-      (more sem-delete-steps
-      (more sem-ident-steps
-      (more sem-claim-steps
-      (more sem-release-steps
-      (more sem-info-steps
-      (more pool-create-steps
-      (more pool-delete-steps
-      (more pool-ident-steps
-      (more pool-get-steps
-      (more pool-return-steps
-      (more pool-info-steps
-      none)))))))))))))))))))
+  deed-steps : {a : Answer} → Deed s x a → Steps s x a
+  unfolding plain
+  deed-steps (refused status e f listed) = stay s x status e f
+  deed-steps (tells call at e v0 v1 v2 v3 negative) = tells-steps call at e v0 v1 v2 v3 negative
+  deed-steps (tasks-change c) = change-steps c
+  deed-steps (task-moves c) = move-steps c
+  deed-steps (sems-change c) = sem-steps c
+  deed-steps (pools-change c) = pools-steps c
+  deed-steps (caller-waits at i e f g) = pending-steps at (x .c) i e (leb-false 32 (s .running) g)
+  deed-steps (first-woken at i e f) = woken-steps at (firstOf (l .seat) (queueSeats i)) (ltb-true _ 32 f)
+  deed-steps (sem-deleted at i e) = sem-delete-steps at i e
+  deed-steps (time-passes at) = tick-steps at
 
   -- every event's answer
   pub event-steps : Steps s x (answerTo s x)
-  unfolding answered
-  event-steps =
-      by-rules s (x .call) (x .mark) (x .a) (x .b) (x .c) (x .d) (x .e) (Steps s x)
-      (λ h. go (eqb refused OK) refl)
-      (λ h. absurd (true-false (sound-right s ok) h))
-    where
-      refused : ℕ
-      refused = callerRefusal (x .call) (x .mark) (s .running)
-
-      go : (b : Bool) → eqb refused OK ≡ b
-          → Steps s x (elim b as (λ v. Answer) [ true ↦ callAt (x .call) .does s (x .a) (x .b) (x .c) (x .d) (x .e) | false ↦ plain s refused ])
-      go true e = row-at Row 0 calls all-rows (λ n f. stay s x BAD-CALL refl refl) (x .call) (omega arith)
-      go false e = stay s x refused e (not-pending (x .call) (x .mark) (s .running))
+  event-steps = by-deed s x (Steps s x) (λ a d. deed-steps d) (λ h. absurd (true-false (sound-right s ok) h))
 
 -- so does every history
 pub agrees-after : (p : ℕ) (s : State) → Sound s → (xs : List Event) (past : List Turn) (told : Arrivals) → Agrees p s past told
