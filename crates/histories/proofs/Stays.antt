@@ -1,18 +1,17 @@
 -- Sound stays sound: every call by every caller, with whatever arguments, keeps a state sound, and so does a step. The table's
 -- twenty rows each do, so a row taken from the table does; a call that is refused gives the state back.
 -- Assumes nothing.
-use Prim.Native.Nat.{ℕ, zero, suc}
+use Prim.Native.Nat.{ℕ}
 use mathlib.Core.Bool.{Bool, true, false}
-use mathlib.Core.List.{List, [], _∷_}
-use lib.ListN.{getD}
 use lib.Dec.{eqb}
 use Rattle.scope.specs.declared.State.{State}
 use Rattle.scope.specs.declared.Answer.{Answer}
 use Rattle.scope.specs.Statuses.{OK}
 use Rattle.scope.specs.Answers.{plain, badState}
 use Rattle.scope.specs.Rules.{sound}
-use Rattle.scope.specs.Calls.{Call, noCall, calls, callAt}
+use Rattle.scope.specs.Calls.{Call, calls, callAt}
 use Rattle.scope.specs.Step.{callerRefusal, answered, stepped}
+use Rattle.scope.proofs.Rows.{Rows, none, more, row-at}
 use Rattle.histories.specs.Sound.{Sound}
 use Rattle.histories.proofs.Refused.{Kept, plain-kept}
 use Rattle.histories.proofs.Ticks.{tick-sound}
@@ -24,17 +23,8 @@ use Rattle.histories.proofs.Pools.{poolCreate-sound, poolDelete-sound, 
 abbrev pub Keeps : Call → Type 0
 Keeps row = (s : State) → Sound s → (a b c d e : ℕ) → Kept (row .does s a b c d e)
 
--- rows that all do
-data AllKeep : List Call → Type 0 where
-  none : AllKeep []
-  more : {row : Call} {rows : List Call} → Keeps row → AllKeep rows → AllKeep (row ∷ rows)
-
-row-keeps : (rows : List Call) (other : Call) → AllKeep rows → Keeps other → (call : ℕ) → Keeps (getD rows call other)
-row-keeps [] other all h call = h
-row-keeps (row ∷ rows) other (more k all) h zero = k
-row-keeps (row ∷ rows) other (more k all) h (suc call) = row-keeps rows other all h call
-
-calls-keep : AllKeep calls
+-- each row of the table does
+calls-keep : Rows (λ n. Keeps) 0 calls
 calls-keep =
     more (λ s ok a b c d e. tick-sound s ok)
     (more (λ s ok a b c d e. taskCreate-sound s ok a b)
@@ -59,7 +49,7 @@ calls-keep =
     none)))))))))))))))))))
 
 pub call-keeps : (call : ℕ) → Keeps (callAt call)
-call-keeps = row-keeps calls noCall calls-keep (λ s ok a b c d e. plain-kept _ ok)
+call-keeps call = row-at (λ n. Keeps) 0 calls calls-keep (λ k s ok a b c d e. plain-kept _ ok) call
 
 module _ (s : State) (ok : Sound s) (call mark a b c d e : ℕ) where
   pub sound-stays : Sound (answered s call mark a b c d e .state)
