@@ -2,11 +2,10 @@
 -- at the address it answers, and the mark that a return clears is that of the buffer which starts at the address named. No other
 -- mark changes, in this pool or another. And pool_info tells the buffers less those out.
 -- Assumes nothing.
-use Prim.Native.Nat.{ℕ, zero, suc, _+_, _-_, _*_, _/_, _%_, _^_, _≤_, _<_}
+use Prim.Native.Nat.{ℕ, _+_, _-_, _*_, _/_, _%_, _^_, _<_}
 use native.Mathlib.Omega.{arith}
-use native.Mathlib.Nat.{div-add-mod', eq-zero-or-pos}
-use mathlib.Core.Path.{_≡_, refl, ap, _∙_}
-use mathlib.Core.Logic.{⊎-elim}
+use native.Mathlib.Nat.{div-add-mod'}
+use mathlib.Core.Path.{_≡_, refl}
 use mathlib.Core.Bool.{Bool, true, false, not, _&&_}
 use lib.ListN.{length, getD}
 use lib.Seq.{getD-set-same, getD-set-other}
@@ -15,12 +14,13 @@ use borrow.Author.Tests.{ltb-true, ltb-false, lt-ltb, leb-false, lt-leb, eqb-tru
 use Rattle.scope.specs.declared.State.{State}
 use Rattle.scope.specs.declared.Answer.{Answer}
 use Rattle.scope.specs.declared.Found.the-variants.{At}
-use Rattle.scope.specs.Choice.{pick, leastFrom, least, number}
+use Rattle.scope.specs.Choice.{pick, number}
 use Rattle.scope.specs.Statuses.{OK, NO-MORE-MEMORY, INVALID-BUFF}
 use Rattle.scope.specs.Views.{withPools}
 use Rattle.scope.specs.Answers.{answer, plain, gives, onFound}
 use Rattle.scope.specs.Areas.{isOut, isFree, lowestFree, bufferAddress, bufferAt}
 use Rattle.scope.specs.Pools.{poolFound, poolBuffers, withOut, poolGetBuffer, poolGetBuffAt, poolRetBuffer, poolRetBuffAt, poolInfoAt, poolGetBuff, poolRetBuff, poolInfo}
+use Rattle.scope.proofs.Choice.{least-true, least-below}
 use Rattle.scope.proofs.Marks.{take-same, take-other, back-same, back-other, free-or-out}
 
 -- the marks of pool i
@@ -51,25 +51,13 @@ pub record Returned (s : State) (i x : ℕ) (a : Answer) : Type 0 where
   pub only : Only s i buffer (a .state)
   pub starts : getD (s .pools .address) i 0 + buffer * getD (s .pools .size) i 0 ≡ x
 
--- x is the least from k on that passes the test
-abbrev Least : (ℕ → Bool) → ℕ → ℕ → Type 0
-Least p k x = (p x ≡ true) × ((j : ℕ) → k ≤ j → j < x → p j ≡ false)
+-- x is the least that passes the test
+abbrev Least : (ℕ → Bool) → ℕ → Type 0
+Least p x = (p x ≡ true) × ((j : ℕ) → j < x → p j ≡ false)
 
-least-from : (p : ℕ → Bool) (n k : ℕ) → leastFrom p n k < k + n → Least p k (leastFrom p n k)
-least-from p zero k h = absurd (omega arith)
-least-from p (suc n) k h = go (p k) refl (least-from p n (suc k)) h
-  where
-    go : (b : Bool) → p k ≡ b → (leastFrom p n (suc k) < suc k + n → Least p (suc k) (leastFrom p n (suc k)))
-        → elim b as (λ z. ℕ) [ true ↦ k | false ↦ leastFrom p n (suc k) ] < k + suc n
-        → Least p k (elim b as (λ z. ℕ) [ true ↦ k | false ↦ leastFrom p n (suc k) ])
-    go true e rest l = (e, λ j m o. absurd (omega arith))
-    go false e rest l =
-        let r = rest (omega arith) in
-        (r .0, λ j m o. ⊎-elim (λ z. ap p {x = j} {y = k} (omega arith) ∙ e) (λ z. r .1 j (omega arith) o) (eq-zero-or-pos (j - k)))
-
-lowest-says : (out n : ℕ) → lowestFree out n < n → Least (isFree out) 0 (lowestFree out n)
-unfolding lowestFree least
-lowest-says out n h = least-from (isFree out) n 0 (omega arith)
+lowest-says : (out n : ℕ) → lowestFree out n < n → Least (isFree out) (lowestFree out n)
+unfolding lowestFree
+lowest-says out n h = (least-true (isFree out) n h, least-below (isFree out) n)
 
 -- pool i has the marks n now
 module _ (s : State) (i k n : ℕ) (fits : i < length (s .pools .out)) where
@@ -92,14 +80,14 @@ out-not-free out k e = not-false _ e
 
 module _ (s : State) (i : ℕ) (fits : i < length (s .pools .out)) where
   -- the buffer that a get gives is the lowest free one
-  gotten : (k : ℕ) → k < poolBuffers (s .pools) i → Least (isFree (marks s i)) 0 k → Gotten s i (poolGetBuffer s i k)
+  gotten : (k : ℕ) → k < poolBuffers (s .pools) i → Least (isFree (marks s i)) k → Gotten s i (poolGetBuffer s i k)
   unfolding poolGetBuffer pick gives answer
   gotten k h l =
       rw (lt-leb (poolBuffers (s .pools) i) k h)
       (record {
         buffer = k;
         within = h;
-        lowest = λ j m. out-not-free (marks s i) j (l .1 j (omega arith) m);
+        lowest = λ j m. out-not-free (marks s i) j (l .1 j m);
         was = free-not-out (marks s i) k (l .0);
         is = rw (marked s i k (marks s i + 2 ^ k) fits) (take-same (marks s i) k (l .0));
         only = only s i k (marks s i + 2 ^ k) fits (take-other (marks s i) k (l .0));

@@ -1,3 +1,4 @@
+pub mod Choice
 pub mod Counts
 pub mod Rows
 pub mod Seats

@@ -2,12 +2,10 @@
 -- which has the name asked for and stands in "the lowest slot that is free and has a serial left". Once over a table of at most 64
 -- slots, and so for tasks, semaphores and pools.
 -- Assumes nothing.
-use Prim.Native.Nat.{ℕ, zero, suc, _+_, _≤_, _<_}
+use Prim.Native.Nat.{ℕ, _+_, _≤_, _<_}
 use native.Mathlib.Omega.{arith}
-use native.Mathlib.Nat.{eq-or-lt-of-le}
-use mathlib.Core.Path.{_≡_, refl, subst, ap, _∙_}
-use mathlib.Core.Logic.{⊎-elim}
-use mathlib.Core.Bool.{Bool, true, false, _&&_}
+use mathlib.Core.Path.{_≡_, refl, ap, _∙_}
+use mathlib.Core.Bool.{Bool, true, false}
 use mathlib.Core.List.{List}
 use lib.ListN.{length, getD, set}
 use lib.Seq.{getD-set-same}
@@ -15,37 +13,14 @@ use lib.Dec.{eqb}
 use borrow.Author.Tests.{eq-eqb, eqb-true, leb-false}
 use Rattle.scope.specs.declared.State.{State}
 use Rattle.scope.specs.declared.Answer.{Answer}
-use Rattle.scope.specs.Choice.{pick, leastFrom, least}
+use Rattle.scope.specs.Choice.{pick}
 use Rattle.scope.specs.Identifiers.{identifier, serialOf, slotOf, isLive, usable, lowestUsable, named, byName}
 use Rattle.scope.specs.Statuses.{OK}
 use Rattle.scope.specs.Answers.{answer, plain, gives}
 use Rattle.scope.specs.Tasks.{taskCreateAt, taskCreate, taskIdentAt, taskIdent}
 use Rattle.scope.specs.Semaphores.{semCreateAt, semCreate, semIdentAt, semIdent}
 use Rattle.scope.specs.Pools.{poolCreateAt, poolCreate, poolIdentAt, poolIdent}
-
--- i passes, and none from k on below it
-abbrev Lowest : (ℕ → Bool) → ℕ → ℕ → Type 0
-Lowest p k i = (p i ≡ true) × ((j : ℕ) → k ≤ j → j < i → p j ≡ false)
-
-from-lowest : (p : ℕ → Bool) (n k : ℕ) → leastFrom p n k < k + n → Lowest p k (leastFrom p n k)
-from-lowest p zero k h = absurd (omega arith)
-from-lowest p (suc n) k h = go (λ l. from-lowest p n (suc k) l) (p k) refl h
-  where
-    go : (leastFrom p n (suc k) < suc k + n → Lowest p (suc k) (leastFrom p n (suc k))) → (b : Bool) → p k ≡ b
-        → elim b as (λ x. ℕ) [ true ↦ k | false ↦ leastFrom p n (suc k) ] < k + suc n
-        → Lowest p k (elim b as (λ x. ℕ) [ true ↦ k | false ↦ leastFrom p n (suc k) ])
-    go rec true e l = (e, λ j a b. absurd (omega arith))
-    go rec false e l =
-        let r : Lowest p (suc k) (leastFrom p n (suc k)) = rec (omega arith) in
-        (r .0, λ j a b. ⊎-elim (λ q. subst (λ (x : ℕ). p x ≡ false) q e) (λ g. r .1 j g b) (eq-or-lt-of-le a))
-
-least-lowest : (p : ℕ → Bool) (n : ℕ) → least p n < n → Lowest p 0 (least p n)
-unfolding least
-least-lowest p n h = from-lowest p n 0 (omega arith)
-
-both-parts : (a b : Bool) → (a && b) ≡ true → (a ≡ true) × (b ≡ true)
-both-parts true b e = (refl, e)
-both-parts false b e = let z : _≡_ {A = ℕ} 0 1 = cc in absurd (omega arith)
+use Rattle.scope.proofs.Choice.{both-true, least-true, least-below}
 
 -- an identifier's slot is below 64, so it gives back its serial and its slot
 module _ (a i : ℕ) (h : i < 64) where
@@ -77,13 +52,12 @@ module _ (serial : List ℕ) (live : List Bool) (name : List ℕ) (x : ℕ) wher
   unfolding byName named
   identified h small =
       let i : ℕ = byName live name x in
-      let r : Lowest (named live name x) 0 i = least-lowest (named live name x) (length live) h in
-      let p = both-parts (getD live i false) (eqb (getD name i 0) x) (r .0) in
+      let p = both-true (getD live i false) (eqb (getD name i 0) x) (least-true (named live name x) (length live) h) in
       let s : slotOf (identifier (getD serial i 0) i) ≡ i = slot-is (getD serial i 0) i (omega arith) in
       record {
         lives = lives (getD serial i 0) i (omega arith) serial live (p .0) refl;
         so-named = ap (λ (k : ℕ). getD name k 0) s ∙ eqb-true _ _ (p .1);
-        lowest = λ k l. r .1 k (omega arith) (omega (arith, s));
+        lowest = λ k l. least-below (named live name x) (length live) k (omega (arith, s));
       }
 
   new : lowestUsable serial live < length serial → length serial ≤ 64 → length live ≡ length serial → length name ≡ length serial
@@ -93,15 +67,14 @@ module _ (serial : List ℕ) (live : List Bool) (name : List ℕ) (x : ℕ) wher
   unfolding lowestUsable
   new h small l n =
       let i : ℕ = lowestUsable serial live in
-      let r : Lowest (usable serial live) 0 i = least-lowest (usable serial live) (length serial) h in
       let s : slotOf (identifier (getD serial i 0 + 1) i) ≡ i = slot-is (getD serial i 0 + 1) i (omega arith) in
       record {
         lives =
             lives (getD serial i 0 + 1) i (omega arith) (set serial i (getD serial i 0 + 1)) (set live i true)
             (getD-set-same live i true false (omega arith)) (getD-set-same serial i (getD serial i 0 + 1) 0 h);
         so-named = ap (λ (k : ℕ). getD (set name i x) k 0) s ∙ getD-set-same name i x 0 (omega arith);
-        free = ap (usable serial live) s ∙ r .0;
-        lowest = λ k g. r .1 k (omega arith) (omega (arith, s));
+        free = ap (usable serial live) s ∙ least-true (usable serial live) (length serial) h;
+        lowest = λ k g. least-below (usable serial live) (length serial) k (omega (arith, s));
       }
 
 -- an answer that is OK is so
