@@ -2,10 +2,11 @@
 // slices, so one proof serves every table.
 use scope::Found;
 ghost use mathlib.Core.Path.{_≡_};
-ghost use Prim.Native.Nat.{_+_, _*_, _<_};
+ghost use Prim.Native.Nat.{_+_, _*_, _≤_, _<_};
 ghost use mathlib.Core.Bool.{Bool, true, false};
 ghost use lib.ListN.{length, getD};
 ghost use Rattle.scope.specs.Identifiers.{found, usable, lowestUsable, named, byName};
+ghost use Rattle.tables.specs.Masks.{bitAt, maskFrom};
 
 fn wide(x: u16) -> u32
     ensures { λ r. ⌜ r ≡ x ⌝ }
@@ -48,29 +49,59 @@ pub fn find<'a>(serial: &'a [u16], live: &'a [bool], id: u32) -> Found
     Found::Deleted
 }
 
-// Whether a slot is free and has a serial left.
-fn is_usable<'a>(serial: &'a [u16], live: &'a [bool], k: usize) -> bool
+// 1 where the slot is free and has a serial left, else 0.
+fn usable_bit<'a>(serial: &'a [u16], live: &'a [bool], k: usize) -> u64
     requires { do ⌜ k < (← ⟦serial.len()⟧) ⌝ }
-    ensures { λ r. ⌜ r ≡ usable (now (serial .entry)) (now (live .entry)) k ⌝ }
+    ensures { λ r. ⌜ r ≡ bitAt (usable (now (serial .entry)) (now (live .entry))) k ⌝ }
 {
     if flag(live, k) {
-        return false;
+        return 0;
     }
-    serial[k] < 65535
+    if wide(serial[k]) < 65535 {
+        return 1;
+    }
+    0
 }
 
-// The lowest slot that is free and has a serial left, or the table's size where there is none.
+// How many of so many slots one look sees.
+fn seen(slots: usize) -> usize
+    ensures { λ r. ⌜ (r ≤ slots) × (r ≤ 64) × (0 < slots → 0 < r) ⌝ }
+{
+    if slots < 64 {
+        return slots;
+    }
+    64
+}
+
+// The usable ones of the n slots from `base` on, as a mask: bit i for slot base + i.
+fn usable_mask<'a>(serial: &'a [u16], live: &'a [bool], base: usize, n: usize) -> u64
+    requires { ⌜ (base + n ≤ length (now serial)) × (n ≤ 64) ⌝ }
+    ensures { λ r. ⌜ r ≡ maskFrom (usable (now (serial .entry)) (now (live .entry))) base n ⌝ }
+{
+    let mut mask = 0;
+    let mut i = n;
+    while 0 < i {
+        i -= 1;
+        mask = mask * 2 + usable_bit(serial, live, base + i);
+    }
+    mask
+}
+
+// The lowest slot that is free and has a serial left, or the table's size where there is none: the trailing zeros of a mask made
+// here. One look sees 64 slots, which is more than any table has; a longer one would take another look.
 pub fn lowest_usable<'a>(serial: &'a [u16], live: &'a [bool]) -> usize
     ensures { λ r. ⌜ r ≡ lowestUsable (now (serial .entry)) (now (live .entry)) ⌝ }
 {
-    let mut k = 0;
-    while k < serial.len() {
-        if is_usable(serial, live, k) {
-            return k;
+    let mut base = 0;
+    while base < serial.len() {
+        let n = seen(serial.len() - base);
+        let mask = usable_mask(serial, live, base, n);
+        if mask != 0 {
+            return base + (u64::trailing_zeros(mask) as usize);
         }
-        k += 1;
+        base += n;
     }
-    k
+    base
 }
 
 // A column's number at a slot; 0 past its end.

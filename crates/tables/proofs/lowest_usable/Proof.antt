@@ -1,40 +1,61 @@
--- `tables::lowest_usable` meets its contract. The loop's invariant: no slot passed is usable.
+-- `tables::lowest_usable` meets its contract: what the trailing zeros of a look's mask name is the first usable slot there. The
+-- loop's invariant: no slot of an earlier look is usable.
 -- Assumes nothing.
-use Prim.Native.Nat.{ℕ, _≤_, _<_, _-_}
-use mathlib.Core.Path.{_≡_, sym, _∙_}
+use Prim.Native.Nat.{ℕ, _-_, _≤_, _<_}
+use native.Mathlib.Omega.{arith}
+use mathlib.Core.Path.{_≡_}
 use mathlib.Core.Bool.{false}
 use lib.ListN.{length}
+use lib.Count.{trailing-le}
 use borrow.Author.Needs.{needs}
-use borrow.Author.Count.{below-none, below-more}
+use borrow.Author.Count.{below-none}
 use Rattle.scope.specs.Identifiers.{usable, lowestUsable}
-use Rattle.laws.proofs.Searches.{least-hit, least-none}
+use Rattle.laws.proofs.Searches.{least-none}
+use Rattle.tables.proofs.Masks.{look-hit, look-none}
 use Rattle.tables.proofs.lowest_usable.Statement.{statement}
 use Rattle.tables.proofs.lowest_usable.Tie as tie
 
 abbrev Inv-loop : tie.InvT-loop
-Inv-loop serial live k₀ k = (k ≤ length serial) × ((j : ℕ) → j < k → usable serial live j ≡ false)
+Inv-loop serial live base₀ base = (base ≤ length serial) × ((j : ℕ) → j < base → usable serial live j ≡ false)
 
 abbrev μ-loop : tie.MeasureT-loop
-μ-loop serial live k₀ k = length serial - k
+μ-loop serial live base₀ base = length serial - base
 
 loop-holds : tie.Need-loop-holds Inv-loop μ-loop
 loop-holds c = (search needs, below-none _)
 
-is-usable-requires : tie.Need-is-usable-requires Inv-loop μ-loop
-is-usable-requires c κs = search needs
+sub-seen : tie.Need-sub-seen Inv-loop μ-loop
+sub-seen c = search needs
+
+seen-requires : tie.Need-seen-requires Inv-loop μ-loop
+seen-requires c κs = search needs
+
+usable-mask-requires : tie.Need-usable-mask-requires Inv-loop μ-loop
+usable-mask-requires c κs = (omega (arith, c .seen .ensures .0, c .before .loop-test .taken), c .seen .ensures .1)
+
+cast-result : tie.Need-cast-result Inv-loop μ-loop
+cast-result c = omega (arith, trailing-le 64 (c .before .usable-mask .result))
+
+add-result : tie.Need-add-result Inv-loop μ-loop
+add-result c = omega (arith, trailing-le 64 (c .before .usable-mask .result), c .before .before .before .before .loop .inv .0)
 
 returns : tie.Need-returns Inv-loop μ-loop
 unfolding lowestUsable
-returns c = least-hit _ (search needs) (c .before .before .before .loop .inv .1) (sym (c .before .is-usable .ensures) ∙ c .if1 .taken)
+returns c =
+    look-hit _ _ _ _ (c .before .before .before .before .loop .inv .1) (c .before .usable-mask .ensures) _
+    (omega (arith, c .before .before .seen .ensures .0, c .before .before .before .loop-test .taken)) (c .before .before .seen .ensures .1) (c .if1 .taken)
 
-add-k : tie.Need-add-k Inv-loop μ-loop
-add-k c = search needs
+add-base : tie.Need-add-base Inv-loop μ-loop
+add-base c = omega (arith, c .before .before .seen .ensures .0, c .before .before .before .loop-test .taken)
 
 loop-less : tie.Need-loop-less Inv-loop μ-loop
-loop-less c = search needs
+loop-less c = omega (arith, c .before .before .seen .ensures .0, c .before .before .seen .ensures .2 (omega (arith, c .before .before .before .loop-test .taken)), c .before .before .before .loop-test .taken)
 
 loop-again : tie.Need-loop-again Inv-loop μ-loop
-loop-again c = (search needs, below-more _ _ (c .before .before .before .loop .inv .1) (sym (c .before .is-usable .ensures) ∙ c .if1 .left))
+loop-again c = (
+  omega (arith, c .before .before .seen .ensures .0, c .before .before .before .loop-test .taken),
+  look-none _ _ _ _ (c .before .before .before .before .loop .inv .1) (c .before .usable-mask .ensures) (c .if1 .left),
+)
 
 returns-2 : tie.Need-returns-2 Inv-loop μ-loop
 unfolding lowestUsable
@@ -47,9 +68,13 @@ lowest-usable-spec =
     Inv-loop
     μ-loop
     loop-holds
-    is-usable-requires
+    sub-seen
+    seen-requires
+    usable-mask-requires
+    cast-result
+    add-result
     returns
-    add-k
+    add-base
     loop-less
     loop-again
     returns-2)

@@ -1,0 +1,142 @@
+-- A mask made from its last bit down, and what its trailing zeros say: the first that passes, by one step a bit.
+-- Assumes nothing.
+use Prim.Native.Nat.{ℕ, zero, suc, _+_, _*_, _-_, _^_, _≤_, _<_}
+use native.Mathlib.Omega.{arith}
+use native.Mathlib.Nat.{pow-suc, le-of-suc-le-suc, not-suc-le-zero, eq-or-lt-of-le}
+use mathlib.Core.Path.{_≡_, refl, sym, subst, ap, _∙_}
+use mathlib.Core.Logic.{⊎-elim}
+use mathlib.Core.Bool.{Bool, true, false, not}
+use mathlib.Core.List.{List}
+use lib.ListN.{getD}
+use lib.Arith.{digits-mod, digits-div}
+use lib.Count.{trailingZeros}
+use lib.Pow.{pow-mono}
+use borrow.Author.Tests.{lt-ltb, le-ltb}
+use Rattle.scope.specs.Choice.{pick, least}
+use Rattle.scope.specs.Identifiers.{usable}
+use Rattle.laws.proofs.Branches.{both, first-fails, second-fails, not-of-true, not-of-false, true-or-false, picked-yes, picked-no, lt-or-le}
+use Rattle.laws.proofs.Searches.{least-hit}
+use Rattle.tables.specs.Masks.{bitAt, maskFrom}
+
+module _ (p : ℕ → Bool) where
+  bit-yes : (k : ℕ) → p k ≡ true → bitAt p k ≡ 1
+  bit-yes k e = picked-yes {A = ℕ} (p k) 1 0 e
+
+  bit-no : (k : ℕ) → p k ≡ false → bitAt p k ≡ 0
+  bit-no k e = picked-no {A = ℕ} (p k) 1 0 e
+
+  pub bit-lt : (k : ℕ) → bitAt p k < 2
+  bit-lt k = ⊎-elim (λ e. omega (arith, bit-yes k e)) (λ e. omega (arith, bit-no k e)) (true-or-false (p k))
+
+  pub mask-lt : (n k : ℕ) → maskFrom p k n < 2 ^ n
+  unfolding maskFrom
+  mask-lt zero k = omega arith
+  mask-lt (suc n) k = omega (arith, mask-lt n (suc k), bit-lt k, pow-suc 2 n)
+
+  -- before the first turn of the loop, and after the last
+  pub mask-start : (k n : ℕ) → 0 ≡ maskFrom p (k + n) (n - n)
+  unfolding maskFrom
+  mask-start k n = let e : n - n ≡ 0 = omega arith in rw e
+
+  pub mask-end : (k n i : ℕ) → i ≡ 0 → maskFrom p (k + i) (n - i) ≡ maskFrom p k n
+  mask-end k n i z =
+      let a : k + i ≡ k = omega arith in
+      let b : n - i ≡ n = omega arith in
+      rw (a, b)
+
+  -- one more, in front
+  pub mask-more : (n k i m b : ℕ) → 0 < i → i ≤ n → m ≡ maskFrom p (k + i) (n - i) → b ≡ bitAt p (k + (i - 1))
+      → m * 2 + b ≡ maskFrom p (k + (i - 1)) (n - (i - 1))
+  unfolding maskFrom
+  mask-more n k i m b pos le d e =
+      let x : n - (i - 1) ≡ suc (n - i) = omega arith in
+      let y : k + i ≡ suc (k + (i - 1)) = omega arith in
+      rw (x, d, e, y)
+
+  -- there is room for one bit more
+  pub mask-room : (n k i : ℕ) → 0 < i → i ≤ n → n ≤ 64 → maskFrom p (k + i) (n - i) * 2 + 1 < 2 ^ 64
+  mask-room n k i pos le small =
+      let q : n - i ≤ 63 = omega arith in
+      let m : 2 ^ (n - i) ≤ 2 ^ 63 = pow-mono {j = 63} q in
+      omega (arith, mask-lt (n - i) (k + i), m)
+
+  -- a mask of nothing
+  pub mask-none : (n k : ℕ) → maskFrom p k n ≡ 0 → (j : ℕ) → k ≤ j → j < k + n → p j ≡ false
+  unfolding maskFrom
+  mask-none zero k e j lo hi = absurd (omega arith)
+  mask-none (suc n) k e j lo hi =
+      ⊎-elim
+      (λ d. subst (λ (v : ℕ). p v ≡ false) d (⊎-elim (λ y. absurd (omega (arith, e, bit-yes k y))) (λ y. y) (true-or-false (p k))))
+      (λ l. mask-none n (suc k) (omega (arith, e)) j l (omega arith))
+      (eq-or-lt-of-le lo)
+
+  -- where its trailing zeros end: n flags from k on, and a word of w bits
+  pub record First (n k z : ℕ) : Type 0 where
+    pub below : z < n
+    pub passes : p (k + z) ≡ true
+    pub none : (j : ℕ) → k ≤ j → j < k + z → p j ≡ false
+
+  first-later : (n k z : ℕ) → p k ≡ false → First n (suc k) z → First (suc n) k (suc z)
+  first-later n k z e f =
+      let s : suc k + z ≡ k + suc z = omega arith in
+      record {
+        below = omega (arith, f .below);
+        passes = subst (λ (v : ℕ). p v ≡ true) s (f .passes);
+        none = λ j lo hi.
+            ⊎-elim (λ d. subst (λ (v : ℕ). p v ≡ false) d e) (λ l. f .none j l (omega arith)) (eq-or-lt-of-le lo);
+      }
+
+  pub mask-first : (w n k : ℕ) → n ≤ w → (maskFrom p k n ≡ 0 → ⊥) → First n k (trailingZeros w (maskFrom p k n))
+  unfolding maskFrom trailingZeros
+  mask-first w zero k l some = absurd (some refl)
+  mask-first zero (suc n) k l some = absurd (not-suc-le-zero l)
+  mask-first (suc w) (suc n) k l some =
+      ⊎-elim
+      (λ y. let e : (maskFrom p (suc k) n * 2 + bitAt p k) ≡ maskFrom p (suc k) n * 2 + 1 = omega (arith, bit-yes k y) in
+      subst (First (suc n) k) (sym (ap (trailingZeros (suc w)) e ∙ odd))
+      (record {
+        below = omega arith;
+        passes = let s : k ≡ k + 0 = omega arith in subst (λ (v : ℕ). p v ≡ true) s y;
+        none = λ j lo hi. absurd (omega arith);
+      }))
+      (λ y. let e : (maskFrom p (suc k) n * 2 + bitAt p k) ≡ maskFrom p (suc k) n * 2 + 0 = omega (arith, bit-no k y) in
+      subst (First (suc n) k) (sym (ap (trailingZeros (suc w)) e ∙ even))
+      (first-later n k _ y (mask-first w n (suc k) (le-of-suc-le-suc l) (λ z. some (omega (arith, e, z))))))
+      (true-or-false (p k))
+    where
+      odd : trailingZeros (suc w) (maskFrom p (suc k) n * 2 + 1) ≡ 0
+      odd = rw (digits-mod (maskFrom p (suc k) n) {m = 2} {r = 1} (omega arith))
+
+      even : trailingZeros (suc w) (maskFrom p (suc k) n * 2 + 0) ≡ suc (trailingZeros w (maskFrom p (suc k) n))
+      even =
+          rw (digits-mod (maskFrom p (suc k) n) {m = 2} {r = 0} (omega arith), digits-div (maskFrom p (suc k) n) {m = 2} {r = 0} (omega arith))
+
+-- a look at the n slots from `base` on, where none before them passes
+module _ (p : ℕ → Bool) (base n m : ℕ) (before : (j : ℕ) → j < base → p j ≡ false) (is : m ≡ maskFrom p base n) where
+  -- finds the first that does
+  pub look-hit : (len : ℕ) → base + n ≤ len → n ≤ 64 → (m ≡ 0 → ⊥) → base + trailingZeros 64 m ≡ least p len
+  look-hit len within small some =
+      let f : First p n base (trailingZeros 64 (maskFrom p base n)) = mask-first p 64 n base small (λ z. some (is ∙ z)) in
+      let g : First p n base (trailingZeros 64 m) = subst (λ (v : ℕ). First p n base (trailingZeros 64 v)) (sym is) f in
+      least-hit p (omega (arith, g .below))
+      (λ j h. ⊎-elim (before j) (λ l. g .none j l h) (lt-or-le j base))
+      (g .passes)
+
+  -- or shows that none of them does
+  pub look-none : m ≡ 0 → (j : ℕ) → j < base + n → p j ≡ false
+  look-none z j h = ⊎-elim (before j) (λ l. mask-none p n base (sym is ∙ z) j l h) (lt-or-le j base)
+
+-- a slot's bit: free, and a serial left
+module _ (serial : List ℕ) (live : List Bool) (k : ℕ) where
+  pub bit-live : getD live k false ≡ true → 0 ≡ bitAt (usable serial live) k
+  unfolding usable
+  bit-live e = sym (picked-no {A = ℕ} _ 1 0 (first-fails _ _ (not-of-true _ e)))
+
+  module _ (w : ℕ) (free : getD live k false ≡ false) (is : w ≡ getD serial k 0) where
+    pub bit-left : w < 65535 → 1 ≡ bitAt (usable serial live) k
+    unfolding usable
+    bit-left h = sym (picked-yes {A = ℕ} _ 1 0 (both _ _ (not-of-false _ free) (lt-ltb (getD serial k 0) 65535 (omega (arith, is, h)))))
+
+    pub bit-used-up : 65535 ≤ w → 0 ≡ bitAt (usable serial live) k
+    unfolding usable
+    bit-used-up h = sym (picked-no {A = ℕ} _ 1 0 (second-fails (not (getD live k false)) _ (le-ltb (getD serial k 0) 65535 (omega (arith, is, h)))))
