@@ -16,7 +16,7 @@ use Rattle.scope.specs.Identifiers.{identifier}
 use Rattle.scope.specs.Seats.{queueSeats, standing, leaves, joins}
 use Rattle.scope.specs.Lists.{has}
 use Rattle.scope.specs.Views.{withLine}
-use Rattle.scope.specs.Semaphores.{waits}
+use Rattle.scope.specs.Waiting.{waits}
 use Rattle.scope.proofs.Seats.{ahead-from}
 use Rattle.laws.proofs.Branches.{true-or-false, eq-or-not, not-of-false, picked-yes, picked-no}
 use Rattle.laws.proofs.Arrays.{inside}

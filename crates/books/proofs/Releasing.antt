@@ -18,7 +18,8 @@ use Rattle.scope.specs.Lists.{has}
 use Rattle.scope.specs.Seats.{queueSeats, isOn, onSeat, firstOf}
 use Rattle.scope.specs.Views.{waitersOf}
 use Rattle.scope.specs.Answers.{answer, plain, badState, wakesWith}
-use Rattle.scope.specs.Semaphores.{semFound, wakeNext, semReleaseAt}
+use Rattle.scope.specs.Waiting.{wakeNext}
+use Rattle.scope.specs.Semaphores.{semFound, semReleaseAt}
 use Rattle.scope.specs.Replies.{Wake, wakesFrom, replyOf}
 use Rattle.scope.specs.Fresh.{freshState}
 use Rattle.laws.proofs.Branches.{true-false}

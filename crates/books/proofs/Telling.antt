@@ -23,7 +23,8 @@ use Rattle.scope.specs.Seats.{queueSeats, waitsOn, firstOf, leaves, becomesRead
 use Rattle.scope.specs.Views.{withLine, withTasks, withSemaphores, withPools, withSeats, readyWith, runningTask}
 use Rattle.scope.specs.Answers.{answer, plain, wakesWith}
 use Rattle.scope.specs.Tasks.{taskBorn}
-use Rattle.scope.specs.Semaphores.{semFound, semBorn, semGone, withUnits, noneWoken, wakeNext, wakeAll, semDeleteAt, waits}
+use Rattle.scope.specs.Waiting.{noneWoken, wakeNext, wakeAll, waits}
+use Rattle.scope.specs.Semaphores.{semFound, semBorn, semGone, withUnits, semDeleteAt}
 use Rattle.scope.specs.Ticks.{ticked, wakeDue, tick}
 use Rattle.laws.proofs.Branches.{both-true, not-of-true, true-false, true-or-false, eq-or-not, picked-yes, picked-no}
 use Rattle.tables.proofs.Laws.{found-live, found-identifier, usable-at, usable-free}

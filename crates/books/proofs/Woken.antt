@@ -17,7 +17,7 @@ use Rattle.scope.specs.declared.Waking.{Waking}
 use Rattle.scope.specs.Choice.{pick}
 use Rattle.scope.specs.Identifiers.{identifier}
 use Rattle.scope.specs.Seats.{queueSeats, ringSeats, firstOf, leaves, becomesReady}
-use Rattle.scope.specs.Semaphores.{wokenSeats, wake, wakeNext, wakeAll, noneWoken}
+use Rattle.scope.specs.Waiting.{wokenSeats, wake, wakeNext, wakeAll, noneWoken}
 use Rattle.scope.specs.Ticks.{isDue, wakeDue}
 use Rattle.scope.specs.Replies.{wakesFrom}
 use Rattle.laws.proofs.Branches.{lt-or-le, eq-or-not, true-false, true-or-false, picked-yes, picked-no}

@@ -7,7 +7,7 @@ use Rattle.scope.specs.Seats.{waitsOn, onSeat, standsIn, standing, lower, leave
 use Rattle.scope.specs.Views.{readyWith, less, runningTask}
 use Rattle.scope.specs.Answers.{answer, plain, badState, wakesWith}
 use Rattle.scope.specs.Areas.{isArea, isSize, buffersOf, shareByte}
-use Rattle.scope.specs.Semaphores.{wokenSeats, wake, wakeNext, isTimeOut}
+use Rattle.scope.specs.Waiting.{wokenSeats, wake, wakeNext, isTimeOut}
 use Rattle.scope.specs.Ticks.{timeLeft, timesLeft, isDue, wakeDue, tick}
 use Rattle.scope.specs.Rules.{seatRight, seatsRight, readyRight, readyOrderRight, waitRight, waitsRight, joinedRight, queuesSorted, countRight, countsRight, startRight, startsRight, taskRight, tasksRight, semRight, semsRight, admitted, poolRight, poolsRight, pairShares, poolsApart, runningRight, sound}
 use Rattle.scope.specs.Calls.{mayCall}

@@ -8,7 +8,8 @@ use Rattle.scope.specs.Views.{readyWith, less, runningTask}
 use Rattle.scope.specs.Answers.{bitOf, answer, plain, gives, badState, wakesWith, onFound}
 use Rattle.scope.specs.Areas.{isArea, isSize, buffersOf, shareByte, isOut, isFree, lowestFree, freeOf, bufferAddress, bufferAt}
 use Rattle.scope.specs.Tasks.{taskFound, taskCreateAt, taskCreate, taskDeleteAt, taskIdentAt, taskIdent, taskStartAt, taskSuspendAt, taskResumeAt, taskSetPriorityAt}
-use Rattle.scope.specs.Semaphores.{semCreateAt, semCreate, wokenSeats, wake, wakeNext, wakeAll, semDeleteAt, semIdentAt, semIdent, isTimeOut, queueKey, waits, semWaitAt, semClaimAt, semReleaseAt, semInfoAt}
+use Rattle.scope.specs.Waiting.{wokenSeats, wake, wakeNext, wakeAll, isTimeOut, queueKey, waits}
+use Rattle.scope.specs.Semaphores.{semCreateAt, semCreate, semDeleteAt, semIdentAt, semIdent, semWaitAt, semClaimAt, semReleaseAt, semInfoAt}
 use Rattle.scope.specs.Pools.{overlaps, overlapped, poolCreateAt, poolCreate, poolDeleteAt, poolIdentAt, poolIdent, poolGetBuffer, poolGetBuffAt, poolRetBuffer, poolRetBuffAt, poolInfoAt}
 use Rattle.scope.specs.Ticks.{timeLeft, timesLeft, isDue, wakeDue, tick}
 use Rattle.scope.specs.Rules.{seatRight, seatsRight, readyRight, readyOrderRight, waitRight, waitsRight, joinedRight, queuesSorted, countRight, countsRight, startRight, startsRight, taskRight, tasksRight, semRight, semsRight, admitted, poolRight, poolsRight, pairShares, poolsApart, runningRight, sound}

@@ -14,7 +14,7 @@ use Rattle.scope.specs.declared.Semaphores.{Semaphores}
 use Rattle.scope.specs.declared.Pools.{Pools}
 use Rattle.scope.specs.Seats.{queueSeats, ringSeats}
 use Rattle.scope.specs.Answers.{noWakes}
-use Rattle.scope.specs.Semaphores.{FOREVER}
+use Rattle.scope.specs.Waiting.{FOREVER}
 use Rattle.scope.specs.Statuses.{OK, BAD-STATE}
 use Rattle.scope.specs.Rules.{seatsRight, readyOrderRight, waitsRight, queuesSorted, countsRight, startsRight, tasksRight, semsRight, poolsRight, poolsApart, runningRight}
 use Rattle.scope.specs.Step.{stepped}

@@ -16,7 +16,7 @@ use Rattle.scope.specs.declared.Semaphores.{Semaphores}
 use Rattle.scope.specs.Choice.{pick}
 use Rattle.scope.specs.Seats.{queueSeats, leaves, joins, aheadOf}
 use Rattle.scope.specs.Views.{withSeats, withWait}
-use Rattle.scope.specs.Semaphores.{queueKey, waits}
+use Rattle.scope.specs.Waiting.{queueKey, waits}
 use Rattle.laws.proofs.Branches.{lt-or-le, eq-or-not}
 use Rattle.seats.specs.Rule.{In, Sorted}
 use Rattle.scope.proofs.Seats.{ahead-from}

@@ -21,7 +21,8 @@ use Rattle.scope.specs.Seats.{queueSeats, ringSeats, standsIn, standing, leaves
 use Rattle.scope.specs.Views.{waitersOf, less, count}
 use Rattle.scope.specs.Answers.{answer, plain}
 use Rattle.scope.specs.Tasks.{taskDeleteAt}
-use Rattle.scope.specs.Semaphores.{waits, semWaitAt, semClaimAt, semReleaseAt}
+use Rattle.scope.specs.Waiting.{waits}
+use Rattle.scope.specs.Semaphores.{semWaitAt, semClaimAt, semReleaseAt}
 use Rattle.scope.specs.Ticks.{isDue, wakeDue}
 use Rattle.scope.specs.Fresh.{freshState}
 use Rattle.scope.proofs.Rows.{by-choice}

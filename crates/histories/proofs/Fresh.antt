@@ -11,7 +11,7 @@ use Rattle.scope.specs.Choice.{pick, least, every, number}
 use Rattle.scope.specs.Seats.{waitsOn, onSeat, standsIn, standing, greater, topOf, runnerOf}
 use Rattle.scope.specs.Views.{readyWith, less}
 use Rattle.scope.specs.Areas.{isArea, isSize, buffersOf, shareByte}
-use Rattle.scope.specs.Semaphores.{isTimeOut}
+use Rattle.scope.specs.Waiting.{isTimeOut}
 use Rattle.scope.specs.Rules.{seatRight, seatsRight, readyRight, readyOrderRight, waitRight, waitsRight, joinedRight, queuesSorted, countRight, countsRight, startRight, startsRight, taskRight, tasksRight, semRight, semsRight, admitted, poolRight, poolsRight, pairShares, poolsApart, runningRight, sound}
 use Rattle.scope.specs.Fresh.{freshState, fresh}
 use Rattle.laws.proofs.Searches.{every-at}

@@ -16,7 +16,7 @@ use Rattle.scope.specs.declared.Semaphores.{Semaphores}
 use Rattle.scope.specs.Choice.{pick}
 use Rattle.scope.specs.Seats.{queueSeats, ringSeats, waitsOn, queueOf, onSeat, standing}
 use Rattle.scope.specs.Views.{readyWith, waitersOf, count}
-use Rattle.scope.specs.Semaphores.{isTimeOut}
+use Rattle.scope.specs.Waiting.{isTimeOut}
 use Rattle.scope.specs.Rules.{seatsRight, readyRight, readyOrderRight, waitRight, waitsRight, joinedRight, queuesSorted, countRight, countsRight, startRight, startsRight, taskRight, tasksRight, semRight, semsRight, poolRight, poolsRight, poolsApart, runningRight, sound}
 use Rattle.scope.proofs.Counts.{right-says, says-right}
 use Rattle.laws.proofs.Branches.{picked-yes, picked-no, both, both-true, first-fails, second-fails, not-of-true, not-of-false, true-false, true-or-false, lt-or-le}

@@ -18,7 +18,7 @@ use Rattle.scope.specs.declared.Semaphores.{Semaphores}
 use Rattle.scope.specs.Choice.{pick}
 use Rattle.scope.specs.Seats.{queueSeats, ringSeats, standing, leaves, joins, becomesReady, aheadOf, waitsOn}
 use Rattle.scope.specs.Views.{withSeats, withWait}
-use Rattle.scope.specs.Semaphores.{isTimeOut, queueKey, waits, wokenSeats, wake}
+use Rattle.scope.specs.Waiting.{isTimeOut, queueKey, waits, wokenSeats, wake}
 use Rattle.laws.proofs.Branches.{lt-or-le, eq-or-not, picked-no, both, both-true, true-false}
 use Rattle.laws.proofs.Arrays.{inside}
 use Rattle.seats.specs.Rule.{In, Sorted, Queues}

@@ -19,7 +19,8 @@ use Rattle.scope.specs.Statuses.{OK}
 use Rattle.scope.specs.Seats.{queueSeats, firstOf}
 use Rattle.scope.specs.Views.{waitersOf}
 use Rattle.scope.specs.Answers.{answer, plain, badState, wakesWith, onFound}
-use Rattle.scope.specs.Semaphores.{wakeNext, semReleaseAt, semRelease}
+use Rattle.scope.specs.Waiting.{wakeNext}
+use Rattle.scope.specs.Semaphores.{semReleaseAt, semRelease}
 use Rattle.scope.specs.Step.{callerRefusal, answered, stepped}
 use Rattle.scope.specs.Fresh.{freshState, fresh}
 use Rattle.laws.proofs.Branches.{lt-or-le, true-false, picked-yes, picked-no, first-fails, not-of-true}

@@ -21,7 +21,8 @@ use Rattle.scope.specs.Identifiers.{lowestUsable}
 use Rattle.scope.specs.Seats.{queueSeats, firstOf, standing, runnerOf}
 use Rattle.scope.specs.Views.{withSemaphores}
 use Rattle.scope.specs.Answers.{answer, plain, gives, wakesWith}
-use Rattle.scope.specs.Semaphores.{isTimeOut, lastCount, semBorn, semGone, withUnits, semFound, semCreateAt, semCreate, wakeNext, noneWoken, wakeAll, semDeleteAt, semIdentAt, semIdent, semWaitAt, semClaimAt, semReleaseAt, semInfoAt, semDelete, semClaim, semRelease, semInfo}
+use Rattle.scope.specs.Waiting.{isTimeOut, wakeNext, noneWoken, wakeAll}
+use Rattle.scope.specs.Semaphores.{lastCount, semBorn, semGone, withUnits, semFound, semCreateAt, semCreate, semDeleteAt, semIdentAt, semIdent, semWaitAt, semClaimAt, semReleaseAt, semInfoAt, semDelete, semClaim, semRelease, semInfo}
 use Rattle.laws.proofs.Branches.{lt-or-le, eq-or-not, true-false, true-or-false, both, first-decides, second-decides, not-of-false}
 use Rattle.tables.proofs.Laws.{found-below, found-live, usable-at, usable-free}
 use Rattle.seats.specs.Rule.{In, Sorted, Queues, Runs}

@@ -17,7 +17,7 @@ use Rattle.scope.specs.declared.Waking.{Waking}
 use Rattle.scope.specs.Choice.{pick}
 use Rattle.scope.specs.Seats.{queueSeats, ringSeats, firstOf, leaves, becomesReady}
 use Rattle.scope.specs.Views.{withWait}
-use Rattle.scope.specs.Semaphores.{wokenSeats, wake, wakeNext, wakeAll}
+use Rattle.scope.specs.Waiting.{wokenSeats, wake, wakeNext, wakeAll}
 use Rattle.scope.specs.Ticks.{ticked, isDue, wakeDue}
 use Rattle.laws.proofs.Branches.{lt-or-le}
 use Rattle.seats.specs.Rule.{In, Queues}

@@ -18,7 +18,7 @@ use Rattle.scope.specs.declared.Semaphores.{Semaphores}
 use Rattle.scope.specs.declared.Waking.{Waking}
 use Rattle.scope.specs.Choice.{pick}
 use Rattle.scope.specs.Answers.{wakesWith}
-use Rattle.scope.specs.Semaphores.{FOREVER, isTimeOut, wokenSeats, wake, wakeNext, noneWoken}
+use Rattle.scope.specs.Waiting.{FOREVER, isTimeOut, wokenSeats, wake, wakeNext, noneWoken}
 use Rattle.scope.specs.Ticks.{timeLeft, timesLeft, ticked, isDue, wakeDue, tick}
 use Rattle.laws.proofs.Branches.{lt-or-le, eq-or-not, picked-yes, picked-no, both, both-true, true-false}
 use Rattle.histories.specs.Sound.{Waits, LineSound, Sound}

@@ -23,7 +23,8 @@ use Rattle.scope.specs.Identifiers.{found}
 use Rattle.scope.specs.Seats.{queueSeats, firstOf, leaves, becomesReady}
 use Rattle.scope.specs.Answers.{answer, plain, badState, wakesWith}
 use Rattle.scope.specs.Tasks.{taskFound}
-use Rattle.scope.specs.Semaphores.{semFound, noneWoken, semDeleteAt}
+use Rattle.scope.specs.Waiting.{noneWoken}
+use Rattle.scope.specs.Semaphores.{semFound, semDeleteAt}
 use Rattle.scope.specs.Ticks.{ticked, tick}
 use Rattle.scope.specs.Step.{stepped}
 use Rattle.laws.proofs.Branches.{eq-or-not, true-false, picked-yes, picked-no}

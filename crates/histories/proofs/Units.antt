@@ -23,7 +23,8 @@ use Rattle.scope.specs.Identifiers.{identifier, lowestUsable}
 use Rattle.scope.specs.Answers.{answer, plain, gives, badState, wakesWith, onFound}
 use Rattle.scope.specs.Calls.{callAt}
 use Rattle.scope.specs.Views.{withLine, withSemaphores}
-use Rattle.scope.specs.Semaphores.{semFound, semBorn, semGone, withUnits, semCreateAt, semCreate, wakeNext, noneWoken, semDeleteAt, semWaitAt, semClaimAt, semReleaseAt}
+use Rattle.scope.specs.Waiting.{wakeNext, noneWoken}
+use Rattle.scope.specs.Semaphores.{semFound, semBorn, semGone, withUnits, semCreateAt, semCreate, semDeleteAt, semWaitAt, semClaimAt, semReleaseAt}
 use Rattle.laws.proofs.Branches.{both, first-fails, true-false, picked-yes, picked-no, eq-or-not}
 use Rattle.tables.proofs.Laws.{found-names, usable-at, usable-free}
 use Rattle.histories.specs.Sound.{Sound}

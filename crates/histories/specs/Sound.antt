@@ -13,7 +13,7 @@ use Rattle.scope.specs.declared.Tasks.{Tasks}
 use Rattle.scope.specs.declared.Semaphores.{Semaphores}
 use Rattle.scope.specs.declared.Pools.{Pools}
 use Rattle.scope.specs.Seats.{queueSeats, ringSeats, standing, runnerOf}
-use Rattle.scope.specs.Semaphores.{isTimeOut}
+use Rattle.scope.specs.Waiting.{isTimeOut}
 use Rattle.scope.specs.Rules.{poolRight, poolsApart}
 use Rattle.seats.specs.Rule.{In, Sorted, Queues}
 

@@ -13,7 +13,8 @@ use Rattle.scope.specs.declared.State.{State}
 use Rattle.scope.specs.Lists.{has}
 use Rattle.scope.specs.Seats.{queueSeats, ringSeats, firstRing, queueOf, standing, queue, runnerOf}
 use Rattle.scope.specs.Views.{Signed, less, isReady, waitersOf, count}
-use Rattle.scope.specs.Semaphores.{lastCount, isTimeOut}
+use Rattle.scope.specs.Waiting.{isTimeOut}
+use Rattle.scope.specs.Semaphores.{lastCount}
 use Rattle.scope.specs.Rules.{seatsRight, readyRight, readyOrderRight, waitRight, waitsRight, joinedRight, queuesSorted, countRight, countsRight, startRight, startsRight, taskRight, tasksRight, runningRight}
 use Rattle.scope.proofs.Counts.{minus, natural, less-below, less-above, less-negative, less-not-negative, right-says, says-right}
 use Rattle.laws.proofs.Branches.{true-false, true-or-false, lt-or-le}

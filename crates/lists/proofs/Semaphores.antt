@@ -18,7 +18,8 @@ use Rattle.scope.specs.Seats.{queueSeats, firstRing, firstOf, leaves, joins, qu
 use Rattle.scope.specs.Views.{withSeats}
 use Rattle.scope.specs.Answers.{answer, plain, wakesWith}
 use Rattle.scope.specs.Replies.{wakeList}
-use Rattle.scope.specs.Semaphores.{isTimeOut, wakeNext, noneWoken, wakeAll, semDeleteAt, queueKey, waits, semWaitAt, semClaimAt, semReleaseAt}
+use Rattle.scope.specs.Waiting.{isTimeOut, wakeNext, noneWoken, wakeAll, queueKey, waits}
+use Rattle.scope.specs.Semaphores.{semDeleteAt, semWaitAt, semClaimAt, semReleaseAt}
 use Rattle.laws.proofs.Branches.{eq-or-not, true-or-false, first-fails, not-of-true, picked-yes, picked-no}
 use Rattle.seats.specs.Rule.{In}
 use Rattle.seats.proofs.Counting.{standing-le}

@@ -13,7 +13,7 @@ use Rattle.scope.specs.declared.Tasks.{Tasks}
 use Rattle.scope.specs.Choice.{pick}
 use Rattle.scope.specs.Seats.{ringSeats, waitsOn, queueOf, onSeat}
 use Rattle.scope.specs.Views.{readyWith}
-use Rattle.scope.specs.Semaphores.{isTimeOut}
+use Rattle.scope.specs.Waiting.{isTimeOut}
 use Rattle.scope.specs.Rules.{readyRight, waitRight, joinedRight, startRight, taskRight}
 use Rattle.laws.proofs.Branches.{picked-yes, picked-no, both, both-true, not-of-false, true-or-false}
 use Rattle.histories.proofs.Refused.{by-choice}

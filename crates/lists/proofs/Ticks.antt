@@ -20,7 +20,7 @@ use Rattle.scope.specs.Lists.{has, keep, without}
 use Rattle.scope.specs.Statuses.{TIME-OUT}
 use Rattle.scope.specs.Seats.{ringSeats, firstRing, seatBehind, waitsOn, leaves, becomesReady, queue, readyOrder}
 use Rattle.scope.specs.Answers.{wakesWith}
-use Rattle.scope.specs.Semaphores.{wokenSeats, wake, wakeNext, noneWoken}
+use Rattle.scope.specs.Waiting.{wokenSeats, wake, wakeNext, noneWoken}
 use Rattle.scope.specs.Replies.{Wake, wakeList}
 use Rattle.scope.specs.Ticks.{ticked, isDue, wakeDue, tick}
 use Rattle.scope.proofs.Seats.{ahead-from}

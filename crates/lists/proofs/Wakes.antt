@@ -18,7 +18,7 @@ use Rattle.scope.specs.declared.Waking.{Waking}
 use Rattle.scope.specs.Choice.{pick}
 use Rattle.scope.specs.Lists.{has, without}
 use Rattle.scope.specs.Seats.{queueSeats, firstRing, firstOf, leaves, becomesReady, queue, readyOrder}
-use Rattle.scope.specs.Semaphores.{wokenSeats, wake, wakeNext, wakeAll}
+use Rattle.scope.specs.Waiting.{wokenSeats, wake, wakeNext, wakeAll}
 use Rattle.scope.specs.Replies.{Wake, wakesFrom}
 use Rattle.laws.proofs.Branches.{lt-or-le, not-of-true, picked-no}
 use Rattle.seats.specs.Rule.{In}

@@ -10,7 +10,8 @@ use Rattle.scope.specs.Lists.{has}
 use Rattle.scope.specs.Seats.{ringSeats, firstRing, waitsOn, queue, readyOrder}
 use Rattle.scope.specs.Views.{isReady, count}
 use Rattle.scope.specs.Tasks.{lastPriority}
-use Rattle.scope.specs.Semaphores.{lastCount, isTimeOut}
+use Rattle.scope.specs.Waiting.{isTimeOut}
+use Rattle.scope.specs.Semaphores.{lastCount}
 use Rattle.scope.specs.Rules.{readyOrderRight, waitsRight, queuesSorted, countsRight, startsRight, tasksRight, semsRight, poolsRight, poolsApart, runningRight}
 use Rattle.seats.specs.Rule.{In}
 use Rattle.lists.specs.Along.{Once, NeverRising, firstIn}

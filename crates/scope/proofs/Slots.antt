@@ -14,7 +14,7 @@ use Rattle.scope.specs.declared.State.{State}
 use Rattle.scope.specs.declared.Tasks.{Tasks}
 use Rattle.scope.specs.declared.Waking.{Waking}
 use Rattle.scope.specs.Identifiers.{identifier, slotOf}
-use Rattle.scope.specs.Semaphores.{wakeNext, noneWoken}
+use Rattle.scope.specs.Waiting.{wakeNext, noneWoken}
 use Rattle.scope.specs.Answers.{wakesWith}
 use Rattle.scope.specs.Ticks.{ticked, isDue, wakeDue, tick}
 use Rattle.scope.proofs.Rows.{branch}

@@ -23,7 +23,8 @@ use Rattle.scope.specs.Seats.{queueSeats, firstOf, ringSeats, seatsEnd, 
 use Rattle.scope.specs.Views.{withSemaphores, waitersOf, Signed, less, count}
 use Rattle.scope.specs.Answers.{answer, plain, wakesWith, onFound}
 use Rattle.scope.specs.Tasks.{taskDeleteAt}
-use Rattle.scope.specs.Semaphores.{withUnits, wokenSeats, wake, wakeNext, semWaitAt, semClaimAt, semReleaseAt, semInfoAt, semFound, semInfo}
+use Rattle.scope.specs.Waiting.{wokenSeats, wake, wakeNext}
+use Rattle.scope.specs.Semaphores.{withUnits, semWaitAt, semClaimAt, semReleaseAt, semInfoAt, semFound, semInfo}
 use Rattle.scope.specs.Ticks.{isDue, wakeDue}
 use Rattle.scope.proofs.Rows.{by-choice}
 use Rattle.scope.proofs.Counts.{plusOne, lessOne, unit-more, unit-less, waiter-less}

@@ -9,6 +9,7 @@ pub mod Answers
 pub mod Replies
 pub mod Areas
 pub mod Tasks
+pub mod Waiting
 pub mod Semaphores
 pub mod Pools
 pub mod Ticks

@@ -15,7 +15,8 @@ use Rattle.scope.specs.Seats.{ringSeats, firstRing, waitsOn, queueOf, is
 use Rattle.scope.specs.Views.{readyWith, waitersOf, Signed, count}
 use Rattle.scope.specs.Areas.{isArea, isSize, buffersOf, shareByte}
 use Rattle.scope.specs.Tasks.{lastPriority}
-use Rattle.scope.specs.Semaphores.{lastCount, isTimeOut}
+use Rattle.scope.specs.Waiting.{isTimeOut}
+use Rattle.scope.specs.Semaphores.{lastCount}
 
 -- The seats say queues: a seat that is taken is taken by one task only, and is the first of its queue or directly behind
 -- another that is taken. So the places of a queue of n are 1 to n, each once.

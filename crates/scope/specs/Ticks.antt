@@ -14,7 +14,7 @@ use Rattle.scope.specs.declared.Answer.{Answer}
 use Rattle.scope.specs.Choice.{pick}
 use Rattle.scope.specs.Statuses.{TIME-OUT}
 use Rattle.scope.specs.Seats.{waitsOn}
-use Rattle.scope.specs.Semaphores.{FOREVER, wakeNext, noneWoken}
+use Rattle.scope.specs.Waiting.{FOREVER, wakeNext, noneWoken}
 use Rattle.scope.specs.Answers.{wakesWith}
 
 -- what a tick leaves of a time_out. "Its time_out stands still while it is suspended." A task that does not wait has 0 left.

@@ -17,7 +17,8 @@ use Rattle.scope.specs.Statuses.{OK}
 use Rattle.scope.specs.Seats.{queueSeats, firstOf, standing, standsIn}
 use Rattle.scope.specs.Views.{waitersOf}
 use Rattle.scope.specs.Answers.{bitOf, answer}
-use Rattle.scope.specs.Semaphores.{wakeNext, wakeAll, semInfoAt}
+use Rattle.scope.specs.Waiting.{wakeNext, wakeAll}
+use Rattle.scope.specs.Semaphores.{semInfoAt}
 use Rattle.scope.proofs.Counts.{less-below, less-above}
 use Rattle.laws.proofs.Searches.{number-le}
 

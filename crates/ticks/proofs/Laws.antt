@@ -17,7 +17,7 @@ use Rattle.scope.specs.declared.Line.{Line}
 use Rattle.scope.specs.declared.Waking.{Waking}
 use Rattle.scope.specs.Seats.{waitsOn}
 use Rattle.scope.specs.Choice.{pick}
-use Rattle.scope.specs.Semaphores.{wakeNext}
+use Rattle.scope.specs.Waiting.{wakeNext}
 use Rattle.scope.specs.Ticks.{timeLeft, timesLeft, isDue, wakeDue}
 use Rattle.answers.specs.Columns.{lineOf}
 

@@ -10,7 +10,7 @@ ghost use Rattle.scope.specs.declared.State.{State};
 ghost use Rattle.scope.specs.declared.Tasks.{Tasks};
 ghost use Rattle.scope.specs.Choice.{pick};
 ghost use Rattle.scope.specs.Seats.{waitsOn};
-ghost use Rattle.scope.specs.Semaphores.{wakeNext};
+ghost use Rattle.scope.specs.Waiting.{wakeNext};
 ghost use Rattle.scope.specs.Ticks.{timesLeft, isDue, wakeDue, tick};
 ghost use Rattle.answers.specs.Outcomes.{answerOf};
 ghost use Rattle.answers.specs.Columns.{lineOf, wakers, wakingOf, lentLine};

@@ -1,7 +1,7 @@
-// Time_outs: which are in range, and what a tick leaves of one. (scope's specs/Semaphores.antt and Ticks.antt.)
+// Time_outs: which are in range, and what a tick leaves of one. (scope's specs/Waiting.antt and Ticks.antt.)
 ghost use mathlib.Core.Path.{_≡_};
 ghost use mathlib.Core.Bool.{Bool, true, false};
-ghost use Rattle.scope.specs.Semaphores.{isTimeOut};
+ghost use Rattle.scope.specs.Waiting.{isTimeOut};
 ghost use Rattle.scope.specs.Ticks.{timeLeft};
 
 // "time_out is 1 to 65,535 ticks, or 4,294,967,295 for FOREVER"

@@ -1,4 +1,4 @@
-use Rattle.scope.specs.Semaphores.{waits}
+use Rattle.scope.specs.Waiting.{waits}
 use borrow.Author.Needs.{needs}
 use Rattle.semaphores.proofs.wait.Statement.{statement}
 use Rattle.semaphores.proofs.wait.Tie as tie

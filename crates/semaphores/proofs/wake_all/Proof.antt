@@ -4,7 +4,7 @@ use Prim.Native.Nat.{_-_, _≤_}
 use mathlib.Core.Path.{_≡_, refl, _∙_}
 use borrow.Author.Needs.{needs}
 use Rattle.answers.specs.Columns.{wakers, wakingOf}
-use Rattle.scope.specs.Semaphores.{wakeAll}
+use Rattle.scope.specs.Waiting.{wakeAll}
 use Rattle.scope.specs.declared.Tasks.{Tasks}
 use Rattle.semaphores.proofs.Laws.{wake-all-more, wake-all-none, wake-all-done}
 use Rattle.semaphores.proofs.wake_all.Statement.{statement}

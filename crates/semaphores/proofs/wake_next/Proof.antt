@@ -2,7 +2,7 @@
 -- Assumes nothing.
 use denote.Ref.{now}
 use borrow.Author.Needs.{needs}
-use Rattle.scope.specs.Semaphores.{wakeNext, wake}
+use Rattle.scope.specs.Waiting.{wakeNext, wake}
 use Rattle.semaphores.proofs.wake_next.Statement.{statement}
 use Rattle.semaphores.proofs.wake_next.Tie as tie
 

@@ -2,7 +2,7 @@
 -- Assumes nothing.
 use borrow.Author.Needs.{needs}
 use Rattle.laws.proofs.Branches.{pick-yes, pick-no}
-use Rattle.scope.specs.Semaphores.{wokenSeats}
+use Rattle.scope.specs.Waiting.{wokenSeats}
 use Rattle.semaphores.proofs.woken_seats.Statement.{statement}
 use Rattle.semaphores.proofs.woken_seats.Tie as tie
 

@@ -2,7 +2,7 @@
 -- Assumes nothing.
 use mathlib.Core.Path.{refl, sym}
 use borrow.Author.Tests.{le-leb, lt-leb, eq-eqb, ne-eqb}
-use Rattle.scope.specs.Semaphores.{isTimeOut}
+use Rattle.scope.specs.Waiting.{isTimeOut}
 use Rattle.laws.proofs.Branches.{pick-yes, pick-no, first-fails, second-decides}
 use Rattle.times.proofs.is_time_out.Statement.{statement}
 use Rattle.times.proofs.is_time_out.Tie as tie
