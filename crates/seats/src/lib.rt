@@ -144,9 +144,9 @@ fn is_taken(q: [u16; 32], x: u16) -> bool
     taken
 }
 
-// The first waiter of semaphore `i`; 32 if there is none, which is most often so.
+// The first waiter of object `i`; 32 if there is none, which is most often so.
 pub fn first_waiter(q: [u16; 32], i: usize) -> usize
-    requires { ⌜ i < 16 ⌝ }
+    requires { ⌜ i < 31 ⌝ }
     ensures { λ r. ⌜ r ≡ firstOf q (queueSeats i) ⌝ }
 {
     let x = (i * 64 + 65) as u16;
@@ -168,9 +168,9 @@ fn one_in(y: u16, base: u16, end: u16) -> usize
     0
 }
 
-// How many tasks wait for semaphore `i`.
+// How many tasks wait for object `i`.
 pub fn waiters(q: [u16; 32], i: usize) -> usize
-    requires { ⌜ i < 16 ⌝ }
+    requires { ⌜ i < 31 ⌝ }
     ensures { λ r. ⌜ r ≡ standing q (queueSeats i) ⌝ }
 {
     let base = (i * 64 + 64) as u16;

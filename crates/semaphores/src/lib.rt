@@ -5,19 +5,17 @@ use answers::Outcome;
 use scope::Found;
 ghost use mathlib.Core.Path.{_≡_};
 ghost use mathlib.Core.Bool.{Bool, true, false, not, _&&_};
-ghost use Prim.Native.Nat.{ℕ, _+_, _<_, _≤_};
+ghost use Prim.Native.Nat.{ℕ, _<_};
 ghost use mathlib.Core.List.{List};
 ghost use lib.ListN.{getD, length};
 ghost use lib.Dec.{eqb};
 ghost use Rattle.scope.specs.declared.State.{State};
-ghost use Rattle.scope.specs.declared.Tasks.{Tasks};
 ghost use Rattle.scope.specs.Answers.{noWakes};
-ghost use Rattle.scope.specs.Waiting.{wokenSeats, wake, wakeNext, noneWoken, wakeAll, isTimeOut, queueKey, waits};
-ghost use Rattle.scope.specs.Semaphores.{semCreateAt, semCreate, semDeleteAt, semDelete, semIdentAt};
-ghost use Rattle.scope.specs.Semaphores.{semIdent, semWaitAt, semClaimAt, semClaim, semReleaseAt, semRelease, semInfoAt};
-ghost use Rattle.scope.specs.Semaphores.{semInfo};
+ghost use Rattle.scope.specs.Waiting.{isTimeOut};
+ghost use Rattle.scope.specs.Semaphores.{semCreateAt, semCreate, semDeleteAt, semDelete, semIdentAt, semIdent, semWaitAt, semClaimAt, semClaim};
+ghost use Rattle.scope.specs.Semaphores.{semReleaseAt, semRelease, semInfoAt, semInfo};
 ghost use Rattle.answers.specs.Outcomes.{answerOf};
-ghost use Rattle.answers.specs.Columns.{lineOf, wakers, wakingOf, lentSemaphores};
+ghost use Rattle.answers.specs.Columns.{lentSemaphores};
 
 fn create_at(
     name: &mut [u32; 16],
@@ -92,70 +90,6 @@ pub fn sem_create(
     )
 }
 
-// Where the tasks stand once task `t` is woken: "it becomes ready when it neither waits nor is suspended".
-fn woken_seats(q: [u16; 32], joined: [u8; 32], suspended: bool, priority: u8, t: usize) -> [u16; 32]
-    requires { ⌜ t < 32 ⌝ }
-    ensures { λ r. ⌜ ((left : List ℕ) → r ≡ wokenSeats (lineOf left q joined) suspended priority t) ⌝ }
-{
-    let r = seats::leave(q, t);
-    if suspended {
-        return r;
-    }
-    seats::make_ready(r, joined, t, priority)
-}
-
-// Task `t` leaves its queue and waits no longer, and is the next of the wake list.
-pub fn wake_next(
-    left: &mut [u32; 32],
-    seat: &mut [u16; 32],
-    joined: &mut [u8; 32],
-    serial: &[u16; 32],
-    suspended: &[bool; 32],
-    priority: &[u8; 32],
-    wakes: &mut [u32; 32],
-    woken: usize,
-    t: usize,
-)
-    requires { ⌜ (t < 32) × (woken < 32) ⌝ }
-    ensures { λ r. ⌜ ((k : Tasks) → wakingOf (now (left .exit)) (now (seat .exit)) (now (joined .exit))
-        (now (wakes .exit)) (woken + 1) ≡ wakeNext (wakers k (now (serial .entry)) (now (suspended .entry))
-        (now (priority .entry))) (wakingOf (now (left .entry)) (now (seat .entry)) (now (joined .entry)) (now (wakes .entry)) woken) t) ⌝ }
-{
-    *seat = woken_seats(*seat, *joined, suspended[t], priority[t], t);
-    left[t] = 0;
-    joined[t] = 0;
-    let id = tables::identifier(serial[t], t);
-    wakes[woken] = id;
-}
-
-// "Delete wakes all waiters in queue order": the first, while there is one. Answers how many were woken.
-fn wake_all(
-    left: &mut [u32; 32],
-    seat: &mut [u16; 32],
-    joined: &mut [u8; 32],
-    serial: &[u16; 32],
-    suspended: &[bool; 32],
-    priority: &[u8; 32],
-    wakes: &mut [u32; 32],
-    i: usize,
-) -> usize
-    requires { ⌜ i < 16 ⌝ }
-    ensures { λ r. ⌜ ((k : Tasks) → wakingOf (now (left .exit)) (now (seat .exit)) (now (joined .exit)) (now (wakes .exit)) r
-        ≡ wakeAll (wakers k (now (serial .entry)) (now (suspended .entry)) (now (priority .entry))) i 32 (wakingOf (now (left .entry))
-        (now (seat .entry)) (now (joined .entry)) (now (wakes .entry)) 0)) ⌝ }
-{
-    let mut n: usize = 0;
-    while n < 32 {
-        let t = seats::first_waiter(*seat, i);
-        if 32 <= t {
-            return n;
-        }
-        wake_next(left, seat, joined, serial, suspended, priority, wakes, n, t);
-        n += 1;
-    }
-    n
-}
-
 fn delete_at(
     left: &mut [u32; 32],
     seat: &mut [u16; 32],
@@ -179,7 +113,7 @@ fn delete_at(
         (now (suspended .entry)) (now (priority .entry)) (now (name .entry)) serial (now (units .entry)) (now (live .entry))
         (now (fifo .entry)) running) i) ⌝ }
 {
-    let woken = wake_all(left, seat, joined, waker, suspended, priority, wakes, i);
+    let woken = waiting::wake_all(left, seat, joined, waker, suspended, priority, wakes, i);
     name[i] = 0;
     units[i] = 0;
     live[i] = false;
@@ -252,41 +186,6 @@ pub fn sem_ident<'a>(
     answers::gives(tables::identifier(serial[i], i), running)
 }
 
-// Whom a task stands behind: "FIFO queues grow at the end. Others are by priority at the moment of joining".
-fn queue_key(fifo: bool, priority: u8) -> u8
-    ensures { λ r. ⌜ r ≡ queueKey fifo priority ⌝ }
-{
-    if fifo {
-        return 0;
-    }
-    priority
-}
-
-// Task `t` leaves the ready order and joins the queue of semaphore `i`.
-fn wait(
-    left: &mut [u32; 32],
-    seat: &mut [u16; 32],
-    joined: &mut [u8; 32],
-    i: usize,
-    fifo: bool,
-    priority: u8,
-    ticks: u32,
-    t: usize,
-)
-    requires { ⌜ (i < 16) × (t < 32) ⌝ }
-    ensures { λ r. ⌜ lineOf (now (left .exit)) (now (seat .exit)) (now (joined .exit)) ≡ waits (lineOf (now (left .entry))
-        (now (seat .entry)) (now (joined .entry))) i fifo priority ticks t ⌝ }
-{
-    let q = *seat;
-    let keys = *joined;
-    let r = seats::leave(q, t);
-    let base = (i * 64 + 64) as u16;
-    let key = queue_key(fifo, priority);
-    *seat = seats::join(r, keys, t, base, key);
-    left[t] = ticks;
-    joined[t] = priority;
-}
-
 // Whether a claim that may wait asks for no time_out there is. "With NOWAIT it is not looked at."
 fn lacks_time_out(options: u32, ticks: u32) -> bool
     ensures { λ r. ⌜ r ≡ (eqb options 0 && not (isTimeOut ticks)) ⌝ }
@@ -317,7 +216,7 @@ fn wait_at(
     if 32 <= running {
         return answers::plain(scope::NO_CALLER, running);
     }
-    wait(
+    waiting::wait(
         left,
         seat,
         joined,
@@ -429,7 +328,7 @@ fn release_at(
 {
     let t = seats::first_waiter(*seat, i);
     if t < 32 {
-        wake_next(left, seat, joined, waker, suspended, priority, wakes, 0, t);
+        waiting::wake_next(left, seat, joined, waker, suspended, priority, wakes, 0, t);
         return answers::woke(1, scope::OK, seats::runner(*seat));
     }
     let free = units[i];

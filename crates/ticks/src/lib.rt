@@ -73,7 +73,7 @@ fn wake_if_due(
         (now (wakes .entry)) woken)) ⌝ }
 {
     if is_due(seat[t], left[t]) {
-        semaphores::wake_next(
+        waiting::wake_next(
             left,
             seat,
             joined,

@@ -1,10 +1,10 @@
--- `semaphores::woken_seats`: it leaves its queue, and becomes ready unless suspended.
+-- `waiting::woken_seats`: it leaves its queue, and becomes ready unless suspended.
 -- Assumes nothing.
 use borrow.Author.Needs.{needs}
 use Rattle.laws.proofs.Branches.{pick-yes, pick-no}
 use Rattle.scope.specs.Waiting.{wokenSeats}
-use Rattle.semaphores.proofs.woken_seats.Statement.{statement}
-use Rattle.semaphores.proofs.woken_seats.Tie as tie
+use Rattle.waiting.proofs.woken_seats.Statement.{statement}
+use Rattle.waiting.proofs.woken_seats.Tie as tie
 
 leave-requires : tie.Need-leave-requires
 leave-requires c κs = search needs

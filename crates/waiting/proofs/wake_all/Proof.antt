@@ -1,4 +1,4 @@
--- `semaphores::wake_all`: each turn wakes the first waiter, and waking at most 32 - n more of them gives what waking all gives.
+-- `waiting::wake_all`: each turn wakes the first waiter, and waking at most 32 - n more of them gives what waking all gives.
 -- Assumes nothing.
 use Prim.Native.Nat.{_-_, _≤_}
 use mathlib.Core.Path.{_≡_, refl, _∙_}
@@ -6,9 +6,9 @@ use borrow.Author.Needs.{needs}
 use Rattle.answers.specs.Columns.{wakers, wakingOf}
 use Rattle.scope.specs.Waiting.{wakeAll}
 use Rattle.scope.specs.declared.Tasks.{Tasks}
-use Rattle.semaphores.proofs.Laws.{wake-all-more, wake-all-none, wake-all-done}
-use Rattle.semaphores.proofs.wake_all.Statement.{statement}
-use Rattle.semaphores.proofs.wake_all.Tie as tie
+use Rattle.waiting.proofs.Laws.{wake-all-more, wake-all-none, wake-all-done}
+use Rattle.waiting.proofs.wake_all.Statement.{statement}
+use Rattle.waiting.proofs.wake_all.Tie as tie
 
 abbrev Inv-loop : tie.InvT-loop
 Inv-loop left₀ seat₀ joined₀ serial suspended priority wakes₀ i n₀ left seat joined wakes n =

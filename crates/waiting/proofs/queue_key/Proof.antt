@@ -1,10 +1,10 @@
--- `semaphores::queue_key`: a FIFO queue asks for no priority.
+-- `waiting::queue_key`: a FIFO queue asks for no priority.
 -- Assumes nothing.
 use mathlib.Core.Path.{refl}
 use Rattle.scope.specs.Waiting.{queueKey}
 use Rattle.laws.proofs.Branches.{pick-yes, pick-no}
-use Rattle.semaphores.proofs.queue_key.Statement.{statement}
-use Rattle.semaphores.proofs.queue_key.Tie as tie
+use Rattle.waiting.proofs.queue_key.Statement.{statement}
+use Rattle.waiting.proofs.queue_key.Tie as tie
 
 returns : tie.Need-returns
 unfolding queueKey

@@ -1,10 +1,10 @@
--- `semaphores::wake_next`: it stands elsewhere, waits no longer, and is put at the end of the wake list.
+-- `waiting::wake_next`: it stands elsewhere, waits no longer, and is put at the end of the wake list.
 -- Assumes nothing.
 use denote.Ref.{now}
 use borrow.Author.Needs.{needs}
 use Rattle.scope.specs.Waiting.{wakeNext, wake}
-use Rattle.semaphores.proofs.wake_next.Statement.{statement}
-use Rattle.semaphores.proofs.wake_next.Tie as tie
+use Rattle.waiting.proofs.wake_next.Statement.{statement}
+use Rattle.waiting.proofs.wake_next.Tie as tie
 
 element-copy-out-woken-seats : tie.Need-element-copy-out-woken-seats
 element-copy-out-woken-seats c = search needs

@@ -1,0 +1,107 @@
+// Waiting and waking, for whatever tasks wait for: a task joins the queue of an object, and leaves it from whatever place.
+// An object is a number below 31: 0 to 15 are the semaphores. (scope's specs/Waiting.antt.)
+ghost use mathlib.Core.Path.{_≡_};
+ghost use Prim.Native.Nat.{ℕ, _+_, _<_};
+ghost use mathlib.Core.List.{List};
+ghost use Rattle.scope.specs.declared.Tasks.{Tasks};
+ghost use Rattle.scope.specs.Waiting.{queueKey, waits, wokenSeats, wakeNext, wakeAll};
+ghost use Rattle.answers.specs.Columns.{lineOf, wakers, wakingOf};
+
+// Whom a task stands behind: "FIFO queues grow at the end. Others are by priority at the moment of joining".
+fn queue_key(fifo: bool, priority: u8) -> u8
+    ensures { λ r. ⌜ r ≡ queueKey fifo priority ⌝ }
+{
+    if fifo {
+        return 0;
+    }
+    priority
+}
+
+// Task `t` leaves the ready order and joins the queue of object `i`.
+pub fn wait(
+    left: &mut [u32; 32],
+    seat: &mut [u16; 32],
+    joined: &mut [u8; 32],
+    i: usize,
+    fifo: bool,
+    priority: u8,
+    ticks: u32,
+    t: usize,
+)
+    requires { ⌜ (i < 31) × (t < 32) ⌝ }
+    ensures { λ r. ⌜ lineOf (now (left .exit)) (now (seat .exit)) (now (joined .exit)) ≡ waits (lineOf (now (left .entry))
+        (now (seat .entry)) (now (joined .entry))) i fifo priority ticks t ⌝ }
+{
+    let q = *seat;
+    let keys = *joined;
+    let r = seats::leave(q, t);
+    let base = (i * 64 + 64) as u16;
+    let key = queue_key(fifo, priority);
+    *seat = seats::join(r, keys, t, base, key);
+    left[t] = ticks;
+    joined[t] = priority;
+}
+
+// Where the tasks stand once task `t` is woken: "it becomes ready when it neither waits nor is suspended".
+fn woken_seats(q: [u16; 32], joined: [u8; 32], suspended: bool, priority: u8, t: usize) -> [u16; 32]
+    requires { ⌜ t < 32 ⌝ }
+    ensures { λ r. ⌜ ((left : List ℕ) → r ≡ wokenSeats (lineOf left q joined) suspended priority t) ⌝ }
+{
+    let r = seats::leave(q, t);
+    if suspended {
+        return r;
+    }
+    seats::make_ready(r, joined, t, priority)
+}
+
+// Task `t` leaves its queue and waits no longer, and is the next of the wake list.
+pub fn wake_next(
+    left: &mut [u32; 32],
+    seat: &mut [u16; 32],
+    joined: &mut [u8; 32],
+    serial: &[u16; 32],
+    suspended: &[bool; 32],
+    priority: &[u8; 32],
+    wakes: &mut [u32; 32],
+    woken: usize,
+    t: usize,
+)
+    requires { ⌜ (t < 32) × (woken < 32) ⌝ }
+    ensures { λ r. ⌜ ((k : Tasks) → wakingOf (now (left .exit)) (now (seat .exit)) (now (joined .exit))
+        (now (wakes .exit)) (woken + 1) ≡ wakeNext (wakers k (now (serial .entry)) (now (suspended .entry))
+        (now (priority .entry))) (wakingOf (now (left .entry)) (now (seat .entry)) (now (joined .entry)) (now (wakes .entry)) woken) t) ⌝ }
+{
+    *seat = woken_seats(*seat, *joined, suspended[t], priority[t], t);
+    left[t] = 0;
+    joined[t] = 0;
+    let id = tables::identifier(serial[t], t);
+    wakes[woken] = id;
+}
+
+// "Delete wakes all waiters in queue order": the first, while there is one. Answers how many were woken.
+pub fn wake_all(
+    left: &mut [u32; 32],
+    seat: &mut [u16; 32],
+    joined: &mut [u8; 32],
+    serial: &[u16; 32],
+    suspended: &[bool; 32],
+    priority: &[u8; 32],
+    wakes: &mut [u32; 32],
+    i: usize,
+) -> usize
+    requires { ⌜ i < 31 ⌝ }
+    ensures { λ r. ⌜ ((k : Tasks) → wakingOf (now (left .exit)) (now (seat .exit)) (now (joined .exit)) (now (wakes .exit)) r
+        ≡ wakeAll (wakers k (now (serial .entry)) (now (suspended .entry)) (now (priority .entry))) i 32 (wakingOf (now (left .entry))
+        (now (seat .entry)) (now (joined .entry)) (now (wakes .entry)) 0)) ⌝ }
+{
+    let mut n: usize = 0;
+    while n < 32 {
+        let t = seats::first_waiter(*seat, i);
+        if 32 <= t {
+            return n;
+        }
+        wake_next(left, seat, joined, serial, suspended, priority, wakes, n, t);
+        n += 1;
+    }
+    n
+}
