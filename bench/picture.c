@@ -90,7 +90,7 @@ static void leave_queue(struct picture *p, int task)
 static void tick(struct picture *p, const uint32_t *arg)
 {
     (void)arg;
-    for (uint32_t m = p->waiting & ~p->suspended; m != 0; m &= m - 1) {
+    for (uint32_t m = p->waiting; m != 0; m &= m - 1) {
         int task = lowest(m);
 
         if (p->left[task] == TOP || --p->left[task] != 0)

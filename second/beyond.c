@@ -61,7 +61,8 @@ DAMAGE(semaphore_past_the_table, k->semaphore_table.live |= 1u << 16)
 DAMAGE(slot_not_marked_usable, k->task_table.usable &= ~(1u << 31))
 DAMAGE(live_slot_marked_usable, k->pool_table.usable |= 1)
 DAMAGE(time_out_stands_still, k->running_time_outs = 0)
-DAMAGE(suspended_time_out_runs, k->running_time_outs |= 4)
+DAMAGE(suspended_time_out_stands_still, k->running_time_outs &= ~4u)
+DAMAGE(ready_task_time_out_runs, k->running_time_outs |= 1)
 DAMAGE(ready_priority_not_marked, k->ready_priorities = 0)
 
 static void (*const damages[])(struct kernel *) = {
@@ -80,7 +81,8 @@ static void (*const damages[])(struct kernel *) = {
     mark_past_the_number, pool_of_length_0, pool_of_size_0,
     pool_of_65_buffers, pool_past_the_end, pool_of_another_number,
     pools_share_a_byte, semaphore_past_the_table, slot_not_marked_usable,
-    live_slot_marked_usable, time_out_stands_still, suspended_time_out_runs,
+    live_slot_marked_usable, time_out_stands_still,
+    suspended_time_out_stands_still, ready_task_time_out_runs,
     ready_priority_not_marked,
 };
 

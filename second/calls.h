@@ -51,10 +51,10 @@ void queue_leave_ungranted(struct kernel *k, uint32_t slot);
 void wake(struct kernel *k, uint32_t slot, enum status status,
           struct answer *a);
 
-/* A time_out runs while its task waits, is not suspended, and not FOREVER. */
+/* A time_out runs while its task waits, suspended or not, if not FOREVER. */
 static inline bool time_out_runs(const struct task *t)
 {
-    return t->waiting && !t->suspended && t->time_out != FOREVER;
+    return t->waiting && t->time_out != FOREVER;
 }
 
 /* The tests 3 and 14 of pool_create; the rules of a state ask them too. */

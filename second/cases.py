@@ -372,12 +372,37 @@ case("suspended-waiter-time-out", 1, """
     task_create 1 5 -> 0 65
     task_start 65 -> 0; runs 65
     sem_claim 64 0 2 -> 1; runs 64
-    tick -> 0
+    task_suspend 65 -> 0
+    tick -> 0; runs 64
+    sem_info 64 -> 0 0 -1 1
+    tick -> 0; runs 64; wakes 65:13            # the second tick ends it
+    sem_info 64 -> 0 0 0 0                     # it gave its one back
+    9 * tick -> 0; runs 64
+    task_suspend 65 -> 22
+    task_resume 65 -> 0; runs 65
+    sem_claim 64 0 FOREVER -> 1; runs 64
     task_suspend 65 -> 0
     9 * tick -> 0; runs 64
     sem_info 64 -> 0 0 -1 1
+""")
+
+case("suspended-and-resumed-time-out", 1, """
+    sem_create 7 0 0 -> 0 64
+    task_create 1 5 -> 0 65
+    task_create 2 6 -> 0 66
+    task_start 65 -> 0; runs 65
+    sem_claim 64 0 4 -> 1; runs 64
+    task_start 66 -> 0; runs 66
+    sem_claim 64 0 4 -> 1; runs 64
+    tick -> 0
+    task_suspend 65 -> 0
+    tick -> 0
     task_resume 65 -> 0; runs 64
-    tick -> 0; runs 65; wakes 65:13
+    tick -> 0
+    task_suspend 65 -> 0
+    tick -> 0; runs 66; wakes 65:13 66:13      # both at the fourth tick
+    sem_info 64 -> 0 0 0 0; runs 66
+    task_resume 65 -> 0; runs 66
 """)
 
 case("fifo-queue", 1, """
@@ -464,7 +489,7 @@ case("thirty-two-waiters", 15, """
               for slot in range(1, 32)) + """
     31 * sem_claim 64 0 FOREVER -> 1
     sem_info 64 -> 0 0 -31 31; runs 95
-    sem_claim 64 0 2 -> 1; runs 0
+    sem_claim 64 0 3 -> 1; runs 0
     sem_info 64 -> 24; runs 0
     mark 1 sem_release 64 -> 0; runs 64; wakes 64:0
     sem_info 64 -> 0 0 -31 31

@@ -114,8 +114,7 @@ class Model:
 
     def call_0(self, args):
         for task in self.tasks.live():
-            if task["waits_on"] is None or task["suspended"] \
-                    or task["time_out"] == FOREVER:
+            if task["waits_on"] is None or task["time_out"] == FOREVER:
                 continue
             task["time_out"] -= 1
             if task["time_out"] == 0:

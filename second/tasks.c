@@ -91,7 +91,6 @@ enum status task_suspend(struct kernel *k, const uint32_t *arg,
     if (!k->task[slot].waiting)
         ready_leave(k, slot);
     k->task[slot].suspended = 1;
-    k->running_time_outs &= ~slot_bit(slot);
     return OK;
 }
 
@@ -111,8 +110,6 @@ enum status task_resume(struct kernel *k, const uint32_t *arg,
     k->task[slot].suspended = 0;
     if (!k->task[slot].waiting)
         ready_enter(k, slot);
-    else if (time_out_runs(&k->task[slot]))
-        k->running_time_outs |= slot_bit(slot);
     return OK;
 }
 

@@ -2,8 +2,8 @@
  * Ticks: call 0.
  *
  * "A tick takes one from each running time_out. Those reaching 0 are woken
- * with 13 in ascending slot order, so a time_out of n ends at the n-th tick
- * that finds the task not suspended."
+ * with 13 in ascending slot order". "A time_out runs on during suspension. ...
+ * A time_out of n always ends at the n-th tick."
  */
 #include "calls.h"
 #include "identifiers.h"
