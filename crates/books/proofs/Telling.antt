@@ -107,9 +107,9 @@ module _ (s : State) (ok : Sound s) (x : Event) where
   tick-steps at =
       call-steps s x (tick s) refl refl 0 at refl refl refl refl refl
       (record { serial = refl; live = refl; priority = refl }) (record { serial = refl; live = refl; fifo = refl })
-      (moves-woke s ok s (ticked l k) (wakeDue k 32 0 (noneWoken (ticked l k))) TIME-OUT refl
-      (fewer-then l (ticked l k) _ (ticked-fewer l k) (due-fewer k 32 0 (noneWoken (ticked l k)) (omega arith) whole))
-      (due-woke k (ticked l k) 32 0 (noneWoken (ticked l k)) (omega arith) (omega arith) (none-woke k (ticked l k) whole)))
+      (moves-woke s ok s (ticked l) (wakeDue k 32 0 (noneWoken (ticked l))) TIME-OUT refl
+      (fewer-then l (ticked l) _ (ticked-fewer l) (due-fewer k 32 0 (noneWoken (ticked l)) (omega arith) whole))
+      (due-woke k (ticked l) 32 0 (noneWoken (ticked l)) (omega arith) (omega arith) (none-woke k (ticked l) whole)))
 
   -- the task calls
   task-create-at : x .call ≡ 1 → (t : ℕ) → t < 32 → getD (k .live) t false ≡ false

@@ -181,5 +181,5 @@ due-fewer k (suc n) t w h good = go (λ v g. due-fewer k n (suc t) v (omega arit
     go rec false = rec w good
 
 -- a tick takes from the time_outs only
-pub ticked-fewer : (l : Line) (k : Tasks) → Fewer l (ticked l k)
-ticked-fewer l k = record { seats = stays-same (l .seat); joined = λ o a b t h. refl }
+pub ticked-fewer : (l : Line) → Fewer l (ticked l)
+ticked-fewer l = record { seats = stays-same (l .seat); joined = λ o a b t h. refl }

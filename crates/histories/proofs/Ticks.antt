@@ -6,8 +6,8 @@ use native.Mathlib.Omega.{arith}
 use mathlib.Core.Path.{_≡_, refl, sym, subst, ap, _∙_}
 use mathlib.Core.Logic.{_⊎_, inl, inr, ⊎-elim}
 use mathlib.Core.Bool.{Bool, true, false}
-use mathlib.Core.List.{List, [], _∷_}
-use lib.ListN.{length, getD, set, length-set}
+use mathlib.Core.List.{List}
+use lib.ListN.{length, getD, set, length-set, length-map}
 use lib.Seq.{getD-set-same, getD-set-other}
 use lib.Dec.{leb, eqb}
 use borrow.Author.Tests.{le-leb, leb-true, eq-eqb, ne-eqb}
@@ -20,6 +20,7 @@ use Rattle.scope.specs.Choice.{pick}
 use Rattle.scope.specs.Answers.{wakesWith}
 use Rattle.scope.specs.Waiting.{FOREVER, isTimeOut, wokenSeats, wake, wakeNext, noneWoken}
 use Rattle.scope.specs.Ticks.{timeLeft, timesLeft, ticked, isDue, wakeDue, tick}
+use Rattle.scope.proofs.Times.{every-time-out}
 use Rattle.laws.proofs.Branches.{lt-or-le, eq-or-not, picked-yes, picked-no, both, both-true, true-false}
 use Rattle.histories.specs.Sound.{Waits, LineSound, Sound}
 use Rattle.histories.proofs.Moves.{wake-sound, waits-on, on-waits}
@@ -30,7 +31,7 @@ time-out : (x : ℕ) → 1 ≤ x → x ≤ 65535 → isTimeOut x ≡ true
 unfolding isTimeOut
 time-out x a b = picked-no _ _ _ (ne-eqb x FOREVER (λ e. omega arith)) ∙ both _ _ (le-leb 1 x a) (le-leb x 65535 b)
 
-time-out-says : (x : ℕ) → isTimeOut x ≡ true → (x ≡ FOREVER) ⊎ ((1 ≤ x) × (x ≤ 65535))
+pub time-out-says : (x : ℕ) → isTimeOut x ≡ true → (x ≡ FOREVER) ⊎ ((1 ≤ x) × (x ≤ 65535))
 unfolding isTimeOut
 time-out-says x e =
     ⊎-elim inl
@@ -38,37 +39,25 @@ time-out-says x e =
     inr (leb-true 1 x (p .0), leb-true x 65535 (p .1)))
     (eq-or-not x FOREVER)
 
-never-zero : (x : ℕ) → isTimeOut x ≡ true → x ≡ 0 → ⊥
+pub never-zero : (x : ℕ) → isTimeOut x ≡ true → x ≡ 0 → ⊥
 never-zero x e z = ⊎-elim (λ f. omega arith) (λ f. omega arith) (time-out-says x e)
 
-left-zero : (b : Bool) (x : ℕ) → x ≡ 0 → timeLeft b x ≡ 0
-unfolding timeLeft pick
-left-zero true x z = z
-left-zero false x z = picked-no _ _ _ (ne-eqb x FOREVER (λ e. omega arith)) ∙ omega arith
+left-zero : (x : ℕ) → x ≡ 0 → timeLeft x ≡ 0
+unfolding timeLeft
+left-zero x z = picked-no _ _ _ (ne-eqb x FOREVER (λ e. omega arith)) ∙ omega arith
 
-left-runs : (b : Bool) (x : ℕ) → isTimeOut x ≡ true → (isTimeOut (timeLeft b x) ≡ true) ⊎ (timeLeft b x ≡ 0)
-unfolding timeLeft pick
-left-runs true x e = inl e
-left-runs false x e =
+left-runs : (x : ℕ) → isTimeOut x ≡ true → (isTimeOut (timeLeft x) ≡ true) ⊎ (timeLeft x ≡ 0)
+unfolding timeLeft
+left-runs x e =
     ⊎-elim
     (λ f. inl (ap isTimeOut (picked-yes _ _ _ (eq-eqb x FOREVER f)) ∙ e))
     (λ f. let d : pick (eqb x FOREVER) x (x - 1) ≡ x - 1 = picked-no _ _ _ (ne-eqb x FOREVER (λ g. omega arith)) in
     ⊎-elim (λ h. inl (ap isTimeOut d ∙ time-out (x - 1) (omega arith) (omega arith))) (λ h. inr (d ∙ omega arith)) (lt-or-le 1 x))
     (time-out-says x e)
 
-length-times : (b : List Bool) (x : List ℕ) → length (timesLeft b x) ≡ length x
+length-times : (x : List ℕ) → length (timesLeft x) ≡ length x
 unfolding timesLeft
-length-times [] x = refl
-length-times (c ∷ b) [] = refl
-length-times (c ∷ b) (y ∷ x) = ap suc (length-times b x)
-
-times-at : (b : List Bool) (x : List ℕ) (u : ℕ) → length x ≡ length b → getD (timesLeft b x) u 0 ≡ timeLeft (getD b u false) (getD x u 0)
-unfolding timesLeft
-times-at [] [] u e = sym (left-zero false 0 refl)
-times-at [] (y ∷ x) u e = absurd (omega arith)
-times-at (c ∷ b) [] u e = absurd (omega arith)
-times-at (c ∷ b) (y ∷ x) zero e = refl
-times-at (c ∷ b) (y ∷ x) (suc u) e = times-at b x u (omega arith)
+length-times x = length-map x timeLeft
 
 -- the line with other time_outs
 abbrev withLeft : Line → List ℕ → Line
@@ -80,16 +69,15 @@ record Passed (g left : List ℕ) (t : ℕ) : Type 0 where
   none : (u : ℕ) → getD g u 0 ≡ 0 → getD left u 0 ≡ 0
   some : (u : ℕ) → isTimeOut (getD g u 0) ≡ true → (isTimeOut (getD left u 0) ≡ true) ⊎ ((getD left u 0 ≡ 0) × (t ≤ u))
 
-passed-start : (b : List Bool) (x : List ℕ) → length b ≡ 32 → length x ≡ 32 → Passed x (timesLeft b x) 0
-passed-start b x lb lx =
-    let e : length x ≡ length b = lx ∙ sym lb in
+passed-start : (x : List ℕ) → length x ≡ 32 → Passed x (timesLeft x) 0
+passed-start x long =
     record {
-      size = length-times b x ∙ lx;
-      none = λ u z. times-at b x u e ∙ left-zero (getD b u false) (getD x u 0) z;
+      size = length-times x ∙ long;
+      none = λ u z. every-time-out x u ∙ left-zero (getD x u 0) z;
       some = λ u f. ⊎-elim
-          (λ p. inl (ap isTimeOut (times-at b x u e) ∙ p))
-          (λ p. inr (times-at b x u e ∙ p, omega arith))
-          (left-runs (getD b u false) (getD x u 0) f);
+          (λ p. inl (ap isTimeOut (every-time-out x u) ∙ p))
+          (λ p. inr (every-time-out x u ∙ p, omega arith))
+          (left-runs (getD x u 0) f);
     }
 
 module _ (g left : List ℕ) (t : ℕ) (passed : Passed g left t) where
@@ -204,5 +192,5 @@ pub tick-sound : (s : State) → Sound s → Sound (tick s .state)
 unfolding tick wakesWith
 tick-sound s ok =
     line-sound s ok _
-    (due-sound (s .tasks) (s .semaphores) 32 0 (noneWoken (ticked (s .line) (s .tasks))) (s .line .left) refl (ok .line)
-    (passed-start (s .tasks .suspended) (s .line .left) (ok .tasks .suspendeds) (ok .line .lefts)))
+    (due-sound (s .tasks) (s .semaphores) 32 0 (noneWoken (ticked (s .line))) (s .line .left) refl (ok .line)
+    (passed-start (s .line .left) (ok .line .lefts)))

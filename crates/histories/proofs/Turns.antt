@@ -180,7 +180,7 @@ module _ (s : State) (ok : Sound s) where
         (dead-nobody (semDeleteAt s i .state) (sem-delete-at s ok i hi (found-live (m .serial) (m .live) (x .a) e)) i hi
         (getD-set-same (m .live) i false false (omega (arith, ok .semaphores .lives)))))
     deed-goes (time-passes at) =
-        passes refl (moved (fewer-then l (ticked l k) _ (ticked-fewer l k) (due-fewer k 32 0 (noneWoken (ticked l k)) (omega arith) good)))
+        passes refl (moved (fewer-then l (ticked l) _ (ticked-fewer l) (due-fewer k 32 0 (noneWoken (ticked l)) (omega arith) good)))
 
 -- each step
 pub step-goes : (s : State) → Sound s → (call mark a b c d e : ℕ) → Goes s (stepped s call mark a b c d e)

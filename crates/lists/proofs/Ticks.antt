@@ -171,11 +171,11 @@ module _ (k : Tasks) (tasks : TasksSound k) (why : ℕ) (due : ℕ → Bool) whe
 
 module _ (s : State) (ok : Sound s) where
   abbrev start : Waking
-  start = noneWoken (ticked (s .line) (s .tasks))
+  start = noneWoken (ticked (s .line))
 
   ticks : Timed (s .tasks) TIME-OUT (dueIn s) start (wakeDue (s .tasks) 32 0 start)
   ticks =
-      timed (s .tasks) (ok .tasks) TIME-OUT (isDue (ticked (s .line) (s .tasks))) 32 0 start refl
+      timed (s .tasks) (ok .tasks) TIME-OUT (isDue (ticked (s .line))) 32 0 start refl
       (good-line (s .line) (s .tasks) (s .semaphores) (ok .line)) (own-line (s .line) (s .tasks) (s .semaphores) (ok .line))
       (λ u h. refl) (length-replicate {A = ℕ} 32 0) (omega arith)
 

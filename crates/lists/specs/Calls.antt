@@ -53,7 +53,7 @@ slotsFrom (suc n) t = t ∷ slotsFrom n (suc t)
 
 -- the tasks whose time_out a tick brings to 0, "in ascending slot order"
 abbrev pub dueIn : State → List ℕ
-dueIn s = keep (isDue (ticked (s .line) (s .tasks))) (slotsFrom 32 0)
+dueIn s = keep (isDue (ticked (s .line))) (slotsFrom 32 0)
 
 -- a list without each of these
 abbrev pub withoutAll : List ℕ → List ℕ → List ℕ

@@ -4,6 +4,7 @@ pub mod Rows
 pub mod Seats
 pub mod Waiters
 pub mod Slots
+pub mod Times
 pub mod Grants
 pub mod Marks
 pub mod Buffers

@@ -74,7 +74,7 @@ all k (suc n) t w h p =
 pub woken-in-slot-order : (s : State) (a b : ℕ) → a < b → b < tick s .woken → slotOf (getD (tick s .wakes) a 0) < slotOf (getD (tick s .wakes) b 0)
 unfolding tick wakesWith
 woken-in-slot-order s =
-    all (s .tasks) 32 0 (noneWoken (ticked (s .line) (s .tasks))) (omega arith) (record {
+    all (s .tasks) 32 0 (noneWoken (ticked (s .line))) (omega arith) (record {
       size = refl;
       few = omega arith;
       below = λ a l. absurd (omega arith);

@@ -1,9 +1,10 @@
--- "A tick takes one from each running time_out. Those reaching 0 are woken with 13 in ascending slot order, so a time_out of n
--- ends at the n-th tick that finds the task not suspended."
+-- "A tick takes one from each running time_out. Those reaching 0 are woken with 13 in ascending slot order". M-101: "a time_out runs
+-- on during suspension. A suspended waiter that reaches 0 leaves its queue with 13, gives its one back, appears among the wakes, and
+-- becomes ready when resumed. A time_out of n always ends at the n-th tick."
 -- Assumes nothing.
 use Prim.Native.Nat.{ℕ, zero, suc, _+_, _-_}
 use mathlib.Core.Bool.{Bool, true, false, _&&_}
-use mathlib.Core.List.{List, [], _∷_}
+use mathlib.Core.List.{List, map}
 use lib.ListN.{getD}
 use lib.Dec.{eqb}
 use Rattle.scope.specs.declared.State.{State}
@@ -17,18 +18,16 @@ use Rattle.scope.specs.Seats.{waitsOn}
 use Rattle.scope.specs.Waiting.{FOREVER, wakeNext, noneWoken}
 use Rattle.scope.specs.Answers.{wakesWith}
 
--- what a tick leaves of a time_out. "Its time_out stands still while it is suspended." A task that does not wait has 0 left.
-unfoldable pub timeLeft : Bool → ℕ → ℕ
-timeLeft suspended left = pick suspended left (pick (eqb left FOREVER) left (left - 1))
+-- what a tick leaves of a time_out, whether its task is suspended or not: FOREVER stays. A task that does not wait has 0 left.
+unfoldable pub timeLeft : ℕ → ℕ
+timeLeft left = pick (eqb left FOREVER) left (left - 1)
 
-unfoldable pub timesLeft : List Bool → List ℕ → List ℕ
-timesLeft [] left = left
-timesLeft (b ∷ suspended) [] = []
-timesLeft (b ∷ suspended) (x ∷ left) = timeLeft b x ∷ timesLeft suspended left
+unfoldable pub timesLeft : List ℕ → List ℕ
+timesLeft left = map timeLeft left
 
 -- one is taken from each running time_out
-abbrev pub ticked : Line → Tasks → Line
-ticked l k = record { left = timesLeft (k .suspended) (l .left); seat = l .seat; joined = l .joined }
+abbrev pub ticked : Line → Line
+ticked l = record { left = timesLeft (l .left); seat = l .seat; joined = l .joined }
 
 -- it waits, and nothing is left of its time_out
 unfoldable pub isDue : Line → ℕ → Bool
@@ -40,4 +39,4 @@ wakeDue k zero t w = w
 wakeDue k (suc n) t w = elim (isDue (w .line) t) [ true ↦ wakeDue k n (suc t) (wakeNext k w t) | false ↦ wakeDue k n (suc t) w ]
 
 unfoldable pub tick : State → Answer
-tick s = wakesWith s (wakeDue (s .tasks) 32 0 (noneWoken (ticked (s .line) (s .tasks)))) TIME-OUT
+tick s = wakesWith s (wakeDue (s .tasks) 32 0 (noneWoken (ticked (s .line)))) TIME-OUT

@@ -1,15 +1,14 @@
--- What the tick's loops lean on: each place of `timesLeft`, and one task more looked at by `wakeDue`.
+-- What the tick's loops lean on: every place of `timesLeft`, and one task more looked at by `wakeDue`.
 -- Assumes nothing.
 use Prim.Native.Nat.{ℕ, zero, suc, _+_, _-_, _≤_, _<_}
 use native.Mathlib.Omega.{arith}
-use native.Mathlib.Nat.{not-suc-le-zero}
 use native.Mathlib.Numerals.{add-one}
-use mathlib.Core.Path.{_≡_, refl, sym, ap, _∙_}
+use mathlib.Core.Path.{_≡_, refl, _∙_}
 use mathlib.Core.Bool.{Bool, true, false, _&&_, _||_}
-use mathlib.Core.List.{List, [], _∷_}
-use lib.ListN.{length, getD}
+use mathlib.Core.List.{List}
+use lib.ListN.{getD}
 use lib.Dec.{eqb}
-use Rattle.laws.proofs.Arrays.{Changing, changing-done}
+use Rattle.laws.proofs.Arrays.{Changing, mapping-done}
 use Rattle.laws.proofs.Branches.{picked-yes, picked-no}
 use Rattle.laws.proofs.Searches.{none-more}
 use Rattle.scope.specs.declared.Tasks.{Tasks}
@@ -21,28 +20,10 @@ use Rattle.scope.specs.Waiting.{wakeNext}
 use Rattle.scope.specs.Ticks.{timeLeft, timesLeft, isDue, wakeDue}
 use Rattle.answers.specs.Columns.{lineOf}
 
--- one time_out for each there was, by its task
-times-length : (suspended : List Bool) (left : List ℕ) → length (timesLeft suspended left) ≡ length left
+-- a loop that changes each time_out in its place makes `timesLeft`
+pub times-done : (left r : List ℕ) (k : ℕ) → 32 ≤ k → Changing 32 (λ j. timeLeft) left r k → r ≡ timesLeft left
 unfolding timesLeft
-times-length [] left = refl
-times-length (b ∷ suspended) [] = refl
-times-length (b ∷ suspended) (x ∷ left) = ap suc (times-length suspended left)
-
-times-at : (suspended : List Bool) (left : List ℕ) (j : ℕ) → j < length suspended → j < length left
-    → getD (timesLeft suspended left) j 0 ≡ timeLeft (getD suspended j false) (getD left j 0)
-unfolding timesLeft
-times-at [] left j h l = absurd (not-suc-le-zero h)
-times-at (b ∷ suspended) [] j h l = absurd (not-suc-le-zero l)
-times-at (b ∷ suspended) (x ∷ left) zero h l = refl
-times-at (b ∷ suspended) (x ∷ left) (suc j) h l = times-at suspended left j (omega arith) (omega arith)
-
--- so a loop that changes each time_out in its place makes `timesLeft`
-pub times-done : (suspended : List Bool) (left r : List ℕ) (k : ℕ) → length suspended ≡ 32 → 32 ≤ k
-    → Changing 32 (λ j. timeLeft (getD suspended j false)) left r k → r ≡ timesLeft suspended left
-times-done suspended left r k n h m =
-    let e : length left ≡ 32 = m .1 in
-    changing-done 32 (λ j. timeLeft (getD suspended j false)) left r (timesLeft suspended left) k h (times-length suspended left ∙ e)
-    (λ j l. times-at suspended left j (omega arith) (omega arith)) m
+times-done left r k h m = mapping-done 32 timeLeft left r k h m
 
 -- The tasks below t are looked at: no more are woken, and the rest of the work gives what the whole gives.
 abbrev pub Looked : Tasks → Waking → Waking → ℕ → Type 0

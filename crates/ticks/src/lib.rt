@@ -16,13 +16,13 @@ ghost use Rattle.answers.specs.Outcomes.{answerOf};
 ghost use Rattle.answers.specs.Columns.{lineOf, wakers, wakingOf, lentLine};
 
 // One is taken from each running time_out.
-fn times_left(suspended: [bool; 32], left: [u32; 32]) -> [u32; 32]
-    ensures { λ r. ⌜ r ≡ timesLeft suspended left ⌝ }
+fn times_left(left: [u32; 32]) -> [u32; 32]
+    ensures { λ r. ⌜ r ≡ timesLeft left ⌝ }
 {
     let mut r = left;
     let mut k: usize = 0;
     while k < 32 {
-        let x = times::time_left(suspended[k], r[k]);
+        let x = times::time_left(r[k]);
         r[k] = x;
         k += 1;
     }
@@ -140,7 +140,7 @@ pub fn tick(
         (now (priority .entry)) running)) ⌝ }
 {
     *wakes = [0; 32];
-    *left = times_left(*suspended, *left);
+    *left = times_left(*left);
     let woken = wake_due(left, seat, joined, serial, suspended, priority, wakes);
     answers::woke(woken, scope::TIME_OUT, seats::runner(*seat))
 }

@@ -17,13 +17,10 @@ pub fn is_time_out(ticks: u32) -> bool
     false
 }
 
-// What a tick leaves of a time_out. "Its time_out stands still while it is suspended."
-pub fn time_left(suspended: bool, left: u32) -> u32
-    ensures { λ r. ⌜ r ≡ timeLeft suspended left ⌝ }
+// What a tick leaves of a time_out: one less, but of FOREVER. "A time_out runs on during suspension."
+pub fn time_left(left: u32) -> u32
+    ensures { λ r. ⌜ r ≡ timeLeft left ⌝ }
 {
-    if suspended {
-        return left;
-    }
     if left == 4294967295 {
         return left;
     }

@@ -1,8 +1,6 @@
 -- `ticks::times_left`: the loop changes the array in place, each place by its task.
 -- Assumes nothing.
 use Prim.Native.Nat.{_-_}
-use mathlib.Core.Bool.{false}
-use lib.ListN.{getD}
 use borrow.Author.Needs.{needs}
 use Rattle.scope.specs.Ticks.{timeLeft}
 use Rattle.laws.proofs.Arrays.{Changing, changing-start, changing-more}
@@ -11,22 +9,19 @@ use Rattle.ticks.proofs.times_left.Statement.{statement}
 use Rattle.ticks.proofs.times_left.Tie as tie
 
 abbrev Inv-loop : tie.InvT-loop
-Inv-loop suspended r₀ k₀ r k = Changing 32 (λ j. timeLeft (getD suspended j false)) r₀ r k
+Inv-loop r₀ k₀ r k = Changing 32 (λ j. timeLeft) r₀ r k
 
 abbrev μ-loop : tie.MeasureT-loop
-μ-loop suspended r₀ k₀ r k = 32 - k
+μ-loop r₀ k₀ r k = 32 - k
 
 loop-holds : tie.Need-loop-holds Inv-loop μ-loop
-loop-holds c = changing-start 32 (λ j. timeLeft (getD (c .args .t1) j false)) (c .args .left) (search needs)
-
-array-read-time-left : tie.Need-array-read-time-left Inv-loop μ-loop
-array-read-time-left c = search needs
+loop-holds c = changing-start 32 (λ j. timeLeft) (c .args .left) (search needs)
 
 mul-time-left : tie.Need-mul-time-left Inv-loop μ-loop
 mul-time-left c = search needs
 
-array-read-time-left-2 : tie.Need-array-read-time-left-2 Inv-loop μ-loop
-array-read-time-left-2 c = search needs
+array-read-time-left : tie.Need-array-read-time-left Inv-loop μ-loop
+array-read-time-left c = search needs
 
 time-left-requires : tie.Need-time-left-requires Inv-loop μ-loop
 time-left-requires c κs = search needs
@@ -44,10 +39,10 @@ loop-less : tie.Need-loop-less Inv-loop μ-loop
 loop-less c = search needs
 
 loop-again : tie.Need-loop-again Inv-loop μ-loop
-loop-again c = changing-more 32 (λ j. timeLeft (getD (c .before .before .before .args .t1) j false)) (c .before .before .before .args .left) (c .before .before .loop .r) (c .before .before .loop .k) _ (c .before .loop-test .taken) (c .time-left .ensures) (c .before .before .loop .inv)
+loop-again c = changing-more 32 (λ j. timeLeft) (c .before .before .before .args .left) (c .before .before .loop .r) (c .before .before .loop .k) _ (c .before .loop-test .taken) (c .time-left .ensures) (c .before .before .loop .inv)
 
 returns : tie.Need-returns Inv-loop μ-loop
-returns c = times-done (c .before .before .args .t1) (c .before .before .args .left) (c .before .loop .r) (c .before .loop .k) (search needs) (search needs) (c .before .loop .inv)
+returns c = times-done (c .before .before .args .left) (c .before .loop .r) (c .before .loop .k) (search needs) (c .before .loop .inv)
 
 pub times-left-spec : {M : Type 1} → statement M
 times-left-spec =
@@ -56,9 +51,8 @@ times-left-spec =
     Inv-loop
     μ-loop
     loop-holds
-    array-read-time-left
     mul-time-left
-    array-read-time-left-2
+    array-read-time-left
     time-left-requires
     mul-r
     array-write-r

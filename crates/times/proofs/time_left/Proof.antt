@@ -11,25 +11,18 @@ use Rattle.times.proofs.time_left.Tie as tie
 
 returns : tie.Need-returns
 unfolding timeLeft
-returns c = pick-yes _ _ _ (c .if1 .taken) refl
+returns c = pick-yes _ _ _ (eq-eqb _ _ (c .if1 .taken)) refl
 
 returns-2 : tie.Need-returns-2
 unfolding timeLeft
-returns-2 c = pick-no _ _ _ (c .before .if1 .left) (pick-yes _ _ _ (eq-eqb _ _ (c .if2 .taken)) refl)
-
-returns-3 : tie.Need-returns-3
-unfolding timeLeft
-returns-3 c =
-    pick-no _ _ _ (c .before .before .if1 .left)
-    (pick-no _ _ _ (ne-eqb _ _ (c .before .if2 .left)) (omega (arith, c .if3 .taken)))
+returns-2 c = pick-no _ _ _ (ne-eqb _ _ (c .before .if1 .left)) (omega (arith, c .if2 .taken))
 
 sub-result : tie.Need-sub-result
 sub-result c = search needs
 
-returns-4 : tie.Need-returns-4
+returns-3 : tie.Need-returns-3
 unfolding timeLeft
-returns-4 c =
-    pick-no _ _ _ (c .before .before .if1 .left) (pick-no _ _ _ (ne-eqb _ _ (c .before .if2 .left)) refl)
+returns-3 c = pick-no _ _ _ (ne-eqb _ _ (c .before .if1 .left)) refl
 
 pub time-left-spec : {M : Type 1} → statement M
-time-left-spec = tie.close (tie.spec returns returns-2 returns-3 sub-result returns-4)
+time-left-spec = tie.close (tie.spec returns returns-2 sub-result returns-3)
