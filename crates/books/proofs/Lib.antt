@@ -17,3 +17,6 @@ pub mod Told
 pub mod Releasing
 pub mod Totals
 pub mod Info
+pub mod TimesLeft
+pub mod Clocks
+pub mod Times

@@ -37,7 +37,7 @@ use Rattle.books.proofs.Telling.{agrees-after}
 use Rattle.books.specs.Told.{StandsAt, SeatsTold, taskId, semId}
 
 -- a fresh state has no semaphore, so nobody waits
-fresh-idle : (p : ℕ) → p ≤ 15 → (i : ℕ) → i < 16 → (t : ℕ) → WaitsFor (freshState p) i t → ⊥
+pub fresh-idle : (p : ℕ) → p ≤ 15 → (i : ℕ) → i < 16 → (t : ℕ) → WaitsFor (freshState p) i t → ⊥
 unfolding freshState
 fresh-idle p h i hi t w = dead-nobody (freshState p) (fresh-sound p h) i hi (getD-replicate 16 i false false hi) t w
 

@@ -102,7 +102,7 @@ ready-left q good key t p room =
           omega (arith, leaves-out q t, b .0);
     }
 
-wake-left : (l : Line) → Good (l .seat) → (b : Bool) (p t : ℕ) → t < 32 → Left (l .seat) (wake l b p t .seat) t
+pub wake-left : (l : Line) → Good (l .seat) → (b : Bool) (p t : ℕ) → t < 32 → Left (l .seat) (wake l b p t .seat) t
 unfolding wake wokenSeats pick
 wake-left l good true p t room = leaves-left (l .seat) good t
 wake-left l good false p t room = ready-left (l .seat) good (l .joined) t p room

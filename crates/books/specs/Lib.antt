@@ -2,6 +2,7 @@
 -- the pools'.
 pub mod Past
 pub mod Waiting
+pub mod Times
 pub mod Held
 pub mod Link
 pub mod Told
