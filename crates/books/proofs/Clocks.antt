@@ -18,7 +18,7 @@ use Rattle.scope.specs.Identifiers.{identifier}
 use Rattle.scope.specs.Lists.{has}
 use Rattle.scope.specs.Views.{runningTask}
 use Rattle.scope.specs.Answers.{answer, plain, badState, wakesWith}
-use Rattle.scope.specs.Semaphores.{FOREVER, isTimeOut, noneWoken}
+use Rattle.scope.specs.Waiting.{FOREVER, isTimeOut, noneWoken}
 use Rattle.scope.specs.Ticks.{ticked, tick}
 use Rattle.scope.proofs.Times.{forever-stays, takes-one}
 use Rattle.laws.proofs.Branches.{both-true, true-false, true-or-false, picked-yes, picked-no}
@@ -34,7 +34,8 @@ use Rattle.books.specs.Past.{Turn, isAnswer, isAnswerOf, runningIn, past
 use Rattle.books.specs.Waiting.{pends, waiting}
 use Rattle.books.specs.Times.{timeOutOf, ticksSince}
 use Rattle.books.proofs.Members.{has-grown, kept-has}
-use Rattle.books.proofs.Agreeing.{taskId, semId, turnOf, Waiter, Agrees, not-call, pends-other, is-pending, waiting-shut, waiting-more, waiting-less}
+use Rattle.books.specs.Told.{taskId, semId}
+use Rattle.books.proofs.Agreeing.{turnOf, Waiter, Agrees, not-call, pends-other, is-pending, waiting-shut, waiting-more, waiting-less}
 use Rattle.books.proofs.Claiming.{apart-slots, waits-room}
 use Rattle.books.proofs.Steps.{waiter-live}
 use Rattle.books.proofs.Telling.{event-steps}

@@ -22,7 +22,7 @@ use Rattle.scope.specs.Statuses.{OK, TIME-OUT}
 use Rattle.scope.specs.Lists.{has}
 use Rattle.scope.specs.Seats.{queueSeats, waitsOn}
 use Rattle.scope.specs.Answers.{wakesWith}
-use Rattle.scope.specs.Semaphores.{FOREVER, wake, wakeNext, noneWoken}
+use Rattle.scope.specs.Waiting.{FOREVER, wake, wakeNext, noneWoken}
 use Rattle.scope.specs.Ticks.{ticked, isDue, wakeDue, tick}
 use Rattle.scope.specs.Replies.{wakesFrom, wakeList, replyOf}
 use Rattle.scope.specs.Fresh.{freshState}
@@ -41,7 +41,8 @@ use Rattle.books.specs.Past.{Turn, pastOf}
 use Rattle.books.specs.Waiting.{wakes, waiting}
 use Rattle.books.specs.Times.{timeOutOf, ticksSince, endsNext, wakesAs}
 use Rattle.books.proofs.Woken.{Left, wake-left, none-woke, due-woke}
-use Rattle.books.proofs.Agreeing.{taskId, Waiter}
+use Rattle.books.specs.Told.{taskId}
+use Rattle.books.proofs.Agreeing.{Waiter}
 use Rattle.books.proofs.Steps.{Moves, moves-woke}
 use Rattle.books.proofs.Told.{fresh-idle, fresh-agrees, history-agrees}
 use Rattle.books.proofs.Clocks.{Runs, Clocked, some-left, tick-left, tick-done, clocked-after}

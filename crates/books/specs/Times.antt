@@ -7,7 +7,7 @@ use mathlib.Core.List.{List, [], _∷_}
 use lib.Dec.{eqb}
 use Rattle.scope.specs.Choice.{pick}
 use Rattle.scope.specs.Statuses.{OK}
-use Rattle.scope.specs.Semaphores.{FOREVER}
+use Rattle.scope.specs.Waiting.{FOREVER}
 use Rattle.scope.specs.Replies.{Wake}
 use Rattle.books.specs.Past.{Turn, isAnswer}
 use Rattle.books.specs.Waiting.{pends}
