@@ -14,8 +14,8 @@ import generate
 from scripts import (HEADER_BYTES, MOST_BYTES, MOST_RECORDS, answers_of,
                      script_of)
 
-HERE = os.path.dirname(os.path.abspath(__file__))
-PROGRAM = os.path.join(HERE, "build", "second")
+SECOND = os.path.dirname(os.path.dirname(os.path.abspath(__file__)))
+PROGRAM = os.path.join(SECOND, "build", "second")
 
 # (profile, seed, records) of each stored script that is generated.
 GENERATED = [(profile, seed, 400) for profile in generate.AIMED

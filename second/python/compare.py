@@ -13,7 +13,7 @@ import generate
 import model
 from scripts import MOST_RECORDS
 
-HERE = os.path.dirname(os.path.abspath(__file__))
+SECOND = os.path.dirname(os.path.dirname(os.path.abspath(__file__)))
 
 
 def played(command, script):
@@ -33,7 +33,7 @@ def differing_line(one, other):
 def main():
     parser = argparse.ArgumentParser(description=__doc__)
     parser.add_argument("--program",
-                        default=os.path.join(HERE, "build", "second"))
+                        default=os.path.join(SECOND, "build", "second"))
     parser.add_argument("--trust", action="store_true")
     parser.add_argument("--seeds", type=int, nargs=2, default=[1, 10])
     parser.add_argument("--records", type=int, default=500)

@@ -20,7 +20,7 @@ import sys
 
 from scripts import MOST_RECORDS, answers_of, header_of, records_of
 
-HERE = os.path.dirname(os.path.abspath(__file__))
+SECOND = os.path.dirname(os.path.dirname(os.path.abspath(__file__)))
 SELF, OK, PENDING = 0, 0, 1
 
 
@@ -279,7 +279,7 @@ def main():
         formatter_class=argparse.RawDescriptionHelpFormatter)
     parser.add_argument("files", nargs="*")
     parser.add_argument("--program",
-                        default=os.path.join(HERE, "build", "second"))
+                        default=os.path.join(SECOND, "build", "second"))
     parser.add_argument("--seeds", type=int, nargs=2)
     parser.add_argument("--records", type=int, default=MOST_RECORDS)
     options = parser.parse_args()

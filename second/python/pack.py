@@ -9,7 +9,7 @@ import os
 import struct
 import sys
 
-ROOT = os.path.dirname(os.path.dirname(os.path.abspath(__file__)))
+ROOT = os.path.dirname(os.path.dirname(os.path.dirname(os.path.abspath(__file__))))
 MOST = 65537
 
 
@@ -32,7 +32,7 @@ def main():
             with open(path, "wb") as out:
                 out.write(content)
         elif not os.path.exists(path) or open(path, "rb").read() != content:
-            sys.exit(f"crates/replay/{name} is not what stored/ holds: run second/pack.py")
+            sys.exit(f"crates/replay/{name} is not what stored/ holds: run second/python/pack.py")
 
 
 main()
