@@ -3,7 +3,7 @@
  *
  *   rt staticlib exports
  *   gcc -O2 -I include examples/listing.c target/staticlib/libexports.a -o target/listing
- *   target/listing < stored/nine.script
+ *   target/listing < stored/cases/nine.script
  */
 #include <stdio.h>
 #include <stdlib.h>

@@ -1,10 +1,11 @@
 #!/usr/bin/env python3
 """pack.py [--check]: every stored script in one file, for the program that replays them all, and the listings it must write.
 
-crates/replay/data/scripts holds, for each script by name, its length in four bytes and its bytes (at most 65,537, which is
-enough to refuse one that is too long); crates/replay/stdout the second program's listings in the same order. With --check
-nothing is written, and a difference is an error.
+crates/replay/data/scripts holds, for each script by name, whatever its folder, its length in four bytes and its bytes
+(at most 65,537, which is enough to refuse one that is too long); crates/replay/stdout the second program's listings in
+the same order. With --check nothing is written, and a difference is an error.
 """
+import glob
 import os
 import struct
 import sys
@@ -14,13 +15,12 @@ MOST = 65537
 
 
 def packed():
-    stored = os.path.join(ROOT, "stored")
-    names = sorted(n[: -len(".script")] for n in os.listdir(stored) if n.endswith(".script"))
+    paths = [path[: -len(".script")] for path in glob.glob(os.path.join(ROOT, "stored", "*", "*.script"))]
     scripts, listings = b"", b""
-    for name in names:
-        script = open(os.path.join(stored, name + ".script"), "rb").read()[:MOST]
+    for path in sorted(paths, key=os.path.basename):
+        script = open(path + ".script", "rb").read()[:MOST]
         scripts += struct.pack("<I", len(script)) + script
-        listings += open(os.path.join(stored, name + ".listing"), "rb").read()
+        listings += open(path + ".listing", "rb").read()
     return {"data/scripts": scripts, "stdout": listings}
 
 

@@ -2,7 +2,8 @@
 """Makes the stored scripts and their listings: store.py FOLDER
 
 Hand-made cases are compared with what their rows expect before they are
-stored; headers come in pairs, one on either side of each refusal.
+stored; headers come in pairs, one on either side of each refusal. Each kind
+has its folder: cases, headers, profiles, damaged.
 """
 
 import os
@@ -60,13 +61,15 @@ def headers():
 
 
 def stored():
-    """All (name, script) pairs."""
+    """Folder, name and bytes of each script."""
     for name in cases.CASES:
-        yield name, cases.case_script(name)
-    yield from headers()
+        yield "cases", name, cases.case_script(name)
+    for name, script in headers():
+        yield "headers", name, script
     for profile, seed, records in GENERATED:
+        folder = "damaged" if profile == "damaged" else "profiles"
         name = "%s-%d" % (profile.replace("_", "-"), seed)
-        yield name, generate.script(profile, seed, records)
+        yield folder, name, generate.script(profile, seed, records)
 
 
 def listing_of(script):
@@ -77,13 +80,14 @@ def listing_of(script):
 def main():
     if len(sys.argv) != 2:
         sys.exit("usage: store.py FOLDER")
-    for name, script in stored():
+    for folder, name, script in stored():
         listing = listing_of(script)
         if name in cases.CASES:
             complaint = cases.case_complaint(name, answers_of(listing))
             if complaint:
                 sys.exit("%s: %s" % (name, complaint))
-        path = os.path.join(sys.argv[1], name)
+        os.makedirs(os.path.join(sys.argv[1], folder), exist_ok=True)
+        path = os.path.join(sys.argv[1], folder, name)
         with open(path + ".script", "wb") as out:
             out.write(script)
         with open(path + ".listing", "w") as out:

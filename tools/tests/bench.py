@@ -1,5 +1,6 @@
 """What the tests share: counting, the stored runs, running a tool."""
 
+import glob
 import os
 import subprocess
 import sys
@@ -77,9 +78,15 @@ def read(*path):
 
 
 def stored_names():
-    return sorted(name[:-len(".script")] for name in os.listdir(STORED)
-                  if name.endswith(".script"))
+    """A name stands once, in the folder of its kind."""
+    return sorted(os.path.basename(path)[:-len(".script")]
+                  for path in glob.glob(os.path.join(STORED, "*", "*.script")))
+
+
+def stored_path(name, ending):
+    return glob.glob(os.path.join(STORED, "*", "%s.%s" % (name, ending)))[0]
 
 
 def stored(name):
-    return (read(STORED, name + ".script"), read(STORED, name + ".listing"))
+    return tuple(read(stored_path(name, ending))
+                 for ending in ("script", "listing"))

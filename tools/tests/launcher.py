@@ -12,7 +12,7 @@ import subprocess
 import time
 from concurrent.futures import ThreadPoolExecutor
 
-from tests.bench import ROOT, STORED, read
+from tests.bench import ROOT, read, stored
 
 # Stands in for `rt`: notes each call, "proves" three crates, builds a player.
 RT = """#!/bin/sh
@@ -276,13 +276,13 @@ def test_real_player(bench):
     play = real(bench)
     if not play:
         return
-    nine = read(STORED, "nine.listing")
+    nine = stored("nine")[1]
     folder = bench.scratch
     for words, expected in (
-            ("stored/nine.script", (0, nine, "")),
-            ("- < stored/nine.script", (0, nine, "")),
-            ("< stored/nine.script", (0, nine, "")),
-            ("stored/nine.script <&-", (0, nine, "")),
+            ("stored/cases/nine.script", (0, nine, "")),
+            ("- < stored/cases/nine.script", (0, nine, "")),
+            ("< stored/cases/nine.script", (0, nine, "")),
+            ("stored/cases/nine.script <&-", (0, nine, "")),
             ("README.md", (0, b"script refused\n", "play: note: README.md is "
                            "text, no script; tools/script make README.md -o "
                            "SCRIPT makes one of it\n")),
@@ -295,13 +295,13 @@ def test_real_player(bench):
                       % folder)),
             ("< " + folder, (1, b"", "play: standard input: cannot be read: "
                                      "Is a directory\n")),
-            ("stored/nine.script > /dev/full", (
+            ("stored/cases/nine.script > /dev/full", (
                 1, b"", "play: standard output: cannot be written: No space "
                         "left on device\n")),
             ("/dev/null > /dev/full", (
                 1, b"", "play: standard output: cannot be written: No space "
                         "left on device\n")),
-            ("stored/nine.script 1< README.md", (
+            ("stored/cases/nine.script 1< README.md", (
                 1, b"", "play: standard output: cannot be written: Bad file "
                         "descriptor\n"))):
         bench.equal("the proved player: ./play " + words, play(words),
@@ -316,7 +316,7 @@ def test_real_start(bench):
     used = []
     for _ in range(3):
         before = resource.getrusage(resource.RUSAGE_CHILDREN)
-        play("stored/nine.script")
+        play("stored/cases/nine.script")
         after = resource.getrusage(resource.RUSAGE_CHILDREN)
         used.append(after.ru_utime + after.ru_stime
                     - before.ru_utime - before.ru_stime)

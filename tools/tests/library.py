@@ -6,7 +6,7 @@ import re
 import shutil
 import subprocess
 
-from tests.bench import ROOT, STORED, read
+from tests.bench import ROOT, read, stored_path
 
 SOURCE = os.path.join(ROOT, "examples", "listing.c")
 LIBRARY = os.path.join(ROOT, "target", "staticlib", "libexports.a")
@@ -58,12 +58,12 @@ def test_c_program(bench):
     bench.equal("examples/listing.c compiles", (
         done.returncode, done.stderr.decode()), (0, ""))
     for name in ("nine", "mixed-3", "script-offset-15"):
-        with open(os.path.join(STORED, name + ".script"), "rb") as script:
+        with open(stored_path(name, "script"), "rb") as script:
             done = subprocess.run(runner + [program], stdin=script,
                                   stdout=subprocess.PIPE)
         bench.check("examples/listing.c plays " + name,
                     (done.returncode, done.stdout)
-                    == (0, read(STORED, name + ".listing")))
+                    == (0, read(stored_path(name, "listing"))))
 
 
 def test_c_program_is_shown(bench):

@@ -7,7 +7,8 @@ import sys
 
 from lib import listing, words
 from lib.files import Trouble
-from tests.bench import STORED, TOOLS, stored, stored_names
+from tests.bench import (STORED, TOOLS, stored, stored_names,
+                         stored_path)
 
 NINE_WORDS = """\
 9 records; at first task 64, priority 5, runs.
@@ -25,7 +26,7 @@ record  caller      call                                        answer
 
 
 def nine(ending):
-    return os.path.join(STORED, "nine." + ending)
+    return stored_path("nine", ending)
 
 
 def test_words_of_nine(bench):
@@ -50,7 +51,7 @@ def test_refused_scripts(bench):
         bench.equal("refusal of stored/" + name, name not in good,
                     answers == b"script refused\n")
     status, out, _ = bench.tool("listing", *(
-        os.path.join(STORED, "script-offset-15." + ending)
+        stored_path("script-offset-15", ending)
         for ending in ("script", "listing")))
     bench.equal("a refused script in words", (status, out), (
         0, b"The kernel refuses this script: offset 15 is below 16.\n"))

@@ -3,7 +3,7 @@
 import os
 import re
 
-from tests.bench import ROOT, STORED, read
+from tests.bench import ROOT, read, stored
 
 PAGES = ("README.md", "CONTRIBUTING.md", "docs/TOOLS.md", "docs/CALLS.md")
 PLACES = "crates|tools|docs|examples|stored|second|bench|include|play|\\.ci"
@@ -38,7 +38,7 @@ def test_quotes(bench):
 
 
 def test_first_listing(bench):
-    lines = read(STORED, "nine.listing").decode().splitlines(True)
+    lines = stored("nine")[1].decode().splitlines(True)
     bench.holds("README.md has the nine's listing", page("README.md"),
                 "".join("    " + line for line in lines))
 

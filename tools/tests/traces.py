@@ -5,7 +5,7 @@ import re
 import xml.etree.ElementTree as tree
 
 from lib import listing, picture, run, script, tables, waves
-from tests.bench import STORED, read, stored
+from tests.bench import read, stored, stored_path
 
 SVG = "{http://www.w3.org/2000/svg}"
 WIDTHS = {"tiny": 5.0, "small": 5.5, "in": 5.5, "inrun": 5.5, "name": 6.6}
@@ -171,8 +171,7 @@ def test_waves(bench):
 
 
 def test_command(bench):
-    pair = [os.path.join(STORED, "nine." + end) for end in
-            ("script", "listing")]
+    pair = [stored_path("nine", end) for end in ("script", "listing")]
     svg, vcd = (os.path.join(bench.scratch, "n." + end)
                 for end in ("svg", "vcd"))
     status, _, said = bench.tool("trace", *pair, "--svg", svg, "--vcd", vcd)
@@ -182,7 +181,7 @@ def test_command(bench):
                 and "<script" not in words and words.count("http") == 1)
     bench.holds("the wait is named", words, "waits for semaphore 64")
     parsed(read(vcd).decode())
-    refused = [os.path.join(STORED, "script-offset-15." + end)
+    refused = [stored_path("script-offset-15", end)
                for end in ("script", "listing")]
     absent = os.path.join(bench.scratch, "absent.svg")
     status, _, said = bench.tool("trace", *refused, "--svg", absent)
