@@ -12,36 +12,21 @@
 #include <string.h>
 
 #define B(status) (UINT32_C(1) << (status))
-#define BY_TASK (B(0) | B(2) | B(24) | B(25))
-#define NAMED (BY_TASK | B(4) | B(5)) /* with an identifier */
 
 static const struct {
     const char *name;
     uint32_t row;
     uint32_t wakes;
-} rows[CALL_ROWS] = {
-    { "tick", B(0) | B(25), B(13) },
-    { "task_create", BY_TASK | B(7) | B(19), 0 },
-    { "task_delete", NAMED, 0 },
-    { "task_ident", BY_TASK | B(8), 0 },
-    { "task_start", NAMED | B(20), 0 },
-    { "task_suspend", NAMED | B(21) | B(22), 0 },
-    { "task_resume", NAMED | B(21) | B(23), 0 },
-    { "task_set_priority", NAMED | B(19), 0 },
-    { "sem_create", BY_TASK | B(6) | B(7) | B(9), 0 },
-    { "sem_delete", NAMED, B(11) },
-    { "sem_ident", BY_TASK | B(8), 0 },
-    { "sem_claim", NAMED | B(1) | B(3) | B(6) | B(10), 0 },
-    { "sem_release", (NAMED & ~B(2)) | B(12), B(0) },
-    { "sem_info", NAMED, 0 },
-    { "pool_create", BY_TASK | B(3) | B(6) | B(7) | B(14) | B(15), 0 },
-    { "pool_delete", NAMED | B(16), 0 },
-    { "pool_ident", BY_TASK | B(8), 0 },
-    { "pool_get_buff", NAMED | B(17), 0 },
-    { "pool_ret_buff", NAMED | B(18), 0 },
-    { "pool_info", NAMED, 0 },
-    { "unknown call", B(25), 0 },
-};
+} rows[] = { TABLE_ROWS { "unknown call", B(STATUS_BAD_CALL), 0 } };
+
+_Static_assert(sizeof rows / sizeof rows[0] == CALL_ROWS,
+               "picture.h names the calls of tools/calls.tsv");
+
+/* The statuses of a row that a script can show. */
+static uint32_t shown(int call)
+{
+    return rows[call].row & ~B(STATUS_BAD_STATE);
+}
 
 struct reader {
     const char *at;
@@ -176,11 +161,11 @@ int coverage_print(const struct coverage *c)
     printf("answers, by call and status; w: wakes of that status\n");
     for (int call = 0; call < CALL_ROWS; call++) {
         printf("  %-17s", rows[call].name);
-        print_counts(c->given[call], rows[call].row, "", &missing, &outside);
+        print_counts(c->given[call], shown(call), "", &missing, &outside);
         print_counts(c->told[call], rows[call].wakes, "w", &missing,
                      &outside);
         printf("\n");
-        all += __builtin_popcount(rows[call].row)
+        all += __builtin_popcount(shown(call))
              + __builtin_popcount(rows[call].wakes);
     }
     printf("rows: %d of %d statuses seen, %d seen outside a row\n",

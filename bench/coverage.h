@@ -11,8 +11,7 @@
 
 #include "picture.h"
 #include "scripts.h"
-
-enum { STATUSES = 27 };
+#include "table.h" /* made by bench/table */
 
 struct coverage {
     uint64_t given[CALL_ROWS][STATUSES];
