@@ -5,7 +5,8 @@ import re
 
 from tests.bench import ROOT, read, stored
 
-PAGES = ("README.md", "CONTRIBUTING.md", "docs/TOOLS.md", "docs/CALLS.md")
+PAGES = ("README.md", "CONTRIBUTING.md", "docs/TOOLS.md", "docs/CALLS.md",
+         "bench/README.md")
 PLACES = "crates|tools|docs|examples|stored|second|bench|include|play|\\.ci"
 PATH = re.compile(r"`(?:\./)?((?:%s)(?:/[\w.-]+)*/?)[` ]" % PLACES)
 QUOTE = re.compile(r"^From `([^`]+)`[^\n]*:\n\n((?:    .*\n)+)", re.M)
