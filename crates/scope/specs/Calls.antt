@@ -2,13 +2,12 @@
 -- "five arguments (unused ones ignored)": a row takes five and names those that it has.
 -- Assumes nothing.
 use Prim.Native.Nat.{ℕ, _/_, _%_, _^_}
-use mathlib.Core.Bool.{Bool, true, false}
+use mathlib.Core.Bool.{Bool}
 use mathlib.Core.List.{List, [], _∷_}
 use lib.ListN.{length, getD}
 use lib.Dec.{eqb}
 use Rattle.scope.specs.declared.State.{State}
 use Rattle.scope.specs.declared.Answer.{Answer}
-use Rattle.scope.specs.Choice.{pick}
 use Rattle.scope.specs.Statuses.{OK, PENDING, ILLEGAL-USE, INVALID-PARAMETER, INVALID-ID, OBJECT-DELETED, INVALID-OPTIONS, TOO-MANY-OBJECTS}
 use Rattle.scope.specs.Statuses.{NAME-NOT-FOUND, INVALID-COUNT, SEMAPHORE-NOT-AVAILABLE, SEMAPHORE-OVERFLOW, INVALID-BUFF-SIZE, POOL-OVERLAP}
 use Rattle.scope.specs.Statuses.{POOL-IN-USE, NO-MORE-MEMORY, INVALID-BUFF, INVALID-PRIORITY, TASK-ALREADY-STARTED, TASK-NOT-STARTED}

@@ -1,8 +1,8 @@
 -- "A fresh state holds one started task, identifier 64, name 0, of a given priority 0 to 15, and nothing else."
 -- Assumes nothing.
 use Prim.Native.Nat.{ℕ, _+_}
-use mathlib.Core.Bool.{Bool, true, false}
-use mathlib.Core.List.{List, [], _∷_}
+use mathlib.Core.Bool.{true, false}
+use mathlib.Core.List.{_∷_}
 use lib.ListN.{replicate}
 use lib.Dec.{ltb}
 use Rattle.scope.specs.declared.State.{State}

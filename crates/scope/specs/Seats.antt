@@ -2,7 +2,7 @@
 -- says in which and at what place: queue × 64 + place, place 1 first, 0 for nowhere. Slot 32 is nobody.
 -- `q` is the list of all seats, by task slot.
 -- Assumes nothing.
-use Prim.Native.Nat.{ℕ, zero, suc, _+_, _-_, _*_, _/_, _%_}
+use Prim.Native.Nat.{ℕ, zero, suc, _+_, _-_, _*_, _/_}
 use mathlib.Core.Bool.{Bool, true, false, _&&_}
 use mathlib.Core.List.{List, [], _∷_, _++_, map}
 use lib.ListN.{getD, set}

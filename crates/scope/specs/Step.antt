@@ -1,7 +1,7 @@
 -- A step: a call by a caller, on any state. "Order of tests: 26, 25, 24, 2, then identifier (4, 5), then the call's own".
 -- Assumes nothing.
 use Prim.Native.Nat.{ℕ}
-use mathlib.Core.Bool.{Bool, true, false}
+use mathlib.Core.Bool.{true, false}
 use lib.Dec.{ltb, leb, eqb}
 use Rattle.scope.specs.declared.State.{State}
 use Rattle.scope.specs.declared.Answer.{Answer}

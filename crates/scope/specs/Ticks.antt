@@ -2,7 +2,7 @@
 -- on during suspension. A suspended waiter that reaches 0 leaves its queue with 13, gives its one back, appears among the wakes, and
 -- becomes ready when resumed. A time_out of n always ends at the n-th tick."
 -- Assumes nothing.
-use Prim.Native.Nat.{ℕ, zero, suc, _+_, _-_}
+use Prim.Native.Nat.{ℕ, zero, suc, _-_}
 use mathlib.Core.Bool.{Bool, true, false, _&&_}
 use mathlib.Core.List.{List, map}
 use lib.ListN.{getD}

@@ -1,10 +1,10 @@
 -- The state with one part changed, and the paper's words for what it holds.
 -- Assumes nothing.
-use Prim.Native.Nat.{ℕ, _+_, _-_}
-use mathlib.Core.Bool.{Bool, true, false, not, _&&_}
+use Prim.Native.Nat.{ℕ, _-_}
+use mathlib.Core.Bool.{Bool, false, not, _&&_}
 use mathlib.Core.List.{List}
 use lib.ListN.{getD, set}
-use lib.Dec.{ltb, eqb}
+use lib.Dec.{ltb}
 use Rattle.scope.specs.declared.Line.{Line}
 use Rattle.scope.specs.declared.Tasks.{Tasks}
 use Rattle.scope.specs.declared.Semaphores.{Semaphores}
@@ -12,7 +12,7 @@ use Rattle.scope.specs.declared.Pools.{Pools}
 use Rattle.scope.specs.declared.State.{State}
 use Rattle.scope.specs.Choice.{pick}
 use Rattle.scope.specs.Identifiers.{identifier}
-use Rattle.scope.specs.Seats.{leaves, joins, becomesReady, runnerOf, waitsOn, queueSeats, standing}
+use Rattle.scope.specs.Seats.{runnerOf, waitsOn, queueSeats, standing}
 
 -- the state with tasks standing elsewhere; who runs follows from where they stand
 abbrev pub withLine : State → Line → State
