@@ -1,7 +1,7 @@
 -- What an outcome stands for: the answers of scope's specs/Answers.antt, by the state as the call left it.
 -- Assumes nothing.
 use Prim.Native.Nat.{ℕ}
-use mathlib.Core.Path.{_≡_, refl, ap}
+use mathlib.Core.Path.{_≡_, ap}
 use mathlib.Core.Bool.{Bool, false}
 use mathlib.Core.List.{List}
 use Rattle.scope.specs.declared.State.{State}
@@ -13,7 +13,6 @@ use Rattle.scope.specs.declared.Waking.{Waking}
 use Rattle.scope.specs.declared.Answer.{Answer}
 use Rattle.scope.specs.Statuses.{OK}
 use Rattle.scope.specs.Seats.{runnerOf}
-use Rattle.scope.specs.Views.{withLine, runningTask}
 use Rattle.scope.specs.Answers.{noWakes, answer, plain, gives, wakesWith}
 use Rattle.answers.specs.declared.Outcome.{Outcome}
 use Rattle.answers.specs.Outcomes.{nowRuns, answerOf, outcome, woke}

@@ -1,8 +1,8 @@
 // The shapes of an answer. A call changes the state's columns where they lie; what it answers beside them and the wake list is
 // its outcome: refused or plainly done, one value, several values, tasks woken. (specs/Outcomes.antt, and scope's specs/Answers.antt.)
 ghost use mathlib.Core.Path.{_≡_};
-ghost use mathlib.Core.Bool.{Bool, true, false};
-ghost use Prim.Native.Nat.{ℕ, _+_, _*_};
+ghost use mathlib.Core.Bool.{false};
+ghost use Prim.Native.Nat.{_+_, _*_};
 ghost use lib.ListN.{getD};
 ghost use lib.Dec.{ltb};
 ghost use Rattle.scope.specs.Choice.{pick};

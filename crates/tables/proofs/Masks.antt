@@ -12,7 +12,7 @@ use lib.Arith.{digits-mod, digits-div}
 use lib.Count.{trailingZeros}
 use lib.Pow.{pow-mono}
 use borrow.Author.Tests.{lt-ltb, le-ltb}
-use Rattle.scope.specs.Choice.{pick, least}
+use Rattle.scope.specs.Choice.{least}
 use Rattle.scope.specs.Identifiers.{usable}
 use Rattle.laws.proofs.Branches.{both, first-fails, second-fails, not-of-true, not-of-false, true-or-false, picked-yes, picked-no, lt-or-le}
 use Rattle.laws.proofs.Searches.{least-hit}

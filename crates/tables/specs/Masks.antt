@@ -1,7 +1,7 @@
 -- A mask of numbers that pass a test: bit i for the i-th of them.
 -- Assumes nothing.
 use Prim.Native.Nat.{ℕ, zero, suc, _+_, _*_}
-use mathlib.Core.Bool.{Bool, true, false}
+use mathlib.Core.Bool.{Bool}
 use Rattle.scope.specs.Choice.{pick}
 
 -- 1 where k passes, else 0

@@ -3,7 +3,7 @@
 use scope::Found;
 ghost use mathlib.Core.Path.{_≡_};
 ghost use Prim.Native.Nat.{_+_, _*_, _≤_, _<_};
-ghost use mathlib.Core.Bool.{Bool, true, false};
+ghost use mathlib.Core.Bool.{false};
 ghost use lib.ListN.{length, getD};
 ghost use Rattle.scope.specs.Identifiers.{found, usable, lowestUsable, named, byName};
 ghost use Rattle.tables.specs.Masks.{bitAt, maskFrom};

@@ -1,10 +1,10 @@
-use mathlib.Core.Path.{_≡_, refl}
+-- `answers::bit` meets its contract: its test is the definition's own.
+-- Assumes nothing.
+use mathlib.Core.Path.{refl}
 use Rattle.laws.proofs.Branches.{pick-yes, pick-no}
 use Rattle.scope.specs.Answers.{bitOf}
 use Rattle.answers.proofs.bit.Statement.{statement}
 use Rattle.answers.proofs.bit.Tie as tie
-use Rattle.answers.proofs.bit.Reads as reads
-use Rattle.answers.proofs.bit.Lts as lts
 
 returns : tie.Need-returns
 unfolding bitOf

@@ -1,11 +1,10 @@
+-- `answers::gives` meets its contract: what it builds is the outcome defined, field by field.
+-- Assumes nothing.
 use mathlib.Core.Path.{refl}
 use Rattle.answers.specs.Outcomes.{outcome}
 use Rattle.answers.proofs.gives.Statement.{statement}
 use Rattle.answers.proofs.gives.Tie as tie
-use Rattle.answers.proofs.gives.Reads as reads
-use Rattle.answers.proofs.gives.Lts as lts
 
--- src/lib.rt:76:1
 returns : tie.Need-returns
 unfolding outcome
 returns c = refl

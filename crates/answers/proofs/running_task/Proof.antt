@@ -1,30 +1,24 @@
+-- `answers::running_task` meets its contract: within the table the slot's identifier, past its end nobody.
+-- Assumes nothing.
 use mathlib.Core.Path.{refl}
 use borrow.Author.Tests.{lt-ltb, le-ltb}
 use Rattle.laws.proofs.Branches.{pick-yes, pick-no}
 use borrow.Author.Needs.{needs}
 use Rattle.answers.proofs.running_task.Statement.{statement}
 use Rattle.answers.proofs.running_task.Tie as tie
-use Rattle.answers.proofs.running_task.Reads as reads
-use Rattle.answers.proofs.running_task.Lts as lts
-use Rattle.tables.proofs.identifier.Reads as identifier-reads
 
--- src/lib.rt:32:35
 mul-identifier : tie.Need-mul-identifier
 mul-identifier c = search needs
 
--- src/lib.rt:32:35
 element-copy-out-identifier : tie.Need-element-copy-out-identifier
 element-copy-out-identifier c = search needs
 
--- src/lib.rt:32:9
 identifier-requires : tie.Need-identifier-requires
 identifier-requires c κs = search needs
 
--- src/lib.rt:32:9
 returns : tie.Need-returns
 returns c = pick-yes _ _ _ (lt-ltb _ _ (c .before .before .if1 .taken)) (c .identifier .ensures)
 
--- src/lib.rt:28:1
 returns-2 : tie.Need-returns-2
 returns-2 c = pick-no _ _ _ (le-ltb _ _ (c .if1 .left)) refl
 

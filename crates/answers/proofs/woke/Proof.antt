@@ -1,11 +1,10 @@
+-- `answers::woke` meets its contract: what it builds is the outcome defined, field by field.
+-- Assumes nothing.
 use mathlib.Core.Path.{refl}
 use Rattle.answers.specs.Outcomes.{woke}
 use Rattle.answers.proofs.woke.Statement.{statement}
 use Rattle.answers.proofs.woke.Tie as tie
-use Rattle.answers.proofs.woke.Reads as reads
-use Rattle.answers.proofs.woke.Lts as lts
 
--- src/lib.rt:90:1
 returns : tie.Need-returns
 unfolding woke
 returns c = refl
