@@ -1,6 +1,5 @@
 -- `semaphores::release_at`: the first waiter is woken; with none, a unit more, below the greatest count.
 -- Assumes nothing.
-use mathlib.Core.Path.{_≡_, ap, sym, _∙_}
 use mathlib.Core.Bool.{not}
 use lib.Dec.{ltb}
 use borrow.Author.Needs.{needs}
