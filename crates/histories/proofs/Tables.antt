@@ -9,7 +9,7 @@ use mathlib.Core.Bool.{Bool, true, false, not}
 use mathlib.Core.List.{List}
 use lib.ListN.{length, getD, set, length-set}
 use lib.Seq.{getD-set-same, getD-set-other}
-use lib.Dec.{ltb, leb, eqb}
+use lib.Dec.{leb, eqb}
 use borrow.Author.Tests.{leb-true, le-leb, eqb-true, eq-eqb, not-false}
 use Rattle.scope.specs.declared.Found.the-variants.{At, Deleted, Invalid}
 use Rattle.scope.specs.Choice.{pick}

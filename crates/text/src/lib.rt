@@ -1,9 +1,9 @@
 // Numbers out of a script's bytes, and an answer's line into a listing's. (scope's specs/Script.antt and Listing.antt.)
 use answers::Outcome;
 ghost use mathlib.Core.Path.{_≡_};
-ghost use mathlib.Core.Bool.{Bool, true, false};
+ghost use mathlib.Core.Bool.{false};
 ghost use mathlib.Core.List.{[], _∷_, _++_};
-ghost use Prim.Native.Nat.{ℕ, _+_, _*_, _≤_, _<_};
+ghost use Prim.Native.Nat.{_+_, _*_, _≤_, _<_};
 ghost use lib.ListN.{length, take};
 ghost use Rattle.scope.specs.Script.{number32, isScript};
 ghost use Rattle.text.specs.Records.{recordAt};

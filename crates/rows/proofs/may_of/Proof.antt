@@ -1,6 +1,5 @@
 -- `rows::may_of` meets its contract: the column is the paper's with each list of statuses turned into its set of bits, which antt computes for all rows at once.
 -- Assumes nothing.
-use Prim.Native.Nat.{ℕ}
 use lib.ListN.{List·getD-map}
 use borrow.Author.Needs.{needs}
 use Rattle.rows.proofs.may_of.Statement.{statement}

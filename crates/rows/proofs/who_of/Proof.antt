@@ -1,6 +1,5 @@
 -- `rows::who_of` meets its contract: the column is the paper's, which antt computes for all rows at once.
 -- Assumes nothing.
-use Prim.Native.Nat.{ℕ}
 use lib.ListN.{List·getD-map}
 use borrow.Author.Needs.{needs}
 use Rattle.rows.proofs.who_of.Statement.{statement}
