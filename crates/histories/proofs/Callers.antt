@@ -19,6 +19,10 @@ use Rattle.scope.proofs.Rows.{by-choice}
 use Rattle.laws.proofs.Branches.{both-true, true-false, picked-yes}
 use Rattle.laws.proofs.Searches.{every-at}
 
+-- the table's calls are numbered below this
+abbrev pub known : ℕ
+known = 20
+
 -- the row lists the status
 abbrev pub has : List ℕ → ℕ → Bool
 has [] x = false
@@ -60,13 +64,13 @@ callers-says c e =
       illegal = λ h. sym (ap (λ (b : Bool). elim b as (λ x. Bool) [ true ↦ true | false ↦ fits (c .statuses) ILLEGAL-USE ]) h) ∙ r .1;
     }
 
-all-call : every (λ n. callers (callAt n)) 20 ≡ true
+all-call : every (λ n. callers (callAt n)) known ≡ true
 unfolding every
 all-call = refl
 
-module _ (call : ℕ) (known : call < 20) where
+module _ (call : ℕ) (below : call < known) where
   row-callers : Callers (callAt call)
-  row-callers = callers-says (callAt call) (every-at (λ n. callers (callAt n)) 20 all-call call known)
+  row-callers = callers-says (callAt call) (every-at (λ n. callers (callAt n)) known all-call call below)
 
   pub listed-broken : has (callAt call .statuses) BAD-STATE ≡ true
   listed-broken = row-callers .broken
@@ -81,7 +85,7 @@ module _ (call : ℕ) (known : call < 20) where
   unfolding callerRefusal mayCall
   refusal-fits mark running =
       let P : ℕ → Type 0 = λ x. eqb x OK ≡ false → fits (callAt call .statuses) x ≡ true in
-      by-choice P (leb 20 call) (λ e. absurd (omega (arith, leb-true 20 call e)))
+      by-choice P (leb known call) (λ e. absurd (omega (arith, leb-true known call e)))
       (λ e. by-choice P (ltb 1 mark) (λ f z. row-callers .bad)
       (λ f. by-choice P (eqb mark 0)
       (λ g. by-choice P (mayCall call 0) (λ h. by-choice P (ltb running 32) (λ i z. absurd (true-false refl z)) (λ i z. row-callers .nobody h)) (λ h z. row-callers .bad))
@@ -103,4 +107,4 @@ pub unknown : (s : State) (call mark a b c d e : ℕ) → 20 ≤ call → answer
 unfolding answered callerRefusal
 unknown s call mark a b c d e h =
     ap (λ (x : ℕ). elim (eqb x OK) as (λ y. Answer) [ true ↦ callAt call .does s a b c d e | false ↦ plain s x ])
-    (picked-yes (leb 20 call) BAD-CALL _ (le-leb 20 call h))
+    (picked-yes (leb known call) BAD-CALL _ (le-leb known call h))

@@ -38,7 +38,7 @@ use Rattle.scope.specs.Step.{callerRefusal, answered, stepped}
 use Rattle.scope.proofs.Rows.{Rows, none, more, row-at, by-choice}
 use Rattle.laws.proofs.Branches.{both-true, true-false}
 use Rattle.histories.specs.History.{Event, answerTo}
-use Rattle.histories.proofs.Callers.{has, fits, refusal-fits, not-pending, listed-bad}
+use Rattle.histories.proofs.Callers.{known, has, fits, refusal-fits, not-pending, listed-bad}
 
 -- the slots that creation takes
 abbrev pub newTask : State → ℕ
@@ -123,7 +123,7 @@ pub data PoolChange (s : State) (x : Event) : Pools → ℕ → Type 0 where
 pub data Deed (s : State) (x : Event) : Answer → Type 0 where
   -- "A refusal (any status but 0 and 1)", which the call's row lists
   refused : (status : ℕ) → eqb status OK ≡ false → eqb status PENDING ≡ false
-      → (x .call < 20 → fits (callAt (x .call) .statuses) status ≡ true) → Deed s x (plain s status)
+      → (x .call < known → fits (callAt (x .call) .statuses) status ≡ true) → Deed s x (plain s status)
   tells : (call : ℕ) → x .call ≡ call → asks call ≡ true → (v0 v1 v2 v3 : ℕ) (negative : Bool) → Deed s x (answer s OK v0 v1 v2 v3 negative)
   tasks-change : {k : Tasks} {v : ℕ} → TaskChange s x k v → Deed s x (answer (withTasks s k) OK v 0 0 0 false)
   task-moves : {k : Tasks} {l : Line} {v : ℕ} → TaskMove s x k l v → Deed s x (answer (withLine (withTasks s k) l) OK v 0 0 0 false)
@@ -157,7 +157,7 @@ module _ (s : State) (x : Event) where
   no {call} at status e =
       let p = both-true (fits (callAt call .statuses) status) _ e in
       let q = both-true (not (eqb status OK)) _ (p .1) in
-      refused status (not-true _ (q .0)) (not-true _ (q .1)) (λ known. ap (λ (c : ℕ). fits (callAt c .statuses) status) at ∙ p .0)
+      refused status (not-true _ (q .0)) (not-true _ (q .1)) (λ below. ap (λ (c : ℕ). fits (callAt c .statuses) status) at ∙ p .0)
 
   -- a choice of the call, and what an identifier names
   choose : (b : Bool) {y z : Answer} → (b ≡ true → Deed s x y) → (b ≡ false → Deed s x z) → Deed s x (pick b y z)
@@ -309,8 +309,8 @@ module _ (s : State) (x : Event) where
       go : (b : Bool) → eqb refusal OK ≡ b
           → Deed s x (elim b as (λ y. Answer) [ true ↦ callAt (x .call) .does s (x .a) (x .b) (x .c) (x .d) (x .e) | false ↦ plain s refusal ])
       go true e =
-          row-at Row 0 calls all-rows (λ k f. refused BAD-CALL refl refl (λ known. listed-bad (x .call) known)) (x .call) (omega arith)
-      go false e = refused refusal e (not-pending (x .call) (x .mark) (s .running)) (λ known. refusal-fits (x .call) known (x .mark) (s .running) e)
+          row-at Row 0 calls all-rows (λ k f. refused BAD-CALL refl refl (λ below. listed-bad (x .call) below)) (x .call) (omega arith)
+      go false e = refused refusal e (not-pending (x .call) (x .mark) (s .running)) (λ below. refusal-fits (x .call) below (x .mark) (s .running) e)
 
   -- what holds of every deed holds of the answer, if it holds of BAD_STATE
   pub by-deed : (P : Answer → Type 0) → ((a : Answer) → Deed s x a → P a) → (sound s ≡ false → P (badState s)) → P (answerTo s x)

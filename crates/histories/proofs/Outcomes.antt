@@ -16,7 +16,7 @@ use Rattle.scope.specs.Calls.{callAt}
 use Rattle.scope.specs.Step.{answered}
 use Rattle.histories.specs.History.{Event}
 pub use Rattle.histories.proofs.Callers.{has, fits, listed-broken, unknown}
-use Rattle.histories.proofs.Callers.{listed-done}
+use Rattle.histories.proofs.Callers.{known, listed-done}
 use Rattle.histories.proofs.Deeds.{Deed, refused, tells, tasks-change, task-moves, sems-change, pools-change, caller-waits, first-woken, sem-deleted, time-passes, deed}
 
 -- an answer to a call that was made on state s and whose row lists these statuses
@@ -24,16 +24,16 @@ pub record Outcome (s : State) (row : List ℕ) (a : Answer) : Type 0 where
   pub listed : fits row (a .status) ≡ true
   pub kind : (a .status ≡ OK) ⊎ ((a .status ≡ PENDING) ⊎ (a ≡ plain s (a .status)))
 
-module _ (s : State) (x : Event) (known : x .call < 20) where
+module _ (s : State) (x : Event) (below : x .call < known) where
   abbrev row : List ℕ
   row = callAt (x .call) .statuses
 
   done : {a : Answer} → a .status ≡ OK → Outcome s row a
-  done d = record { listed = ap (fits row) d ∙ listed-done (x .call) known; kind = inl d }
+  done d = record { listed = ap (fits row) d ∙ listed-done (x .call) below; kind = inl d }
 
   outcome : {a : Answer} → Deed s x a → Outcome s row a
   unfolding plain answer wakesWith semDeleteAt tick
-  outcome (refused status e f listed) = record { listed = listed known; kind = inr (inr refl) }
+  outcome (refused status e f listed) = record { listed = listed below; kind = inr (inr refl) }
   outcome (tells call at e v0 v1 v2 v3 negative) = done refl
   outcome (tasks-change c) = done refl
   outcome (task-moves c) = done refl
@@ -46,6 +46,6 @@ module _ (s : State) (x : Event) (known : x .call < 20) where
 
 -- the answer on a state that keeps the rules
 pub answered-outcome : (call : ℕ) → call < 20 → (s : State) (mark a b c d e : ℕ) → Outcome s (callAt call .statuses) (answered s call mark a b c d e)
-answered-outcome call known s mark a b c d e =
+answered-outcome call below s mark a b c d e =
     let x : Event = record { call = call; mark = mark; a = a; b = b; c = c; d = d; e = e } in
-    outcome s x known (deed s x)
+    outcome s x below (deed s x)
