@@ -8,7 +8,7 @@
 #include "ready.h"
 
 /* "A row says who may call"; which statuses can come back is for the tools
- * to see, in statuses.py. */
+ * to see, in python/statuses.py. */
 struct call_row {
     call_function *work;
     bool task_may;

@@ -12,7 +12,7 @@ ghost use lib.Dec.{eqb};
 ghost use Rattle.scope.specs.declared.State.{State};
 ghost use Rattle.scope.specs.Answers.{noWakes};
 ghost use Rattle.scope.specs.Waiting.{isTimeOut};
-ghost use Rattle.scope.specs.Semaphores.{semCreateAt, semCreate, semDeleteAt, semDelete, semIdentAt, semIdent, semWaitAt, semClaimAt, semClaim};
+ghost use Rattle.scope.specs.Semaphores.{semCreateAt, semCreate, semDeleteAt, semDelete, semIdent, semWaitAt, semClaimAt, semClaim};
 ghost use Rattle.scope.specs.Semaphores.{semReleaseAt, semRelease, semInfoAt, semInfo};
 ghost use Rattle.answers.specs.Outcomes.{answerOf};
 ghost use Rattle.answers.specs.Columns.{lentSemaphores};

@@ -12,7 +12,6 @@ use Rattle.laws.proofs.Arrays.{Changing, mapping-done}
 use Rattle.laws.proofs.Branches.{picked-yes, picked-no}
 use Rattle.laws.proofs.Searches.{none-more}
 use Rattle.scope.specs.declared.Tasks.{Tasks}
-use Rattle.scope.specs.declared.Line.{Line}
 use Rattle.scope.specs.declared.Waking.{Waking}
 use Rattle.scope.specs.Seats.{waitsOn}
 use Rattle.scope.specs.Choice.{pick}

@@ -1,6 +1,6 @@
 // Time_outs: which are in range, and what a tick leaves of one. (scope's specs/Waiting.antt and Ticks.antt.)
 ghost use mathlib.Core.Path.{_≡_};
-ghost use mathlib.Core.Bool.{Bool, true, false};
+ghost use mathlib.Core.Bool.{true, false};
 ghost use Rattle.scope.specs.Waiting.{isTimeOut};
 ghost use Rattle.scope.specs.Ticks.{timeLeft};
 
