@@ -1,4 +1,4 @@
--- The cases that document 01 marks P: a script's first priority and its records, and the whole listing. To add a case, add a row.
+-- The cases that document 01 marks P, and one of M-101: a script's first priority and its records, and the whole listing. To add a case, add a row.
 -- Assumes nothing.
 use Prim.Native.Nat.{ℕ, zero, suc, _+_, _*_, _/_, _%_}
 use Prim.Native.Char.{code}
@@ -75,6 +75,12 @@ cases =
     ∷ case 5
     (call 0 [] ∷ interrupt 0 [] ∷ [])
     "1 25 0 0 0 0 64\n2 0 0 0 0 0 64\n"
+    -- M-101: "a time_out runs on during suspension": of three ticks two find task 65 suspended; it is woken with 13 at the third, its one
+    -- is given back, and it is ready when resumed
+    ∷ case 5
+    (call 8 (7 ∷ 0 ∷ 0 ∷ []) ∷ call 1 (9 ∷ 8 ∷ []) ∷ call 4 (65 ∷ []) ∷ call 11 (64 ∷ 0 ∷ 3 ∷ []) ∷ interrupt 0 []
+    ∷ call 5 (65 ∷ []) ∷ interrupt 0 [] ∷ call 13 (64 ∷ []) ∷ interrupt 0 [] ∷ call 13 (64 ∷ []) ∷ interrupt 0 [] ∷ call 6 (65 ∷ []) ∷ [])
+    "1 0 64 0 0 0 64\n2 0 65 0 0 0 64\n3 0 0 0 0 0 65\n4 1 0 0 0 0 64\n5 0 0 0 0 0 64\n6 0 0 0 0 0 64\n7 0 0 0 0 0 64\n8 0 0 -1 1 0 64\n9 0 0 0 0 0 64 65:13\n10 0 0 0 0 0 64\n11 0 0 0 0 0 64\n12 0 0 0 0 0 65\n"
     ∷ []
 
 -- a number's four bytes, least first
