@@ -1,18 +1,44 @@
 -- What a call leaves alone: only sem_create, sem_delete, sem_claim and sem_release change semaphores, and only pool_create,
--- pool_delete, pool_get_buff and pool_ret_buff change pools. By the deeds.
+-- pool_delete, pool_get_buff and pool_ret_buff change pools. A part of the state, by the deeds that may touch it.
 -- Assumes nothing.
 use Prim.Native.Nat.{ℕ}
-use mathlib.Core.Path.{_≡_, refl}
+use mathlib.Core.Path.{_≡_, refl, _∙_}
 use Rattle.scope.specs.declared.State.{State}
-use Rattle.scope.specs.declared.Answer.{Answer}
+use Rattle.scope.specs.declared.Line.{Line}
+use Rattle.scope.specs.declared.Tasks.{Tasks}
 use Rattle.scope.specs.declared.Semaphores.{Semaphores}
 use Rattle.scope.specs.declared.Pools.{Pools}
+use Rattle.scope.specs.declared.Answer.{Answer}
+use Rattle.scope.specs.Views.{withLine, withTasks, withSemaphores, withPools}
 use Rattle.scope.specs.Answers.{answer, plain, badState, wakesWith}
 use Rattle.scope.specs.Semaphores.{semDeleteAt}
 use Rattle.scope.specs.Ticks.{tick}
 use Rattle.histories.specs.History.{Event, answerTo}
 use Rattle.histories.proofs.Deeds.{SemChange, sem-created, unit-claimed, unit-released, PoolChange, pool-created, pool-deleted, buffer-got, buffer-returned}
 use Rattle.histories.proofs.Deeds.{Deed, refused, tells, tasks-change, task-moves, sems-change, pools-change, caller-waits, first-woken, sem-deleted, time-passes, by-deed}
+
+-- a part of the state that depends neither on the tasks' table nor on who stands where, and that the tables' changes spare
+module _ {A : Type 0} (part : State → A) (s : State) (x : Event) (tasks : (r : State) (k : Tasks) → part (withTasks r k) ≡ part r)
+    (lines : (r : State) (l : Line) → part (withLine r l) ≡ part r)
+    (sems : (m : Semaphores) (v : ℕ) → SemChange s x m v → part (withSemaphores s m) ≡ part s)
+    (gone : x .call ≡ 9 → (m : Semaphores) → part (withSemaphores s m) ≡ part s)
+    (pools : (p : Pools) (v : ℕ) → PoolChange s x p v → part (withPools s p) ≡ part s) where
+  deed-spares : {a : Answer} → Deed s x a → part (a .state) ≡ part s
+  unfolding plain answer wakesWith semDeleteAt tick
+  deed-spares (refused status e f listed) = refl
+  deed-spares (tells call at e v0 v1 v2 v3 negative) = refl
+  deed-spares (tasks-change c) = tasks s _
+  deed-spares (task-moves {k} c) = lines (withTasks s k) _ ∙ tasks s k
+  deed-spares (sems-change c) = sems _ _ c
+  deed-spares (pools-change c) = pools _ _ c
+  deed-spares (caller-waits at i e f g) = lines s _
+  deed-spares (first-woken at i e f) = lines s _
+  deed-spares (sem-deleted at i e) = lines (withSemaphores s _) _ ∙ gone at _
+  deed-spares (time-passes at) = lines s _
+
+  pub spared : part (answerTo s x .state) ≡ part s
+  unfolding badState
+  spared = by-deed s x (λ a. part (a .state) ≡ part s) (λ a d. deed-spares d) (λ h. refl)
 
 module _ (s : State) where
   abbrev pub SameSemaphores : Answer → Type 0
@@ -37,30 +63,12 @@ module _ (s : State) where
     not-pools (buffer-got at i e f) n = n .2 at
     not-pools (buffer-returned at i e f) n = n .3 at
 
-    abbrev Alone : Answer → Type 0
-    Alone a = (Spared x 8 9 11 12 → SameSemaphores a) × (Spared x 14 15 17 18 → SamePools a)
-
-    by-kind : {a : Answer} → Deed s x a → Alone a
-    unfolding plain answer wakesWith semDeleteAt tick
-    by-kind (refused status e f listed) = (λ n. refl, λ n. refl)
-    by-kind (tells call at e v0 v1 v2 v3 negative) = (λ n. refl, λ n. refl)
-    by-kind (tasks-change c) = (λ n. refl, λ n. refl)
-    by-kind (task-moves c) = (λ n. refl, λ n. refl)
-    by-kind (sems-change c) = (λ n. absurd (not-sems c n), λ n. refl)
-    by-kind (pools-change c) = (λ n. refl, λ n. absurd (not-pools c n))
-    by-kind (caller-waits at i e f g) = (λ n. refl, λ n. refl)
-    by-kind (first-woken at i e f) = (λ n. refl, λ n. refl)
-    by-kind (sem-deleted at i e) = (λ n. absurd (n .1 at), λ n. refl)
-    by-kind (time-passes at) = (λ n. refl, λ n. refl)
-
-    alone : Alone (answerTo s x)
-    unfolding badState
-    alone = by-deed s x Alone (λ a d. by-kind d) (λ h. (λ n. refl, λ n. refl))
-
     -- only sem_create, sem_delete, sem_claim and sem_release change semaphores
     pub semaphores-alone : Spared x 8 9 11 12 → SameSemaphores (answerTo s x)
-    semaphores-alone = alone .0
+    semaphores-alone n =
+        spared (λ r. r .semaphores) s x (λ r k. refl) (λ r l. refl) (λ m v c. absurd (not-sems c n)) (λ at m. absurd (n .1 at)) (λ p v c. refl)
 
     -- only pool_create, pool_delete, pool_get_buff and pool_ret_buff change pools
     pub pools-alone : Spared x 14 15 17 18 → SamePools (answerTo s x)
-    pools-alone = alone .1
+    pools-alone n =
+        spared (λ r. r .pools) s x (λ r k. refl) (λ r l. refl) (λ m v c. refl) (λ at m. refl) (λ p v c. absurd (not-pools c n))
