@@ -79,8 +79,8 @@ cases =
     -- is given back, and it is ready when resumed
     ∷ case 5
     (call 8 (7 ∷ 0 ∷ 0 ∷ []) ∷ call 1 (9 ∷ 8 ∷ []) ∷ call 4 (65 ∷ []) ∷ call 11 (64 ∷ 0 ∷ 3 ∷ []) ∷ interrupt 0 []
-    ∷ call 5 (65 ∷ []) ∷ interrupt 0 [] ∷ call 13 (64 ∷ []) ∷ interrupt 0 [] ∷ call 13 (64 ∷ []) ∷ interrupt 0 [] ∷ call 6 (65 ∷ []) ∷ [])
-    "1 0 64 0 0 0 64\n2 0 65 0 0 0 64\n3 0 0 0 0 0 65\n4 1 0 0 0 0 64\n5 0 0 0 0 0 64\n6 0 0 0 0 0 64\n7 0 0 0 0 0 64\n8 0 0 -1 1 0 64\n9 0 0 0 0 0 64 65:13\n10 0 0 0 0 0 64\n11 0 0 0 0 0 64\n12 0 0 0 0 0 65\n"
+    ∷ call 5 (65 ∷ []) ∷ interrupt 0 [] ∷ call 13 (64 ∷ []) ∷ interrupt 0 [] ∷ call 13 (64 ∷ []) ∷ call 6 (65 ∷ []) ∷ [])
+    "1 0 64 0 0 0 64\n2 0 65 0 0 0 64\n3 0 0 0 0 0 65\n4 1 0 0 0 0 64\n5 0 0 0 0 0 64\n6 0 0 0 0 0 64\n7 0 0 0 0 0 64\n8 0 0 -1 1 0 64\n9 0 0 0 0 0 64 65:13\n10 0 0 0 0 0 64\n11 0 0 0 0 0 65\n"
     ∷ []
 
 -- a number's four bytes, least first
