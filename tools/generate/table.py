@@ -6,6 +6,8 @@ TABLES = [
     ('Q', 'Semaphores', 'semaphores', 16, [('name', 4), ('serial', 2), ('units', 2), ('live', 0), ('fifo', 0)]),
     ('P', 'Pools', 'pools', 8, [('out', 8), ('name', 4), ('address', 4), ('length', 4), ('size', 4), ('serial', 2), ('live', 0), ('forced', 0)]),
 ]
+# A column that does not have one place for each slot: table, column, length.
+LENGTHS = {}
 # name, what the promise is stated with, what is lent in order (table, 'mut' or 'shr', columns or None for all), what it requires
 WAKING = ['serial', 'suspended', 'priority']
 CHAPTERS = [
@@ -33,9 +35,9 @@ def layout():
         end = up(al, end)
         at[g] = end
         e = 0
-        for _, w in cs:
+        for c, w in cs:
             w = max(w, 1)
-            e = up(w, e) + w * n
+            e = up(w, e) + w * LENGTHS.get((g, c), n)
         end += up(al, e)
     at['running'] = up(8, end)
     return at
