@@ -1,14 +1,15 @@
--- A mask made from its last bit down, and what its trailing zeros say: the first that passes, by one step a bit.
+-- A mask made bit by bit, and what its trailing zeros say: the first that passes, by one step a bit.
 -- Assumes nothing.
-use Prim.Native.Nat.{ℕ, zero, suc, _+_, _*_, _-_, _^_, _≤_, _<_}
+use Prim.Native.Nat.{ℕ, zero, suc, _+_, _*_, _%_, _^_, _≤_, _<_}
 use native.Mathlib.Omega.{arith}
-use native.Mathlib.Nat.{pow-suc, le-of-suc-le-suc, not-suc-le-zero, eq-or-lt-of-le}
+use native.Mathlib.Nat.{pow-suc, mul-assoc, mod-eq-of-lt, le-of-suc-le-suc, not-suc-le-zero, eq-or-lt-of-le}
 use mathlib.Core.Path.{_≡_, refl, sym, subst, ap, _∙_}
 use mathlib.Core.Logic.{⊎-elim}
 use mathlib.Core.Bool.{Bool, true, false, not}
 use mathlib.Core.List.{List}
 use lib.ListN.{getD}
 use lib.Arith.{digits-mod, digits-div}
+use lib.Bits.{bitOr, or-shifted-r}
 use lib.Count.{trailingZeros}
 use lib.Pow.{pow-mono}
 use borrow.Author.Tests.{lt-ltb, le-ltb}
@@ -25,40 +26,37 @@ module _ (p : ℕ → Bool) where
   bit-no : (k : ℕ) → p k ≡ false → bitAt p k ≡ 0
   bit-no k e = picked-no {A = ℕ} (p k) 1 0 e
 
-  pub bit-lt : (k : ℕ) → bitAt p k < 2
+  bit-lt : (k : ℕ) → bitAt p k < 2
   bit-lt k = ⊎-elim (λ e. omega (arith, bit-yes k e)) (λ e. omega (arith, bit-no k e)) (true-or-false (p k))
 
-  pub mask-lt : (n k : ℕ) → maskFrom p k n < 2 ^ n
+  mask-lt : (n k : ℕ) → maskFrom p k n < 2 ^ n
   unfolding maskFrom
   mask-lt zero k = omega arith
   mask-lt (suc n) k = omega (arith, mask-lt n (suc k), bit-lt k, pow-suc 2 n)
 
-  -- before the first turn of the loop, and after the last
-  pub mask-start : (k n : ℕ) → 0 ≡ maskFrom p (k + n) (n - n)
+  -- one more, above the others
+  mask-more : (n k : ℕ) → bitAt p (k + n) * 2 ^ n + maskFrom p k n ≡ maskFrom p k (suc n)
   unfolding maskFrom
-  mask-start k n = let e : n - n ≡ 0 = omega arith in rw e
+  mask-more zero k = let e : k + 0 ≡ k = omega arith in rw e (omega arith)
+  mask-more (suc n) k =
+      let e : suc k + n ≡ k + suc n = omega arith in
+      let m : bitAt p (k + suc n) * 2 ^ n + maskFrom p (suc k) n ≡ maskFrom p (suc k) (suc n) =
+      subst (λ (v : ℕ). bitAt p v * 2 ^ n + maskFrom p (suc k) n ≡ maskFrom p (suc k) (suc n)) e (mask-more n (suc k)) in
+      let d : bitAt p (k + suc n) * 2 ^ suc n ≡ bitAt p (k + suc n) * 2 ^ n * 2 =
+      ap (λ (x : ℕ). bitAt p (k + suc n) * x) (pow-suc 2 n) ∙ sym (mul-assoc (bitAt p (k + suc n)) (2 ^ n) 2) in
+      omega (arith, m, d)
 
-  pub mask-end : (k n i : ℕ) → i ≡ 0 → maskFrom p (k + i) (n - i) ≡ maskFrom p k n
-  mask-end k n i z =
-      let a : k + i ≡ k = omega arith in
-      let b : n - i ≡ n = omega arith in
-      rw (a, b)
+  bit-fits : (k n : ℕ) → n < 16 → bitAt p k * 2 ^ n < 65536
+  bit-fits k n h =
+      let l : 2 ^ n ≤ 2 ^ 15 = pow-mono {j = 15} (omega arith) in
+      ⊎-elim (λ e. rw (bit-yes k e) (omega (arith, l))) (λ e. rw (bit-no k e) (omega arith)) (true-or-false (p k))
 
-  -- one more, in front
-  pub mask-more : (n k i m b : ℕ) → 0 < i → i ≤ n → m ≡ maskFrom p (k + i) (n - i) → b ≡ bitAt p (k + (i - 1))
-      → m * 2 + b ≡ maskFrom p (k + (i - 1)) (n - (i - 1))
-  unfolding maskFrom
-  mask-more n k i m b pos le d e =
-      let x : n - (i - 1) ≡ suc (n - i) = omega arith in
-      let y : k + i ≡ suc (k + (i - 1)) = omega arith in
-      rw (x, d, e, y)
-
-  -- there is room for one bit more
-  pub mask-room : (n k i : ℕ) → 0 < i → i ≤ n → n ≤ 64 → maskFrom p (k + i) (n - i) * 2 + 1 < 2 ^ 64
-  mask-room n k i pos le small =
-      let q : n - i ≤ 63 = omega arith in
-      let m : 2 ^ (n - i) ≤ 2 ^ 63 = pow-mono {j = 63} q in
-      omega (arith, mask-lt (n - i) (k + i), m)
+  -- as the loop adds it: shifted to its place in a word of sixteen bits
+  pub mask-or : (n k m b : ℕ) → n < 16 → m ≡ maskFrom p k n → b ≡ bitAt p (k + n)
+      → bitOr m (b * 2 ^ n % 65536) ≡ maskFrom p k (n + 1)
+  mask-or n k m b h d e =
+      let t : n + 1 ≡ suc n = omega arith in
+      rw (d, e, t, mod-eq-of-lt (bit-fits (k + n) n h)) (or-shifted-r (bitAt p (k + n)) n (maskFrom p k n) (mask-lt n k) ∙ mask-more n k)
 
   -- a mask of nothing
   pub mask-none : (n k : ℕ) → maskFrom p k n ≡ 0 → (j : ℕ) → k ≤ j → j < k + n → p j ≡ false
@@ -114,10 +112,10 @@ module _ (p : ℕ → Bool) where
 -- a look at the n slots from `base` on, where none before them passes
 module _ (p : ℕ → Bool) (base n m : ℕ) (before : (j : ℕ) → j < base → p j ≡ false) (is : m ≡ maskFrom p base n) where
   -- finds the first that does
-  pub look-hit : (len : ℕ) → base + n ≤ len → n ≤ 64 → (m ≡ 0 → ⊥) → base + trailingZeros 64 m ≡ least p len
+  pub look-hit : (len : ℕ) → base + n ≤ len → n ≤ 16 → (m ≡ 0 → ⊥) → base + trailingZeros 16 m ≡ least p len
   look-hit len within small some =
-      let f : First p n base (trailingZeros 64 (maskFrom p base n)) = mask-first p 64 n base small (λ z. some (is ∙ z)) in
-      let g : First p n base (trailingZeros 64 m) = subst (λ (v : ℕ). First p n base (trailingZeros 64 v)) (sym is) f in
+      let f : First p n base (trailingZeros 16 (maskFrom p base n)) = mask-first p 16 n base small (λ z. some (is ∙ z)) in
+      let g : First p n base (trailingZeros 16 m) = subst (λ (v : ℕ). First p n base (trailingZeros 16 v)) (sym is) f in
       least-hit p (omega (arith, g .below))
       (λ j h. ⊎-elim (before j) (λ l. g .none j l h) (lt-or-le j base))
       (g .passes)

@@ -50,7 +50,7 @@ pub fn find<'a>(serial: &'a [u16], live: &'a [bool], id: u32) -> Found
 }
 
 // 1 where the slot is free and has a serial left, else 0.
-fn usable_bit<'a>(serial: &'a [u16], live: &'a [bool], k: usize) -> u64
+fn usable_bit<'a>(serial: &'a [u16], live: &'a [bool], k: usize) -> u16
     requires { do ⌜ k < (← ⟦serial.len()⟧) ⌝ }
     ensures { λ r. ⌜ r ≡ bitAt (usable (now (serial .entry)) (now (live .entry))) k ⌝ }
 {
@@ -63,32 +63,32 @@ fn usable_bit<'a>(serial: &'a [u16], live: &'a [bool], k: usize) -> u64
     0
 }
 
-// How many of so many slots one look sees.
+// How many of so many slots one look sees: sixteen, as many as the compiler makes a mask of without a branch.
 fn seen(slots: usize) -> usize
-    ensures { λ r. ⌜ (r ≤ slots) × (r ≤ 64) × (0 < slots → 0 < r) ⌝ }
+    ensures { λ r. ⌜ (r ≤ slots) × (r ≤ 16) × (0 < slots → 0 < r) ⌝ }
 {
-    if slots < 64 {
+    if slots < 16 {
         return slots;
     }
-    64
+    16
 }
 
 // The usable ones of the n slots from `base` on, as a mask: bit i for slot base + i.
-fn usable_mask<'a>(serial: &'a [u16], live: &'a [bool], base: usize, n: usize) -> u64
-    requires { ⌜ (base + n ≤ length (now serial)) × (n ≤ 64) ⌝ }
+fn usable_mask<'a>(serial: &'a [u16], live: &'a [bool], base: usize, n: usize) -> u16
+    requires { ⌜ (base + n ≤ length (now serial)) × (n ≤ 16) ⌝ }
     ensures { λ r. ⌜ r ≡ maskFrom (usable (now (serial .entry)) (now (live .entry))) base n ⌝ }
 {
     let mut mask = 0;
-    let mut i = n;
-    while 0 < i {
-        i -= 1;
-        mask = mask * 2 + usable_bit(serial, live, base + i);
+    let mut i = 0;
+    while i < n {
+        mask = mask | (usable_bit(serial, live, base + i) << i);
+        i += 1;
     }
     mask
 }
 
 // The lowest slot that is free and has a serial left, or the table's size where there is none: the trailing zeros of a mask made
-// here. One look sees 64 slots, which is more than any table has; a longer one would take another look.
+// here. A table of more than sixteen slots takes another look where the first finds none.
 pub fn lowest_usable<'a>(serial: &'a [u16], live: &'a [bool]) -> usize
     ensures { λ r. ⌜ r ≡ lowestUsable (now (serial .entry)) (now (live .entry)) ⌝ }
 {
@@ -97,7 +97,7 @@ pub fn lowest_usable<'a>(serial: &'a [u16], live: &'a [bool]) -> usize
         let n = seen(serial.len() - base);
         let mask = usable_mask(serial, live, base, n);
         if mask != 0 {
-            return base + (u64::trailing_zeros(mask) as usize);
+            return base + (u16::trailing_zeros(mask) as usize);
         }
         base += n;
     }

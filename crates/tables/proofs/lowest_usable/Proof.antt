@@ -34,10 +34,10 @@ usable-mask-requires : tie.Need-usable-mask-requires Inv-loop μ-loop
 usable-mask-requires c κs = (omega (arith, c .seen .ensures .0, c .before .loop-test .taken), c .seen .ensures .1)
 
 cast-result : tie.Need-cast-result Inv-loop μ-loop
-cast-result c = omega (arith, trailing-le 64 (c .before .usable-mask .result))
+cast-result c = omega (arith, trailing-le 16 (c .before .usable-mask .result))
 
 add-result : tie.Need-add-result Inv-loop μ-loop
-add-result c = omega (arith, trailing-le 64 (c .before .usable-mask .result), c .before .before .before .before .loop .inv .0)
+add-result c = omega (arith, trailing-le 16 (c .before .usable-mask .result), c .before .before .before .before .loop .inv .0)
 
 returns : tie.Need-returns Inv-loop μ-loop
 unfolding lowestUsable
