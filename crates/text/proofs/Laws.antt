@@ -1,7 +1,7 @@
 -- Decimal digits, what stands in a list after bytes are put one behind the other, and the length of a line.
 -- Idea: a put from `at` to `r` says only what `take r` is, so two puts in a row are one put of both texts.
 -- Assumes nothing.
-use mathlib.Core.Path.{_≡_, refl, sym, ap, _∙_}
+use mathlib.Core.Path.{_≡_, refl, sym, ap, subst, _∙_}
 use mathlib.Core.Bool.{Bool, true, false}
 use mathlib.Core.Logic.{⊎-elim}
 use mathlib.Core.List.{List, [], _∷_, _++_, append-nil, append-assoc}
@@ -16,6 +16,7 @@ use Rattle.scope.specs.declared.Answer.{Answer}
 use Rattle.scope.specs.Choice.{pick}
 use Rattle.scope.specs.Replies.{wakesFrom, replyOf}
 use Rattle.scope.specs.Listing.{digits, decimal, signed, field, wakeFields, lineOf}
+use Rattle.text.specs.Lines.{lastTwo}
 use Rattle.laws.proofs.Branches.{lt-or-le}
 
 -- the first digit decides
@@ -72,9 +73,29 @@ field-length n = omega (arith, decimal-length n)
 pub signed-field-length : (negative : Bool) (n : ℕ) → length (field (signed negative n)) ≤ 12
 signed-field-length negative n = omega (arith, signed-length negative n)
 
--- the digits and one more
-pub more-length : (n : ℕ) → n < 2 ^ 32 → 10 ≤ n → length (decimal n) ≡ length (decimal (n / 10)) + 1
-more-length n h l = ap length (decimal-more n h l) ∙ length-append (decimal (n / 10)) ((48 + n % 10) ∷ [])
+-- a number of two digits, and the last two of a longer one
+pub decimal-two : (n : ℕ) → 10 ≤ n → n < 100 → decimal n ≡ lastTwo n
+decimal-two n l h =
+    let a : n / 10 < 10 = omega arith in
+    let b : n / 10 % 10 ≡ n / 10 = omega arith in
+    decimal-more n (omega arith) l
+    ∙ ap (λ (ds : List ℕ). ds ++ ((48 + n % 10) ∷ [])) (decimal-small (n / 10) a)
+    ∙ ap (λ (d : ℕ). (48 + d) ∷ (48 + n % 10) ∷ []) (sym b)
+
+pub decimal-hundreds : (n : ℕ) → n < 2 ^ 32 → 100 ≤ n → decimal n ≡ decimal (n / 100) ++ lastTwo n
+decimal-hundreds n h l =
+    let a : 10 ≤ n / 10 = omega arith in
+    let b : n / 10 / 10 ≡ n / 100 = omega arith in
+    decimal-more n h (omega arith)
+    ∙ ap (λ (ds : List ℕ). ds ++ ((48 + n % 10) ∷ [])) (decimal-more (n / 10) (omega arith) a)
+    ∙ append-assoc (decimal (n / 10 / 10)) ((48 + n / 10 % 10) ∷ []) ((48 + n % 10) ∷ [])
+    ∙ ap (λ (m : ℕ). decimal m ++ lastTwo n) b
+
+pub two-length : (n : ℕ) → 10 ≤ n → n < 100 → length (decimal n) ≡ 2
+two-length n l h = ap length (decimal-two n l h)
+
+pub hundreds-length : (n : ℕ) → n < 2 ^ 32 → 100 ≤ n → length (decimal n) ≡ length (decimal (n / 100)) + 2
+hundreds-length n h l = ap length (decimal-hundreds n h l) ∙ length-append (decimal (n / 100)) (lastTwo n)
 
 -- the text ds stands in `out` from `at` to `r`, behind what `before` had there
 abbrev pub Put : List ℕ → List ℕ → ℕ → ℕ → List ℕ → Type 0
@@ -95,15 +116,20 @@ put-then x y z at k r c d p q = (
   q .1 ∙ ap (λ (l : List ℕ). l ++ d) (p .1) ∙ append-assoc (take at x) c d,
 )
 
+-- the same text under another name
+pub put-as : (x y : List ℕ) (at r : ℕ) {c d : List ℕ} → c ≡ d → Put x y at r c → Put x y at r d
+put-as x y at r e p = subst (Put x y at r) e p
+
+-- signs of digits, as a number's digits
+pub one-sign : (n b : ℕ) → n < 10 → b ≡ 48 + n % 10 → b ∷ [] ≡ decimal n
+one-sign n b h e = let m : n % 10 ≡ n = omega arith in rw (e, m, decimal-small n h)
+
+pub two-signs : (n a b : ℕ) → a ≡ 48 + n / 10 % 10 → b ≡ 48 + n % 10 → a ∷ b ∷ [] ≡ lastTwo n
+two-signs n a b d e = rw (d, e)
+
 -- what room a put of at most m bytes leaves
 pub room-after : (m rest at k n o d : ℕ) → k ≡ at + d → d ≤ m → o ≡ n → at + (m + rest) ≤ n → k + rest ≤ o
 room-after m rest at k n o d e l q h = omega arith
-
--- the digits before the last, and the last
-pub put-last : (x y : List ℕ) (at k n : ℕ) → n < 2 ^ 32 → 10 ≤ n → k + 1 ≤ length y → Put x y at k (decimal (n / 10))
-    → Put x (set y k (48 + n % 10)) at (k + 1) (decimal n)
-put-last x y at k n h l b p =
-    rw (decimal-more n h l) (put-then x y (set y k (48 + n % 10)) at k (k + 1) (decimal (n / 10)) ((48 + n % 10) ∷ []) p (put-one y k (48 + n % 10) b))
 
 -- a text copied byte by byte: one byte more, and the whole
 pub paste-more : (x y t : List ℕ) (at k : ℕ) → at + length t ≤ length x → k < length t → y ≡ paste x at t k

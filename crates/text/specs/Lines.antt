@@ -1,9 +1,13 @@
--- What a line tells, put together from an outcome, the wake list and the running task: no line tells more of the state.
+-- A number's last digits, and what a line tells, put together from an outcome, the wake list and the running task: no line tells more of the state.
 -- Assumes nothing.
-use Prim.Native.Nat.{ℕ}
-use mathlib.Core.List.{List}
+use Prim.Native.Nat.{ℕ, _+_, _/_, _%_}
+use mathlib.Core.List.{List, [], _∷_}
 use Rattle.scope.specs.Replies.{Reply, wakesFrom}
 use Rattle.answers.specs.declared.Outcome.{Outcome}
+
+-- the last two digits of a number, which are all of one from 10 to 99
+abbrev pub lastTwo : ℕ → List ℕ
+lastTwo n = (48 + n / 10 % 10) ∷ (48 + n % 10) ∷ []
 
 abbrev pub replyBy : List ℕ → Outcome → ℕ → Reply
 replyBy wakes o running =

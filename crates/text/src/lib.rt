@@ -3,11 +3,11 @@ use answers::Outcome;
 ghost use mathlib.Core.Path.{_≡_};
 ghost use mathlib.Core.Bool.{false};
 ghost use mathlib.Core.List.{[], _∷_, _++_};
-ghost use Prim.Native.Nat.{_+_, _*_, _≤_, _<_};
+ghost use Prim.Native.Nat.{_+_, _*_, _%_, _≤_, _<_};
 ghost use lib.ListN.{length, take};
 ghost use Rattle.scope.specs.Script.{number32, isScript};
 ghost use Rattle.text.specs.Records.{recordAt};
-ghost use Rattle.text.specs.Lines.{replyBy};
+ghost use Rattle.text.specs.Lines.{lastTwo, replyBy};
 ghost use Rattle.scope.specs.Replies.{wakesFrom};
 ghost use Rattle.scope.specs.Listing.{decimal, signed, field, wakeFields, lineOf, refusedLine};
 
@@ -76,19 +76,11 @@ pub fn is_script(s: &[u8]) -> bool
     read_number(s, 12) == 0
 }
 
-// Puts the number's decimal digits at a place, and answers the place after them.
-pub fn put_decimal(out: &mut [u8], at: usize, n: u32) -> usize
-    requires { ⌜ at + length (decimal n) ≤ length (now out) ⌝ }
-    ensures { λ r. ⌜ (r ≡ at + length (decimal n)) × (take r (now (out .exit)) ≡ take at (now (out .entry)) ++ decimal n) ⌝ }
+// A number's last digit, as a sign.
+fn last_digit(n: u32) -> u8
+    ensures { λ r. ⌜ r ≡ 48 + n % 10 ⌝ }
 {
-    if n < 10 {
-        out[at] = (48 + n) as u8;
-        at + 1
-    } else {
-        let k = put_decimal(out, at, n / 10);
-        out[k] = (48 + n % 10) as u8;
-        k + 1
-    }
+    (48 + n % 10) as u8
 }
 
 // Puts one byte at a place, and answers the place after it.
@@ -98,6 +90,50 @@ fn put_byte(out: &mut [u8], at: usize, b: u8) -> usize
 {
     out[at] = b;
     at + 1
+}
+
+// The same for the last two digits of a number.
+fn put_two(out: &mut [u8], at: usize, n: u32) -> usize
+    requires { ⌜ at + 2 ≤ length (now out) ⌝ }
+    ensures { λ r. ⌜ (r ≡ at + length (lastTwo n)) × (take r (now (out .exit)) ≡ take at (now (out .entry)) ++ lastTwo n) ⌝ }
+{
+    let k = put_byte(out, at, last_digit(n / 10));
+    put_byte(out, k, last_digit(n))
+}
+
+// The same for a number of two or three digits.
+fn put_few(out: &mut [u8], at: usize, n: u32) -> usize
+    requires { ⌜ (10 ≤ n) × (n < 1000) × (at + length (decimal n) ≤ length (now out)) ⌝ }
+    ensures { λ r. ⌜ (r ≡ at + length (decimal n)) × (take r (now (out .exit)) ≡ take at (now (out .entry)) ++ decimal n) ⌝ }
+{
+    if n < 100 {
+        return put_two(out, at, n);
+    }
+    let k = put_byte(out, at, last_digit(n / 100));
+    put_two(out, k, n)
+}
+
+// The same for a number of two digits or more: two at a time behind the first.
+fn put_digits(out: &mut [u8], at: usize, n: u32) -> usize
+    requires { ⌜ (10 ≤ n) × (at + length (decimal n) ≤ length (now out)) ⌝ }
+    ensures { λ r. ⌜ (r ≡ at + length (decimal n)) × (take r (now (out .exit)) ≡ take at (now (out .entry)) ++ decimal n) ⌝ }
+{
+    if n < 1000 {
+        return put_few(out, at, n);
+    }
+    let k = put_digits(out, at, n / 100);
+    put_two(out, k, n)
+}
+
+// The same for a number's decimal digits. Most numbers of a listing have one: those take no call.
+pub fn put_decimal(out: &mut [u8], at: usize, n: u32) -> usize
+    requires { ⌜ at + length (decimal n) ≤ length (now out) ⌝ }
+    ensures { λ r. ⌜ (r ≡ at + length (decimal n)) × (take r (now (out .exit)) ≡ take at (now (out .entry)) ++ decimal n) ⌝ }
+{
+    if n < 10 {
+        return put_byte(out, at, last_digit(n));
+    }
+    put_digits(out, at, n)
 }
 
 // The same for a space and a number.
