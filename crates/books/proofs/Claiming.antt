@@ -15,6 +15,7 @@ use Rattle.scope.specs.Statuses.{OK, PENDING}
 use Rattle.scope.specs.Identifiers.{identifier}
 use Rattle.scope.specs.Seats.{queueSeats, standing, leaves, joins}
 use Rattle.scope.specs.Lists.{has}
+use Rattle.scope.specs.Objects.{objectsOf}
 use Rattle.scope.specs.Views.{withLine}
 use Rattle.scope.specs.Waiting.{waits}
 use Rattle.scope.proofs.Seats.{ahead-from}
@@ -167,7 +168,7 @@ module _ (s : State) (ok : Sound s) (r i : ℕ) (room : r < 32) (hi : i < 16) (r
   q = s .line .seat
 
   good : Good q
-  good = record { queues = ok .line .queues; low = seats-low (s .line) (s .tasks) (s .semaphores) (ok .line) }
+  good = record { queues = ok .line .queues; low = seats-low (s .line) (s .tasks) (objectsOf s) (ok .line) }
 
   pub claim-stays : (j : ℕ) → j < 16 → (t : ℕ) → WaitsFor s j t → (t ≡ r → ⊥) × WaitsFor (withLine s after) j t
   unfolding waits

@@ -16,6 +16,7 @@ use Rattle.scope.specs.Choice.{pick}
 use Rattle.scope.specs.Statuses.{OK, PENDING}
 use Rattle.scope.specs.Identifiers.{identifier}
 use Rattle.scope.specs.Lists.{has}
+use Rattle.scope.specs.Objects.{objectsEnd, objectsOf}
 use Rattle.scope.specs.Views.{runningTask}
 use Rattle.scope.specs.Answers.{answer, plain, badState, wakesWith}
 use Rattle.scope.specs.Waiting.{FOREVER, isTimeOut, noneWoken}
@@ -51,14 +52,14 @@ pub record Clocked (s : State) (past : List Turn) : Type 0 where
       → Runs (timeOutOf past (taskId s t)) (ticksSince past (taskId s t)) (getD (s .line .left) t 0)
 
 -- a waiter of a sound state has a time_out left, and its identifier is not 0
-module _ (s : State) (ok : Sound s) (i : ℕ) (h : i < 16) (t : ℕ) (w : WaitsFor s i t) where
+module _ (s : State) (ok : Sound s) (i : ℕ) (h : i < objectsEnd) (t : ℕ) (w : WaitsFor s i t) where
   room : t < 32
   room = waits-room s (ok .line .queues) i t w
 
   has-time : isTimeOut (getD (s .line .left) t 0) ≡ true
   has-time =
-      let v : (v : Waits (s .line) (s .tasks) (s .semaphores) t) × (v .on ≡ i) =
-      queue-waits (s .line) (s .tasks) (s .semaphores) (ok .line) t room i h w in v .0 .time
+      let v : (v : Waits (s .line) (s .tasks) (objectsOf s) t) × (v .on ≡ i) =
+      queue-waits (s .line) (s .tasks) (objectsOf s) (ok .line) t room i h w in v .0 .time
 
   pub some-left : getD (s .line .left) t 0 ≡ 0 → ⊥
   some-left = never-zero (getD (s .line .left) t 0) has-time
@@ -76,14 +77,14 @@ module _ (s : State) (ok : Sound s) where
       (λ b. absurd (ne (sym e ∙ picked-no _ _ _ b)))
       (true-or-false (ltb (s .running) 32))
 
-  runner-waits-not : (i : ℕ) → i < 16 → (t : ℕ) → WaitsFor s i t → t ≡ s .running → ⊥
+  runner-waits-not : (i : ℕ) → i < objectsEnd → (t : ℕ) → WaitsFor s i t → t ≡ s .running → ⊥
   runner-waits-not i h t w e =
       let hr : t < 32 = waits-room s (ok .line .queues) i t w in
       let ready : Ready (s .line) (s .tasks) (s .running) = runs-ready s ok (omega arith) in
       let z : WaitsFor s i (s .running) = subst (λ (v : ℕ). WaitsFor s i v) e w in omega (arith, z .1, ready .stands .0)
 
   -- so a waiter's identifier is not the running task's
-  waiter-other : (i : ℕ) → i < 16 → (t : ℕ) → WaitsFor s i t → runningTask s ≡ taskId s t → ⊥
+  waiter-other : (i : ℕ) → i < objectsEnd → (t : ℕ) → WaitsFor s i t → runningTask s ≡ taskId s t → ⊥
   waiter-other i h t w e =
       let r = running-is (taskId s t) e (some-name s ok i h t w) in
       runner-waits-not i h t w (apart-slots _ _ t (s .running) (omega (arith, room s ok i h t w)) (omega (arith, r .0)) (r .1))
@@ -104,7 +105,7 @@ module _ (p : ℕ) (s : State) (ok : Sound s) (s2 : State) (ok2 : Sound s2) (y :
   stood b =
       let v : Waiter s id z = ag .waiters .off id z b in
       let here : v .task < 32 = waits-room s (ok .line .queues) (v .slot) (v .task) (v .waits) in
-      let d : v .task ≡ t = apart-slots _ _ (v .task) t (omega (arith, here)) (omega (arith, room s2 ok2 i h t w)) (sym (v .who)) in (
+      let d : v .task ≡ t = apart-slots _ _ (v .task) t (omega (arith, here)) (omega (arith, room s2 ok2 i (omega arith) t w)) (sym (v .who)) in (
         v .slot,
         v .room,
         subst (λ (u : ℕ). WaitsFor s (v .slot) u) d (v .waits),
@@ -194,7 +195,7 @@ module _ (p : ℕ) (s : State) (ok : Sound s) (x : Event) (past : List Turn) (to
     Told = Runs (timeOutOf (y ∷ past) me) (ticksSince (y ∷ past) me) now
 
     left2 : now ≡ 0 → ⊥
-    left2 = some-left (a .state) sound2 i h t w
+    left2 = some-left (a .state) sound2 i (omega arith) t w
 
     -- it waited before
     module _ (j : ℕ) (hj : j < 16) (wj : WaitsFor s j t) (same : taskId s t ≡ me) where
@@ -202,7 +203,7 @@ module _ (p : ℕ) (s : State) (ok : Sound s) (x : Event) (past : List Turn) (to
       was = getD (s .line .left) t 0
 
       quiet : pends past me y ≡ false
-      quiet = pends-other y past me (λ e. waiter-other s ok j hj t wj (sym (ag .running) ∙ e ∙ sym same))
+      quiet = pends-other y past me (λ e. waiter-other s ok j (omega arith) t wj (sym (ag .running) ∙ e ∙ sym same))
 
       ran : Runs (timeOutOf past me) (ticksSince past me) was
       ran = subst (λ (v : ℕ). Runs (timeOutOf past v) (ticksSince past v) was) same (clock .runs j hj t wj)
@@ -221,7 +222,7 @@ module _ (p : ℕ) (s : State) (ok : Sound s) (x : Event) (past : List Turn) (to
           subst (λ (v : Answer). (getD (v .state .line .left) t 0 ≡ getD (ticked (s .line) .left) t 0) ⊎ (getD (v .state .line .left) t 0 ≡ 0)) (sym d)
           (tick-left s t) in
           ⊎-elim
-          (λ f. runs-less (timeOutOf past me) (ticksSince past me) was _ _ now ran (some-left s ok j hj t wj) asked
+          (λ f. runs-less (timeOutOf past me) (ticksSince past me) was _ _ now ran (some-left s ok j (omega arith) t wj) asked
           (ticks ∙ ap (λ (v : ℕ). v + ticksSince past me) (picked-yes (isAnswer 0 OK y) 1 0 e))
           (λ g. f ∙ forever-stays (s .line) t g) (λ g. f ∙ takes-one (s .line) t g))
           (λ f. absurd (left2 f))
@@ -232,7 +233,7 @@ module _ (p : ℕ) (s : State) (ok : Sound s) (x : Event) (past : List Turn) (to
           ⊎-elim
           (λ f. runs-on (timeOutOf past me) (ticksSince past me) was _ _ now ran asked
           (ticks ∙ ap (λ (v : ℕ). v + ticksSince past me) (picked-no (isAnswer 0 OK y) 1 0 e) ∙ omega arith) f)
-          (λ f. ⊎-elim (λ g. absurd (left2 g)) (λ g. absurd (runner-waits-not s ok j hj t wj (g .0))) f)
+          (λ f. ⊎-elim (λ g. absurd (left2 g)) (λ g. absurd (runner-waits-not s ok j (omega arith) t wj (g .0))) f)
           (event-lasts s ok x e .each t)
 
       stayed : Told
@@ -242,8 +243,8 @@ module _ (p : ℕ) (s : State) (ok : Sound s) (x : Event) (past : List Turn) (to
     arrived : isAnswer 11 PENDING y ≡ true → runningIn past ≡ me → Told
     arrived e r =
         let pend : pends past me y ≡ true = is-pending y past me e r in
-        let runs = running-is s ok me (sym (ag .running) ∙ r) (some-name (a .state) sound2 i h t w) in
-        let mine : t ≡ s .running = apart-slots _ _ t (s .running) (omega (arith, room (a .state) sound2 i h t w)) (omega (arith, runs .0)) (runs .1) in
+        let runs = running-is s ok me (sym (ag .running) ∙ r) (some-name (a .state) sound2 i (omega arith) t w) in
+        let mine : t ≡ s .running = apart-slots _ _ t (s .running) (omega (arith, room (a .state) sound2 i (omega arith) t w)) (omega (arith, runs .0)) (runs .1) in
         let other : isAnswer 0 OK y ≡ false = not-call y 0 OK (ap (λ (v : ℕ). eqb v 0) (answer-is y 11 PENDING e .0)) in
         let n : timeOutOf (y ∷ past) me ≡ x .c = picked-yes (pends past me y) _ _ pend in
         let k : ticksSince (y ∷ past) me ≡ 0 = picked-yes (pends past me y) 0 _ pend in
@@ -253,7 +254,7 @@ module _ (p : ℕ) (s : State) (ok : Sound s) (x : Event) (past : List Turn) (to
         (λ g. ⊎-elim
         (λ c. inl (n ∙ sym (g .1) ∙ c, c))
         (λ c. inr (omega (arith, n, k, g .1), omega (arith, n, g .1, c .1)))
-        (time-out-says now (has-time (a .state) sound2 i h t w)))
+        (time-out-says now (has-time (a .state) sound2 i (omega arith) t w)))
         f)
         (event-lasts s ok x other .each t)
 

@@ -19,6 +19,7 @@ use Rattle.scope.specs.Choice.{pick}
 use Rattle.scope.specs.Statuses.{OK, PENDING}
 use Rattle.scope.specs.Identifiers.{identifier, found}
 use Rattle.scope.specs.Seats.{queueSeats, waitsOn}
+use Rattle.scope.specs.Objects.{objectsEnd, objectsOf}
 use Rattle.scope.specs.Views.{runningTask}
 use Rattle.scope.specs.Answers.{wakesWith}
 use Rattle.scope.specs.Tasks.{taskFound}
@@ -45,15 +46,15 @@ pub record Steps (s : State) (x : Event) (a : Answer) : Type 0 where
       → Agrees p (a .state) (turnOf x a ∷ past) (arrives told (suc (length past)) s a)
 
 -- who waits is a live task
-pub waiter-live : (s : State) → Sound s → (i : ℕ) → i < 16 → (t : ℕ) → WaitsFor s i t → getD (s .tasks .live) t false ≡ true
+pub waiter-live : (s : State) → Sound s → (i : ℕ) → i < objectsEnd → (t : ℕ) → WaitsFor s i t → getD (s .tasks .live) t false ≡ true
 waiter-live s ok i h t w =
     let room : t < 32 = waits-room s (ok .line .queues) i t w in
-    let v : (w : Waits (s .line) (s .tasks) (s .semaphores) t) × (w .on ≡ i) =
-    queue-waits (s .line) (s .tasks) (s .semaphores) (ok .line) t room i h w in
+    let v : (w : Waits (s .line) (s .tasks) (objectsOf s) t) × (w .on ≡ i) =
+    queue-waits (s .line) (s .tasks) (objectsOf s) (ok .line) t room i h w in
     ⊎-elim (λ e. e) (λ e. absurd (true-false (v .0 .started) (ok .tasks .each t room .started e))) (true-or-false (getD (s .tasks .live) t false))
 
 -- and its seat tells
-pub waiter-seen : (q : List ℕ) (i : ℕ) → i < 16 → (t : ℕ) → In q (queueSeats i) t → waitsOn (getD q t 0) ≡ true
+pub waiter-seen : (q : List ℕ) (i : ℕ) → i < objectsEnd → (t : ℕ) → In q (queueSeats i) t → waitsOn (getD q t 0) ≡ true
 unfolding waitsOn
 waiter-seen q i h t w =
     both _ _ (lt-ltb 0 (getD q t 0) (omega (arith, w .0))) (lt-ltb (getD q t 0) 2048 (omega (arith, w .1)))
@@ -102,12 +103,12 @@ pub record SameSems (s : State) (a : Answer) : Type 0 where
 -- tasks leave queues, woken, and nobody joins one
 pub record Moves (s : State) (a : Answer) : Type 0 where
   pub fewer : Fewer (s .line) (a .state .line)
-  pub went : (i : ℕ) → i < 16 → (t : ℕ) → WaitsFor s i t → (WaitsFor (a .state) i t) ⊎ (wakes (wakeList a) (taskId s t) ≡ true)
-  pub gone : (i : ℕ) → i < 16 → (t : ℕ) → WaitsFor (a .state) i t → wakes (wakeList a) (taskId s t) ≡ false
+  pub went : (i : ℕ) → i < objectsEnd → (t : ℕ) → WaitsFor s i t → (WaitsFor (a .state) i t) ⊎ (wakes (wakeList a) (taskId s t) ≡ true)
+  pub gone : (i : ℕ) → i < objectsEnd → (t : ℕ) → WaitsFor (a .state) i t → wakes (wakeList a) (taskId s t) ≡ false
 
 -- nobody is woken, and who waits goes on waiting
 pub moves-none : (s : State) (a : Answer) → Fewer (s .line) (a .state .line)
-    → ((i : ℕ) → i < 16 → (t : ℕ) → WaitsFor s i t → WaitsFor (a .state) i t) → a .woken ≡ 0 → Moves s a
+    → ((i : ℕ) → i < objectsEnd → (t : ℕ) → WaitsFor s i t → WaitsFor (a .state) i t) → a .woken ≡ 0 → Moves s a
 moves-none s a fewer forth e =
     record {
       fewer = fewer;
@@ -189,8 +190,8 @@ module _ (s : State) (x : Event) (a : Answer) (mute : eqb (a .status) PENDING �
       → (p : ℕ) (past : List Turn) (told : Arrivals) → Agrees p s past told → Waiters p (a .state) (y ∷ past) told
   woken-waiters moves no2 shut task sem p past told ag =
       waiters-fewer p s (a .state) y past told (ag .waiters) (not-status y 11 PENDING mute) (moves .fewer)
-      (λ i h t w. ⊎-elim inl (λ e. inr (ends-woken past y (taskId s t) no2 ∙ e)) (moves .went i h t w))
-      (λ i h t w. ends-woken past y (taskId s t) no2 ∙ moves .gone i h t w)
+      (λ i h t w. ⊎-elim inl (λ e. inr (ends-woken past y (taskId s t) no2 ∙ e)) (moves .went i (omega arith) t w))
+      (λ i h t w. ends-woken past y (taskId s t) no2 ∙ moves .gone i (omega arith) t w)
       shut task sem
 
   same-task : SameTasks s a → (t : ℕ) → taskId (a .state) t ≡ taskId s t
@@ -226,7 +227,7 @@ module _ (s : State) (x : Event) (a : Answer) (mute : eqb (a .status) PENDING �
       → getD (a .state .tasks .serial) t 0 ≡ serial → getD (a .state .tasks .priority) t 0 ≡ x .b
       → ((u : ℕ) → (u ≡ t → ⊥) → (taskId (a .state) u ≡ taskId s u) × (getD (a .state .tasks .live) u false ≡ getD (s .tasks .live) u false)
       × (getD (a .state .tasks .priority) u 0 ≡ getD (s .tasks .priority) u 0))
-      → ((i : ℕ) → i < 16 → (u : ℕ) → WaitsFor (a .state) i u → u ≡ t → ⊥)
+      → ((i : ℕ) → i < objectsEnd → (u : ℕ) → WaitsFor (a .state) i u → u ≡ t → ⊥)
       → SameSems s a → Moves s a → Steps s x a
   create-steps at done t room serial new now urgent others out sems moves =
       by-parts
@@ -239,7 +240,7 @@ module _ (s : State) (x : Event) (a : Answer) (mute : eqb (a .status) PENDING �
       ∙ ap (priorityIn p past) (o .0) ∙ ag .priority u h (sym (o .1) ∙ live) ∙ sym (o .2))
       (eq-or-not u t))
       (same-fifo sems (other 1 8 at refl))
-      (woken-waiters moves (other 1 2 at refl) (λ i h u w. not-of y 9 _ OK (other 1 9 at refl)) (λ i h u w. others u (out i h u w) .0) (λ i h u w. same-sem sems i))
+      (woken-waiters moves (other 1 2 at refl) (λ i h u w. not-of y 9 _ OK (other 1 9 at refl)) (λ i h u w. others u (out i (omega arith) u w) .0) (λ i h u w. same-sem sems i))
 
   -- task t is given another priority
   pub set-steps : x .call ≡ 7 → a .status ≡ OK → (t : ℕ) → t < 32 → taskFound s (x .a) ≡ At t → getD (a .state .tasks .priority) t 0 ≡ x .b
@@ -267,8 +268,8 @@ module _ (s : State) (x : Event) (a : Answer) (mute : eqb (a .status) PENDING �
       → ((u : ℕ) → getD (a .state .tasks .live) u false ≡ true
       → (getD (s .tasks .live) u false ≡ true) × (getD (a .state .tasks .priority) u 0 ≡ getD (s .tasks .priority) u 0))
       → Fewer (s .line) (a .state .line)
-      → ((i : ℕ) → i < 16 → (u : ℕ) → (u ≡ t → ⊥) → WaitsFor s i u → WaitsFor (a .state) i u)
-      → ((i : ℕ) → i < 16 → WaitsFor (a .state) i t → ⊥)
+      → ((i : ℕ) → i < objectsEnd → (u : ℕ) → (u ≡ t → ⊥) → WaitsFor s i u → WaitsFor (a .state) i u)
+      → ((i : ℕ) → i < objectsEnd → WaitsFor (a .state) i t → ⊥)
       → SameSems s a → Steps s x a
   delete-steps ok at done none t room names serial others fewer stay out sems =
       by-parts
@@ -282,10 +283,10 @@ module _ (s : State) (x : Event) (a : Answer) (mute : eqb (a .status) PENDING �
       waiters-fewer p s (a .state) y past told (ag .waiters) (not-status y 11 PENDING mute) fewer
       (λ i h u w. ⊎-elim
       (λ e. inr (ends-deleted past y (taskId s u) empty ∙ is-done y past 2 _ (is-answer y 2 OK at done) (aim ∙ ap (taskId s) (sym e))))
-      (λ ne. inl (stay i h u ne w))
+      (λ ne. inl (stay i (omega arith) u ne w))
       (eq-or-not u t))
       (λ i h u w. ends-deleted past y (taskId s u) empty
-      ∙ done-other y past 2 _ (λ e. out i h (subst (λ (v : ℕ). WaitsFor (a .state) i v)
+      ∙ done-other y past 2 _ (λ e. out i (omega arith) (subst (λ (v : ℕ). WaitsFor (a .state) i v)
       (apart-slots _ _ u t (omega (arith, waits-room s (ok .line .queues) i u (fewer .seats .stood (queueSeats i) (omega arith) (omega arith) u w))) (omega arith) (sym e ∙ aim)) w)))
       (λ i h u w. not-of y 9 _ OK (other 2 9 at refl))
       (λ i h u w. ap (λ (v : List ℕ). identifier (getD v u 0) u) serial)

@@ -20,6 +20,7 @@ use Rattle.scope.specs.declared.Found.the-variants.{At}
 use Rattle.scope.specs.Statuses.{OK, PENDING, TIME-OUT}
 use Rattle.scope.specs.Identifiers.{identifier}
 use Rattle.scope.specs.Seats.{queueSeats, waitsOn, firstOf, leaves, becomesReady}
+use Rattle.scope.specs.Objects.{objectsEnd, objectsOf}
 use Rattle.scope.specs.Views.{withLine, withTasks, withSemaphores, withPools, withSeats, readyWith, runningTask}
 use Rattle.scope.specs.Answers.{answer, plain, wakesWith}
 use Rattle.scope.specs.Tasks.{taskBorn}
@@ -40,7 +41,7 @@ use Rattle.histories.proofs.Meaning.{sound-right}
 use Rattle.histories.proofs.Moves.{idle-nowhere, off-nowhere}
 use Rattle.histories.proofs.Semaphores.{runs-ready, sem-delete-at}
 use Rattle.histories.proofs.Staying.{Good, Fewer, stays-same, stays-then, leaves-stays, leaves-good, ready-stays, fewer-same, fewer-then, left-fewer, next-fewer, all-fewer, due-fewer, ticked-fewer}
-use Rattle.histories.proofs.Turns.{dead-nobody, good, task-room, slot-room, readied-goes}
+use Rattle.histories.proofs.Turns.{no-waiters, good, task-room, slot-room, readied-goes}
 use Rattle.histories.proofs.Ledger.{event-keeps}
 use Rattle.books.specs.Past.{Turn, isAnswer, runningIn, pastFrom}
 use Rattle.books.proofs.Woken.{ready-others, Left, leaves-left, ready-left, none-woke, next-woke, all-woke, due-woke}
@@ -157,7 +158,7 @@ module _ (s : State) (ok : Sound s) (x : Event) where
       unwoken
 
   -- a task that does not wait leaves where it stands, and may become ready: nobody's wait ends
-  off-other : (t : ℕ) → waitsOn (getD (l .seat) t 0) ≡ false → (i : ℕ) → i < 16 → (u : ℕ) → In (l .seat) (queueSeats i) u → u ≡ t → ⊥
+  off-other : (t : ℕ) → waitsOn (getD (l .seat) t 0) ≡ false → (i : ℕ) → i < objectsEnd → (u : ℕ) → In (l .seat) (queueSeats i) u → u ≡ t → ⊥
   off-other t off i h u w e = true-false (waiter-seen (l .seat) i h u w) (ap (λ (v : ℕ). waitsOn (getD (l .seat) v 0)) e ∙ off)
 
   move-steps : {r : Tasks} {q : Line} {v : ℕ} → TaskMove s x r q v → Steps s x (answer (withLine (withTasks s r) q) OK v 0 0 0 false)
@@ -178,7 +179,7 @@ module _ (s : State) (ok : Sound s) (x : Event) where
       let room : t < 32 = task-room s ok (x .a) t e in
       call-steps s x _ refl refl 4 at refl refl refl refl refl
       (record { serial = refl; live = refl; priority = refl }) (record { serial = refl; live = refl; fifo = refl })
-      (readied-moves _ t (getD (k .priority) t 0) room (idle-nowhere l k m (ok .line) t room f .seat) refl refl)
+      (readied-moves _ t (getD (k .priority) t 0) room (idle-nowhere l k (objectsOf s) (ok .line) t room f .seat) refl refl)
   move-steps (task-suspended at t e f g h) =
       call-steps s x _ refl refl 5 at refl refl refl refl refl
       (record { serial = refl; live = refl; priority = refl }) (record { serial = refl; live = refl; fifo = refl })
@@ -188,7 +189,7 @@ module _ (s : State) (ok : Sound s) (x : Event) where
       let room : t < 32 = task-room s ok (x .a) t e in
       call-steps s x _ refl refl 6 at refl refl refl refl refl
       (record { serial = refl; live = refl; priority = refl }) (record { serial = refl; live = refl; fifo = refl })
-      (readied-moves _ t (getD (k .priority) t 0) room (off-nowhere l k m (ok .line) t room h (not-false (getD (k .suspended) t false) g) .seat) refl refl)
+      (readied-moves _ t (getD (k .priority) t 0) room (off-nowhere l k (objectsOf s) (ok .line) t room h (not-false (getD (k .suspended) t false) g) .seat) refl refl)
   move-steps (priority-set at t e f g) =
       let room : t < 32 = task-room s ok (x .a) t e in
       set-steps s x _ refl refl at refl t room e (getD-set-same (k .priority) t (x .b) 0 (omega (arith, ok .tasks .priorities))) refl refl
@@ -216,7 +217,7 @@ module _ (s : State) (ok : Sound s) (x : Event) where
         getD-set-other (m .live) i j true false ne,
         getD-set-other (m .fifo) i j (eqb (x .c) 1) false ne,
       ))
-      (dead-nobody s ok i room free)
+      (no-waiters s ok i room free)
       (record { serial = refl; live = refl; priority = refl })
       (line-moves s x _ refl refl)
 
@@ -230,7 +231,7 @@ module _ (s : State) (ok : Sound s) (x : Event) where
       (λ d. absurd (true-false alive (ap (λ (v : ℕ). getD (set (m .live) i false) v false) d ∙ dead)))
       (λ ne. (sym (getD-set-other (m .live) i j false false ne) ∙ alive, getD-set-other (m .fifo) i j false false ne))
       (eq-or-not j i))
-      (dead-nobody (semDeleteAt s i .state) (sem-delete-at s ok i hi (found-live (m .serial) (m .live) (x .a) e)) i hi dead)
+      (no-waiters (semDeleteAt s i .state) (sem-delete-at s ok i hi (found-live (m .serial) (m .live) (x .a) e)) i hi dead)
       (record { serial = refl; live = refl; priority = refl })
       (moves-woke s ok (withSemaphores s (semGone m i)) l (wakeAll k i 32 (noneWoken l)) _ refl (all-fewer k i 32 (noneWoken l) whole)
       (all-woke k l i 32 (noneWoken l) (omega arith) (none-woke k l whole)))

@@ -21,6 +21,7 @@ use Rattle.scope.specs.Choice.{pick}
 use Rattle.scope.specs.Statuses.{OK, TIME-OUT}
 use Rattle.scope.specs.Lists.{has}
 use Rattle.scope.specs.Seats.{queueSeats, waitsOn}
+use Rattle.scope.specs.Objects.{objectsEnd}
 use Rattle.scope.specs.Answers.{wakesWith}
 use Rattle.scope.specs.Waiting.{FOREVER, wake, wakeNext, noneWoken}
 use Rattle.scope.specs.Ticks.{ticked, isDue, wakeDue, tick}
@@ -60,7 +61,7 @@ next-others : (k : Tasks) (w : Waking) (t : ℕ) → t < 32 → Good (w .line .s
 unfolding wakeNext
 next-others k w t h good = wake-left (w .line) good (getD (k .suspended) t false) (getD (k .priority) t 0) t h
 
-module _ (k : Tasks) (u i : ℕ) (hi : i < 16) where
+module _ (k : Tasks) (u i : ℕ) (hi : i < objectsEnd) where
   due-spares : (n t : ℕ) (w : Waking) → n + t ≤ 32 → Good (w .line .seat) → (getD (w .line .left) u 0 ≡ 0 → ⊥)
       → In (w .line .seat) (queueSeats i) u → In (wakeDue k n t w .line .seat) (queueSeats i) u
   unfolding wakeDue
@@ -98,7 +99,7 @@ module _ (s : State) (ok : Sound s) where
       (due-fewer (s .tasks) 32 0 (noneWoken (ticked (s .line))) (omega arith) (good s ok)))
       (due-woke (s .tasks) (ticked (s .line)) 32 0 (noneWoken (ticked (s .line))) (omega arith) (omega arith) (none-woke (s .tasks) (ticked (s .line)) (good s ok)))
 
-  tick-spares : (i : ℕ) → i < 16 → (t : ℕ) → WaitsFor s i t → (getD (ticked (s .line) .left) t 0 ≡ 0 → ⊥) → WaitsFor (tick s .state) i t
+  tick-spares : (i : ℕ) → i < objectsEnd → (t : ℕ) → WaitsFor s i t → (getD (ticked (s .line) .left) t 0 ≡ 0 → ⊥) → WaitsFor (tick s .state) i t
   unfolding tick wakesWith
   tick-spares i h t w some = due-spares (s .tasks) t i h 32 0 (noneWoken (ticked (s .line))) (omega arith) (good s ok) some w
 
@@ -107,7 +108,7 @@ module _ (s : State) (ok : Sound s) where
   as-woken z = wakes-as (tick s .woken) 0 (tick s .wakes) TIME-OUT z
 
   -- a waiter with one tick left is woken, and no other
-  module _ (i : ℕ) (h : i < 16) (t : ℕ) (w : WaitsFor s i t) where
+  module _ (i : ℕ) (h : i < objectsEnd) (t : ℕ) (w : WaitsFor s i t) where
     abbrev left : ℕ
     left = getD (s .line .left) t 0
 
@@ -174,7 +175,7 @@ module _ (p : ℕ) (h : p ≤ 15) (xs : List Event) where
     -- while it waits there were fewer ticks than its time_out
     pub time-runs : (timeOutOf past z ≡ FOREVER → ⊥) → ticksSince past z < timeOutOf past z
     time-runs ne =
-        let some = some-left now (end-sound p h xs) (who .slot) (who .room) (who .task) (who .waits) in
+        let some = some-left now (end-sound p h xs) (who .slot) (omega (arith, who .room)) (who .task) (who .waits) in
         ⊎-elim (λ e. absurd (ne (e .0))) (λ e. less (getD (now .line .left) (who .task) 0) some (e .0)) runs
       where
         less : (v : ℕ) → (v ≡ 0 → ⊥) → v + ticksSince past z ≡ timeOutOf past z → ticksSince past z < timeOutOf past z
@@ -184,10 +185,11 @@ module _ (p : ℕ) (h : p ≤ 15) (xs : List Event) where
     tick-wakes : wakes (wakeList (tick now)) z ≡ endsNext past z
     tick-wakes =
         let at = who .waits in
+        let room : who .slot < objectsEnd = omega (arith, who .room) in
         ap (wakes (wakeList (tick now))) (who .who)
         ∙ ⊎-elim
-        (λ e. one-woken now (end-sound p h xs) (who .slot) (who .room) (who .task) at e ∙ sym (ends-yes past z _ runs e))
-        (λ ne. more-spared now (end-sound p h xs) (who .slot) (who .room) (who .task) at ne ∙ sym (ends-no past z _ runs ne))
+        (λ e. one-woken now (end-sound p h xs) (who .slot) room (who .task) at e ∙ sym (ends-yes past z _ runs e))
+        (λ ne. more-spared now (end-sound p h xs) (who .slot) room (who .task) at ne ∙ sym (ends-no past z _ runs ne))
         (eq-or-not (getD (now .line .left) (who .task) 0) 1)
 
     -- the next tick wakes it with 13 exactly if it is the n-th since its claim, n being its time_out

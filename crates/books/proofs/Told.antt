@@ -16,6 +16,7 @@ use Rattle.scope.specs.Choice.{pick, number}
 use Rattle.scope.specs.Identifiers.{identifier}
 use Rattle.scope.specs.Lists.{has}
 use Rattle.scope.specs.Seats.{queueSeats, standsIn, standing}
+use Rattle.scope.specs.Objects.{objectsOf}
 use Rattle.scope.specs.Views.{runningTask, waitersOf}
 use Rattle.scope.specs.Fresh.{freshState, fresh}
 use Rattle.laws.proofs.Branches.{both, both-true, true-false, picked-no}
@@ -24,9 +25,10 @@ use Rattle.histories.specs.Sound.{Waits, Sound}
 use Rattle.histories.specs.History.{Event, after, SemaphoreAt}
 use Rattle.histories.specs.Order.{Arrivals, noArrivals, arrivals, WaitsFor, InOrder, Ahead as AheadBySlot, Precedes as PrecedesBySlot}
 use Rattle.histories.proofs.Fresh.{fresh-sound}
+use Rattle.histories.proofs.Objects.{sem-live, sem-fifo}
 use Rattle.histories.proofs.Moves.{queue-waits}
 use Rattle.histories.proofs.Order.{history-in-order}
-use Rattle.histories.proofs.Turns.{dead-nobody}
+use Rattle.histories.proofs.Turns.{no-waiters}
 use Rattle.histories.proofs.Demand.{end-sound}
 use Rattle.books.specs.Past.{Turn, pastOf}
 use Rattle.books.specs.Waiting.{isFifo, priorityIn, joinedWith, arrivedAt, waiting, Ahead, Precedes}
@@ -39,7 +41,7 @@ use Rattle.books.specs.Told.{StandsAt, SeatsTold, taskId, semId}
 -- a fresh state has no semaphore, so nobody waits
 pub fresh-idle : (p : ℕ) → p ≤ 15 → (i : ℕ) → i < 16 → (t : ℕ) → WaitsFor (freshState p) i t → ⊥
 unfolding freshState
-fresh-idle p h i hi t w = dead-nobody (freshState p) (fresh-sound p h) i hi (getD-replicate 16 i false false hi) t w
+fresh-idle p h i hi t w = no-waiters (freshState p) (fresh-sound p h) i hi (getD-replicate 16 i false false hi) t w
 
 fresh-priority : (p t : ℕ) → t < 32 → getD (true ∷ replicate 31 false) t false ≡ true
     → priorityIn p [] (identifier (getD (1 ∷ replicate 31 0) t 0) t) ≡ getD (p ∷ replicate 31 0) t 0
@@ -96,9 +98,9 @@ module _ (p : ℕ) (s : State) (ok : Sound s) (past : List Turn) (told : Arrival
   -- a semaphore that someone waits for is live
   waited-live : (i : ℕ) → i < 16 → (t : ℕ) → WaitsFor s i t → getD (s .semaphores .live) i false ≡ true
   waited-live i h t w =
-      let v : (v : Waits (s .line) (s .tasks) (s .semaphores) t) × (v .on ≡ i) =
-      queue-waits (s .line) (s .tasks) (s .semaphores) (ok .line) t (waits-room s (ok .line .queues) i t w) i h w in
-      subst (λ (j : ℕ). getD (s .semaphores .live) j false ≡ true) (v .1) (v .0 .alive)
+      let v : (v : Waits (s .line) (s .tasks) (objectsOf s) t) × (v .on ≡ i) =
+      queue-waits (s .line) (s .tasks) (objectsOf s) (ok .line) t (waits-room s (ok .line .queues) i t w) i (omega arith) w in
+      sym (sem-live (s .semaphores) i h) ∙ subst (λ (j : ℕ). objectsOf s .live j ≡ true) (v .1) (v .0 .alive)
 
   live-names : (i : ℕ) → i < 16 → getD (s .semaphores .live) i false ≡ true → SemaphoreAt s (semId s i) i
   live-names i h live =
@@ -134,10 +136,10 @@ module _ (p : ℕ) (s : State) (ok : Sound s) (past : List Turn) (told : Arrival
     since-u = ag .waiters .since i h u b
 
     with-t : joinedWith p past (taskId s t) ≡ getD (told .priority) t 0
-    with-t = ag .waiters .joined i h t a ∙ order .joined i h t a
+    with-t = ag .waiters .joined i h t a ∙ order .joined i (omega arith) t a
 
     with-u : joinedWith p past (taskId s u) ≡ getD (told .priority) u 0
-    with-u = ag .waiters .joined i h u b ∙ order .joined i h u b
+    with-u = ag .waiters .joined i h u b ∙ order .joined i (omega arith) u b
 
     ahead-told : (f : Bool) → AheadBySlot f told t u → Ahead f p past (taskId s t) (taskId s u)
     ahead-told true c = omega (arith, c, since-t, since-u)
@@ -155,16 +157,16 @@ module _ (p : ℕ) (s : State) (ok : Sound s) (past : List Turn) (told : Arrival
         (λ d. inr (omega (arith, d .0, with-t, with-u), omega (arith, d .1, since-t, since-u)))
         c
 
-    option : isFifo past (semId s i) ≡ getD (s .semaphores .fifo) i false
-    option = ag .fifo i h (waited-live i h t a)
+    option : isFifo past (semId s i) ≡ objectsOf s .fifo i
+    option = ag .fifo i h (waited-live i h t a) ∙ sym (sem-fifo (s .semaphores) i h)
 
     pub precedes-told : PrecedesBySlot s told i t u → Precedes p past (semId s i) (taskId s t) (taskId s u)
     precedes-told c =
-        subst (λ (f : Bool). Ahead f p past (taskId s t) (taskId s u)) (sym option) (ahead-told (getD (s .semaphores .fifo) i false) c)
+        subst (λ (f : Bool). Ahead f p past (taskId s t) (taskId s u)) (sym option) (ahead-told (objectsOf s .fifo i) c)
 
     told-precedes : Precedes p past (semId s i) (taskId s t) (taskId s u) → PrecedesBySlot s told i t u
     told-precedes c =
-        told-ahead (getD (s .semaphores .fifo) i false) (subst (λ (f : Bool). Ahead f p past (taskId s t) (taskId s u)) option c)
+        told-ahead (objectsOf s .fifo i) (subst (λ (f : Bool). Ahead f p past (taskId s t) (taskId s u)) option c)
 
   all-told : InOrder s told → SeatsTold p s past
   all-told order =
@@ -179,8 +181,8 @@ module _ (p : ℕ) (s : State) (ok : Sound s) (past : List Turn) (told : Arrival
         number = how-many;
         claims = ag .waiters .claim;
         joined = ag .waiters .joined;
-        forward = λ i h t u a b less. precedes-told order i h t u a b (order .forward i h t u a b less);
-        back = λ i h t u a b c. order .back i h t u a b (told-precedes order i h t u a b c);
+        forward = λ i h t u a b less. precedes-told order i h t u a b (order .forward i (omega arith) t u a b less);
+        back = λ i h t u a b c. order .back i (omega arith) t u a b (told-precedes order i h t u a b c);
       }
 
 -- the fresh state that is asked for

@@ -17,6 +17,7 @@ use Rattle.scope.specs.declared.Waking.{Waking}
 use Rattle.scope.specs.Choice.{pick}
 use Rattle.scope.specs.Identifiers.{identifier}
 use Rattle.scope.specs.Seats.{queueSeats, ringSeats, firstOf, leaves, becomesReady}
+use Rattle.scope.specs.Objects.{objectsEnd}
 use Rattle.scope.specs.Waiting.{wokenSeats, wake, wakeNext, wakeAll, noneWoken}
 use Rattle.scope.specs.Ticks.{isDue, wakeDue}
 use Rattle.scope.specs.Replies.{wakesFrom}
@@ -78,8 +79,8 @@ module _ (q key : List ℕ) (t p : ℕ) (good : Good q) (room : t < 32) (out : g
 -- task t alone left the queues
 pub record Left (q r : List ℕ) (t : ℕ) : Type 0 where
   pub good : Good r
-  pub others : (i : ℕ) → i < 16 → (u : ℕ) → (u ≡ t → ⊥) → In q (queueSeats i) u → In r (queueSeats i) u
-  pub out : (i : ℕ) → i < 16 → In r (queueSeats i) t → ⊥
+  pub others : (i : ℕ) → i < objectsEnd → (u : ℕ) → (u ≡ t → ⊥) → In q (queueSeats i) u → In r (queueSeats i) u
+  pub out : (i : ℕ) → i < objectsEnd → In r (queueSeats i) t → ⊥
 
 pub leaves-left : (q : List ℕ) → Good q → (t : ℕ) → Left q (leaves q t) t
 leaves-left q good t =
@@ -112,8 +113,8 @@ pub record Woke (k : Tasks) (l : Line) (w : Waking) : Type 0 where
   pub size : length (w .wakes) ≡ 32
   pub good : Good (w .line .seat)
   pub out : (j : ℕ) → j < w .woken
-      → (t : ℕ) × (t < 32) × (getD (w .wakes) j 0 ≡ identifier (getD (k .serial) t 0) t) × ((i : ℕ) → i < 16 → In (w .line .seat) (queueSeats i) t → ⊥)
-  pub left : (i : ℕ) → i < 16 → (t : ℕ) → In (l .seat) (queueSeats i) t
+      → (t : ℕ) × (t < 32) × (getD (w .wakes) j 0 ≡ identifier (getD (k .serial) t 0) t) × ((i : ℕ) → i < objectsEnd → In (w .line .seat) (queueSeats i) t → ⊥)
+  pub left : (i : ℕ) → i < objectsEnd → (t : ℕ) → In (l .seat) (queueSeats i) t
       → (In (w .line .seat) (queueSeats i) t) ⊎ ((j : ℕ) × (j < w .woken) × (getD (w .wakes) j 0 ≡ identifier (getD (k .serial) t 0) t))
 
 pub none-woke : (k : Tasks) (l : Line) → Good (l .seat) → Woke k l (noneWoken l)

@@ -16,6 +16,7 @@ use Rattle.scope.specs.Seats.{queueSeats, ringSeats}
 use Rattle.scope.specs.Answers.{noWakes}
 use Rattle.scope.specs.Waiting.{FOREVER}
 use Rattle.scope.specs.Statuses.{OK, BAD-STATE}
+use Rattle.scope.specs.Objects.{objectsOf}
 use Rattle.scope.specs.Rules.{seatsRight, readyOrderRight, waitsRight, queuesSorted, countsRight, startsRight, tasksRight, semsRight, poolsRight, poolsApart, runningRight}
 use Rattle.scope.specs.Step.{stepped}
 use Rattle.cases.specs.Cases.{same}
@@ -213,12 +214,12 @@ broken =
     -- "Each waiting task stands once in one live semaphore's queue": a deleted semaphore's, one past the last, none;
     -- "with a time_out left of 1 to 65,535 or FOREVER, and its joining priority": 0, 65,536, priority 16;
     -- "the waiting fields of a task that doesn't wait": of one ready, one suspended, one not started, one deleted
-    ∷ breaks (λ s. waitsRight (s .line) (s .semaphores .live))
+    ∷ breaks (λ s. waitsRight (s .line) (objectsOf s .live))
     (seat 3 (queueSeats 2 + 1) ∷ seat 3 (queueSeats 16 + 1) ∷ seat 3 1 ∷ semLive 0 false
     ∷ left 2 0 ∷ left 2 65536 ∷ joined 2 16
     ∷ left 0 1 ∷ joined 0 1 ∷ left 4 FOREVER ∷ joined 5 2 ∷ left 6 1 ∷ [])
     -- "those not FIFO never rise in joining priority"
-    ∷ breaks (λ s. queuesSorted (s .line) (s .semaphores .fifo)) (joined 3 9 ∷ [])
+    ∷ breaks (λ s. queuesSorted (s .line) (objectsOf s .fifo)) (joined 3 9 ∷ [])
     -- "A queue with n tasks, n above 0, has count −n": units beside waiters; "an empty queue has count 0 to 32,767": 32,768
     ∷ breaks (λ s. countsRight (s .line) (s .semaphores)) (units 0 1 ∷ units 1 32768 ∷ [])
     -- "Tasks not started neither wait nor are suspended."

@@ -12,9 +12,9 @@ use lib.ListN.{length, getD, set, length-set}
 use lib.Seq.{getD-set-same, getD-set-other}
 use Rattle.scope.specs.declared.Line.{Line}
 use Rattle.scope.specs.declared.Tasks.{Tasks}
-use Rattle.scope.specs.declared.Semaphores.{Semaphores}
 use Rattle.scope.specs.Choice.{pick}
 use Rattle.scope.specs.Seats.{queueSeats, leaves, joins, aheadOf}
+use Rattle.scope.specs.Objects.{objectsEnd, Objects}
 use Rattle.scope.specs.Views.{withSeats, withWait}
 use Rattle.scope.specs.Waiting.{queueKey, waits}
 use Rattle.laws.proofs.Branches.{lt-or-le, eq-or-not}
@@ -27,20 +27,20 @@ use Rattle.histories.proofs.Moves.{Out, agree-same, ready-gone, seats-l
 use Rattle.histories.proofs.Staying.{Good, Fewer, leaves-stays}
 
 -- before event n: all arrivals lie before it, each queue is in order, and by the joining priorities
-pub record Ordered (l : Line) (fifo : List Bool) (told : Arrivals) (n : ℕ) : Type 0 where
+pub record Ordered (l : Line) (fifo : ℕ → Bool) (told : Arrivals) (n : ℕ) : Type 0 where
   pub times : length (told .time) ≡ 32
   pub priorities : length (told .priority) ≡ 32
   pub below : (t : ℕ) → getD (told .time) t 0 < n
-  pub joined : (i : ℕ) → i < 16 → (t : ℕ) → In (l .seat) (queueSeats i) t → getD (l .joined) t 0 ≡ getD (told .priority) t 0
-  pub order : (i : ℕ) → i < 16 → (t u : ℕ) → In (l .seat) (queueSeats i) t → In (l .seat) (queueSeats i) u
-      → getD (l .seat) t 0 < getD (l .seat) u 0 → Ahead (getD fifo i false) told t u
+  pub joined : (i : ℕ) → i < objectsEnd → (t : ℕ) → In (l .seat) (queueSeats i) t → getD (l .joined) t 0 ≡ getD (told .priority) t 0
+  pub order : (i : ℕ) → i < objectsEnd → (t u : ℕ) → In (l .seat) (queueSeats i) t → In (l .seat) (queueSeats i) u
+      → getD (l .seat) t 0 < getD (l .seat) u 0 → Ahead (fifo i) told t u
 
 -- tasks leave, and a queue that is empty may become FIFO or not
-pub record Passes (l : Line) (fifo : List Bool) (r : Line) (now : List Bool) : Type 0 where
+pub record Passes (l : Line) (fifo : ℕ → Bool) (r : Line) (now : ℕ → Bool) : Type 0 where
   pub line : Fewer l r
-  pub fifos : (i : ℕ) → i < 16 → (getD now i false ≡ getD fifo i false) ⊎ ((t : ℕ) → In (r .seat) (queueSeats i) t → ⊥)
+  pub fifos : (i : ℕ) → i < objectsEnd → (now i ≡ fifo i) ⊎ ((t : ℕ) → In (r .seat) (queueSeats i) t → ⊥)
 
-pub passes-ordered : (l r : Line) (fifo now : List Bool) (told : Arrivals) (n : ℕ) → Passes l fifo r now → Ordered l fifo told n → Ordered r now told n
+pub passes-ordered : (l r : Line) (fifo now : ℕ → Bool) (told : Arrivals) (n : ℕ) → Passes l fifo r now → Ordered l fifo told n → Ordered r now told n
 passes-ordered l r fifo now told n pass ok =
     record {
       times = ok .times;
@@ -61,7 +61,7 @@ passes-ordered l r fifo now told n pass ok =
     }
 
 -- an event at which nobody arrives
-pub ordered-later : (l : Line) (fifo : List Bool) (told : Arrivals) (n : ℕ) → Ordered l fifo told n → Ordered l fifo told (suc n)
+pub ordered-later : (l : Line) (fifo : ℕ → Bool) (told : Arrivals) (n : ℕ) → Ordered l fifo told n → Ordered l fifo told (suc n)
 ordered-later l fifo told n ok =
     record {
       times = ok .times;
@@ -89,7 +89,7 @@ module _ (q key : List ℕ) (t o x : ℕ) (level : o % 64 ≡ 0) where
       (joins-is q key t o x u ne)
 
 -- And it arrives last: it sits where its priority and its arrival put it.
-module _ (l : Line) (k : Tasks) (m : Semaphores) (t : ℕ) (room : t < 32) (out : Out l k m t) (i p : ℕ) (hi : i < 16)
+module _ (l : Line) (k : Tasks) (m : Objects) (t : ℕ) (room : t < 32) (out : Out l k m t) (i p : ℕ) (hi : i < objectsEnd)
     (told : Arrivals) (n : ℕ) (ok : Ordered l (m .fifo) told n) where
   abbrev taken : Bool → List ℕ
   taken b = joins (l .seat) (l .joined) t (queueSeats i) (queueKey b p)
@@ -152,7 +152,7 @@ module _ (l : Line) (k : Tasks) (m : Semaphores) (t : ℕ) (room : t < 32) (out 
       (lt-or-le (getD (l .joined) u 0) p)
 
   abbrev fifo : Bool
-  fifo = getD (m .fifo) i false
+  fifo = m .fifo i
 
   -- its seat is in the queue that it joined, and all others stood where they stand
   here : (j : ℕ) → In (taken fifo) (queueSeats j) t → j ≡ i
@@ -166,24 +166,24 @@ module _ (l : Line) (k : Tasks) (m : Semaphores) (t : ℕ) (room : t < 32) (out 
   old j u ne a = joined-stood (l .seat) (l .joined) t (queueSeats i) (queueKey fifo p) (omega arith) (queueSeats j) (omega arith) u ne a
 
   -- two tasks of queue j, by which of them is the newcomer
-  pair : (j : ℕ) → j < 16 → (u v : ℕ) → (u ≡ t) ⊎ (u ≡ t → ⊥) → (v ≡ t) ⊎ (v ≡ t → ⊥) → In (taken fifo) (queueSeats j) u → In (taken fifo) (queueSeats j) v
-      → getD (taken fifo) u 0 < getD (taken fifo) v 0 → Ahead (getD (m .fifo) j false) tale u v
+  pair : (j : ℕ) → j < objectsEnd → (u v : ℕ) → (u ≡ t) ⊎ (u ≡ t → ⊥) → (v ≡ t) ⊎ (v ≡ t → ⊥) → In (taken fifo) (queueSeats j) u → In (taken fifo) (queueSeats j) v
+      → getD (taken fifo) u 0 < getD (taken fifo) v 0 → Ahead (m .fifo j) tale u v
   pair j h u v (inl e) (inl f) a b less =
       absurd (omega (arith, less, ap (λ (w : ℕ). getD (taken fifo) w 0) e, ap (λ (w : ℕ). getD (taken fifo) w 0) f))
   pair j h u v (inl e) (inr nf) a b less =
       let d : j ≡ i = here j (subst (λ (w : ℕ). In (taken fifo) (queueSeats j) w) e a) in
-      subst (λ (w : ℕ). Ahead (getD (m .fifo) j false) tale w v) (sym e)
-      (subst (λ (w : ℕ). Ahead (getD (m .fifo) w false) tale t v) (sym d)
+      subst (λ (w : ℕ). Ahead (m .fifo j) tale w v) (sym e)
+      (subst (λ (w : ℕ). Ahead (m .fifo w) tale t v) (sym d)
       (behind-new fifo v nf (subst (λ (w : ℕ). In (l .seat) (queueSeats w) v) d (old j v nf b))
       (subst (λ (w : ℕ). getD (taken fifo) w 0 < getD (taken fifo) v 0) e less)))
   pair j h u v (inr ne) (inl f) a b less =
       let d : j ≡ i = here j (subst (λ (w : ℕ). In (taken fifo) (queueSeats j) w) f b) in
-      subst (λ (w : ℕ). Ahead (getD (m .fifo) j false) tale u w) (sym f)
-      (subst (λ (w : ℕ). Ahead (getD (m .fifo) w false) tale u t) (sym d)
+      subst (λ (w : ℕ). Ahead (m .fifo j) tale u w) (sym f)
+      (subst (λ (w : ℕ). Ahead (m .fifo w) tale u t) (sym d)
       (ahead-new fifo (out .sorted i hi) u ne (subst (λ (w : ℕ). In (l .seat) (queueSeats w) u) d (old j u ne a))
       (subst (λ (w : ℕ). getD (taken fifo) u 0 < getD (taken fifo) w 0) f less)))
   pair j h u v (inr ne) (inr nf) a b less =
-      ahead-old (getD (m .fifo) j false) u v ne nf
+      ahead-old (m .fifo j) u v ne nf
       (ok .order j h u v (old j u ne a) (old j v nf b)
       (joined-order (l .seat) (l .joined) t (queueSeats i) (queueKey fifo p) (omega arith) u v ne nf less))
 
@@ -204,10 +204,10 @@ module _ (l : Line) (k : Tasks) (m : Semaphores) (t : ℕ) (room : t < 32) (out 
         order = λ j h u v a b less. pair j h u v (eq-or-not u t) (eq-or-not v t) a b less;
       }
 
--- a ready task leaves the ready order and waits for semaphore i
-pub waits-ordered : (l : Line) (k : Tasks) (m : Semaphores) (sound : LineSound l k m) (t : ℕ) → t < 32 → Ready l k t → (i p ticks : ℕ) → i < 16
+-- a ready task leaves the ready order and waits for object i
+pub waits-ordered : (l : Line) (k : Tasks) (m : Objects) (sound : LineSound l k m) (t : ℕ) → t < 32 → Ready l k t → (i p ticks : ℕ) → i < objectsEnd
     → (told : Arrivals) (n : ℕ) → Ordered l (m .fifo) told n
-    → Ordered (waits l i (getD (m .fifo) i false) p ticks t) (m .fifo) (arrival told t n p) (suc n)
+    → Ordered (waits l i (m .fifo i) p ticks t) (m .fifo) (arrival told t n p) (suc n)
 unfolding waits
 waits-ordered l k m sound t room ready i p ticks hi told n ok =
     let good : Good (l .seat) = record { queues = sound .queues; low = seats-low l k m sound } in

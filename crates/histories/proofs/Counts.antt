@@ -18,6 +18,7 @@ use Rattle.scope.specs.declared.Waking.{Waking}
 use Rattle.scope.specs.declared.Answer.{Answer}
 use Rattle.scope.specs.Statuses.{OK, PENDING}
 use Rattle.scope.specs.Seats.{queueSeats, ringSeats, standsIn, standing, leaves, joins}
+use Rattle.scope.specs.Objects.{Objects, objects, objectsOf}
 use Rattle.scope.specs.Views.{waitersOf, less, count}
 use Rattle.scope.specs.Answers.{answer, plain}
 use Rattle.scope.specs.Tasks.{taskDeleteAt}
@@ -37,11 +38,12 @@ use Rattle.seats.proofs.Rule.{leaves-keeps}
 use Rattle.histories.specs.Sound.{Ready, LineSound, Sound}
 use Rattle.histories.specs.History.{Event, after}
 use Rattle.histories.proofs.Moves.{seats-low}
-use Rattle.histories.proofs.Semaphores.{first-in, runs-ready}
+use Rattle.histories.proofs.Waking.{first-in}
+use Rattle.histories.proofs.Semaphores.{runs-ready}
 use Rattle.histories.proofs.Demand.{waiting-negative, end-sound}
 
 -- who stands in a semaphore's queue waits there, and nobody else is on its seat
-module _ (l : Line) (k : Tasks) (m : Semaphores) (ok : LineSound l k m) (i : ℕ) (hi : i < 16) where
+module _ (l : Line) (k : Tasks) (m : Objects) (ok : LineSound l k m) (i : ℕ) (hi : i < 16) where
   waiter : (t : ℕ) → t < 32 → In (l .seat) (queueSeats i) t → waiters.Waits l i t
   unfolding standsIn
   waiter t h at =
@@ -67,9 +69,9 @@ module _ (l : Line) (k : Tasks) (m : Semaphores) (ok : LineSound l k m) (i : ℕ
       (λ e. omega arith) (standing (l .seat) (queueSeats i)) (ok .queues .tasks) (ok .queues .seated (queueSeats i) (omega arith))))
 
 -- "timed out": at its slot a tick finds that nothing is left of its time_out
-pub timed-out-count : (k : Tasks) (m : Semaphores) (w : Waking) (i t : ℕ) → LineSound (w .line) k m → i < 16 → t < 32 → In (w .line .seat) (queueSeats i) t
+pub timed-out-count : (k : Tasks) (m : Semaphores) (w : Waking) (i t : ℕ) → LineSound (w .line) k (objects m) → i < 16 → t < 32 → In (w .line .seat) (queueSeats i) t
     → isDue (w .line) t ≡ true → count (wakeDue k 1 t w .line) m i ≡ plusOne (count (w .line) m i)
-timed-out-count k m w i t ok hi h at due = waiters.timed-out-gives-back k m w i t (waiter (w .line) k m ok i hi t h at) due
+timed-out-count k m w i t ok hi h at due = waiters.timed-out-gives-back k m w i t (waiter (w .line) k (objects m) ok i hi t h at) due
 
 module _ (s : State) (ok : Sound s) (i : ℕ) (hi : i < 16) where
   fits : i < length (s .semaphores .units)
@@ -77,14 +79,14 @@ module _ (s : State) (ok : Sound s) (i : ℕ) (hi : i < 16) where
 
   -- "deleted"
   pub deleted-count : (t : ℕ) → t < 32 → In (s .line .seat) (queueSeats i) t → countIn (taskDeleteAt s t .state) i ≡ plusOne (countIn s i)
-  deleted-count t h at = waiters.deleted-gives-back s i t (waiter (s .line) (s .tasks) (s .semaphores) (ok .line) i hi t h at)
+  deleted-count t h at = waiters.deleted-gives-back s i t (waiter (s .line) (s .tasks) (objectsOf s) (ok .line) i hi t h at)
 
   -- "Release: count plus one."
   pub release-count : semReleaseAt s i .status ≡ OK → countIn (semReleaseAt s i .state) i ≡ plusOne (countIn s i)
   release-count =
       waiters.release-plus-one s i fits
-      (λ h. waiter (s .line) (s .tasks) (s .semaphores) (ok .line) i hi _ h
-      (first-in (s .line) (s .tasks) (s .semaphores) (ok .line) i hi h))
+      (λ h. waiter (s .line) (s .tasks) (objectsOf s) (ok .line) i hi _ h
+      (first-in (s .line) (s .tasks) (objectsOf s) (ok .line) i h))
 
   abbrev Pending : Answer → Type 0
   Pending a = a .status ≡ PENDING → countIn (a .state) i ≡ lessOne (countIn s i)
@@ -96,7 +98,7 @@ module _ (s : State) (ok : Sound s) (i : ℕ) (hi : i < 16) where
       by-choice Pending _ (λ e d. absurd (omega arith))
       (λ e d. let h : s .running < 32 = leb-false 32 (s .running) e in
       ap (λ (n : ℕ). less (getD (s .semaphores .units) i 0) n)
-      (joined (s .line) (s .tasks) (s .semaphores) (ok .line) i hi (s .running) _ h (runs-ready s ok h))
+      (joined (s .line) (s .tasks) (objectsOf s) (ok .line) i hi (s .running) _ h (runs-ready s ok h))
       ∙ waiter-more (getD (s .semaphores .units) i 0) (waitersOf (s .line) i))
 
   pending-count : (options ticks : ℕ) → Pending (semClaimAt s options ticks i)

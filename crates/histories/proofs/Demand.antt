@@ -22,6 +22,7 @@ use Rattle.tables.proofs.Laws.{found-below, found-live}
 use Rattle.histories.specs.Sound.{Sound}
 use Rattle.histories.specs.History.{Event, answerTo, after, total, SemaphoreAt, PoolAt}
 use Rattle.histories.specs.Books.{releases, grants, gets, returns, Counted, buffersOut}
+use Rattle.histories.proofs.Objects.{no-units}
 use Rattle.histories.proofs.Fresh.{fresh-sound}
 use Rattle.histories.proofs.Tables.{stays-deleted}
 use Rattle.histories.proofs.Answered.{Creates}
@@ -83,7 +84,7 @@ module _ (s : State) (ok : Sound s) where
   -- "tasks wait only when the count is negative, and then its size is their number"
   pub waiting-negative : (i : ℕ) → i < 16 → WaitingNegative s i
   waiting-negative i h =
-      let z = ok .line .counts i h in
+      let z = no-units (s .line) (s .tasks) (s .semaphores) (ok .line) i h in
       record {
         waiting = waiting-below _ _ z;
         some = λ e. below-waiting _ _ z e .0;

@@ -1,6 +1,9 @@
 pub mod Refused
+pub mod Tests
 pub mod Parts
+pub mod Objects
 pub mod Moves
+pub mod Waking
 pub mod Semaphores
 pub mod Ticks
 pub mod Tasks

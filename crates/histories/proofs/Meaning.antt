@@ -2,55 +2,36 @@
 -- Assumes nothing.
 use Prim.Native.Nat.{ℕ, _+_, _-_, _%_, _≤_, _<_}
 use native.Mathlib.Omega.{arith}
-use mathlib.Core.Path.{_≡_, refl, sym, ap, _∙_}
+use mathlib.Core.Path.{_≡_, sym, ap, _∙_}
 use mathlib.Core.Logic.{_⊎_, inl, inr, ⊎-elim}
 use mathlib.Core.Bool.{Bool, true, false, not, _&&_}
-use mathlib.Core.List.{List}
 use lib.ListN.{length, getD}
 use lib.Dec.{ltb, leb, eqb}
-use borrow.Author.Tests.{lt-ltb, le-ltb, le-leb, eq-eqb, ltb-true, leb-true, eqb-true, not-true}
+use borrow.Author.Tests.{le-ltb, le-leb, eq-eqb, leb-true, eqb-true, not-true}
 use Rattle.scope.specs.declared.State.{State}
 use Rattle.scope.specs.declared.Line.{Line}
 use Rattle.scope.specs.declared.Tasks.{Tasks}
 use Rattle.scope.specs.declared.Semaphores.{Semaphores}
-use Rattle.scope.specs.Choice.{pick}
-use Rattle.scope.specs.Seats.{queueSeats, ringSeats, waitsOn, queueOf, onSeat, standing}
+use Rattle.scope.specs.Seats.{queueSeats, waitsOn, queueOf, standing}
 use Rattle.scope.specs.Views.{readyWith, waitersOf, count}
-use Rattle.scope.specs.Waiting.{isTimeOut}
+use Rattle.scope.specs.Objects.{objectsEnd, Objects, objectsOf}
 use Rattle.scope.specs.Rules.{seatsRight, readyRight, readyOrderRight, waitRight, waitsRight, joinedRight, queuesSorted, countRight, countsRight, startRight, startsRight, taskRight, tasksRight, semRight, semsRight, poolRight, poolsRight, poolsApart, runningRight, sound}
 use Rattle.scope.proofs.Counts.{right-says, says-right}
-use Rattle.laws.proofs.Branches.{picked-yes, picked-no, both, both-true, first-fails, second-fails, not-of-true, not-of-false, true-false, true-or-false, lt-or-le}
+use Rattle.laws.proofs.Branches.{both, both-true, first-fails, second-fails, not-of-true, not-of-false, true-false, true-or-false, lt-or-le}
 use Rattle.laws.proofs.Searches.{every-yes, every-at}
-use Rattle.laws.proofs.Arrays.{past, inside}
+use Rattle.laws.proofs.Arrays.{inside}
 use Rattle.seats.specs.Rule.{In, Sorted, Queues}
 use Rattle.seats.proofs.Rule.{queues-from-rule, rule-from-queues}
 use Rattle.seats.proofs.Sorting.{steps-from-sorted, sorted-from-steps}
-use Rattle.histories.specs.Sound.{Stands, LineSound, TaskSound, TasksSound, SemSound, SemsSound, PoolsSound, Sound, Sized}
-use Rattle.histories.proofs.Refused.{by-choice}
+use Rattle.histories.specs.Sound.{Waits, Ready, Stands, LineSound, TaskSound, TasksSound, SemSound, SemsSound, PoolsSound, Sound, Sized}
+use Rattle.histories.proofs.Tests.{chosen-yes, chosen-no, choose, waits-is, waits-says, ready-says, idle-says, ready-right, start-says, start-right, wait-says, rest-says, wait-right, joined-says, joined-right}
+use Rattle.histories.proofs.Objects.{sem-stock, no-stock, no-units}
 
--- a test that is a choice of tests
-chosen-yes : (b x y : Bool) → pick b x y ≡ true → b ≡ true → x ≡ true
-chosen-yes b x y e h = sym (picked-yes b x y h) ∙ e
-
-chosen-no : (b x y : Bool) → pick b x y ≡ true → b ≡ false → y ≡ true
-chosen-no b x y e h = sym (picked-no b x y h) ∙ e
-
-choose : (b : Bool) {x y : Bool} → (b ≡ true → x ≡ true) → (b ≡ false → y ≡ true) → pick b x y ≡ true
-choose b f g = by-choice (λ (v : Bool). v ≡ true) b f g
-
--- a seat that one waits on
-waits-is : (x : ℕ) → 0 < x → x < 2048 → waitsOn x ≡ true
-unfolding waitsOn
-waits-is x h l = both _ _ (lt-ltb _ _ h) (lt-ltb _ _ l)
-
+-- a seat that nobody waits on
 waits-not : (x : ℕ) → (x ≡ 0) ⊎ (2048 ≤ x) → waitsOn x ≡ false
 unfolding waitsOn
 waits-not x h =
     ⊎-elim (λ e. first-fails _ (ltb x 2048) (le-ltb 0 x (omega arith))) (λ l. second-fails (ltb 0 x) _ (le-ltb x 2048 l)) h
-
-waits-says : (x : ℕ) → waitsOn x ≡ true → (0 < x) × (x < 2048)
-unfolding waitsOn
-waits-says x e = let b = both-true (ltb 0 x) (ltb x 2048) e in (ltb-true _ _ (b .0), ltb-true _ _ (b .1))
 
 idles-says : (x : ℕ) → waitsOn x ≡ false → (x ≡ 0) ⊎ (2048 ≤ x)
 idles-says x e =
@@ -59,33 +40,7 @@ idles-says x e =
     (λ h. inl (omega arith))
     (lt-or-le 0 x)
 
--- what the rules ask of a task on seat x, who waits or does not
-module _ (live : List Bool) (x left joined : ℕ) where
-  wait-says : waitRight live x left joined ≡ true → waitsOn x ≡ true
-      → (64 ≤ x) × (getD live (queueOf x) false ≡ true) × (isTimeOut left ≡ true) × (joined ≤ 15)
-  unfolding waitRight
-  wait-says e w =
-      let a = both-true (leb 64 x) _ (chosen-yes (waitsOn x) _ _ e w) in
-      let b = both-true (getD live (queueOf x) false) _ (a .1) in
-      let c = both-true (isTimeOut left) _ (b .1) in
-      (leb-true _ _ (a .0), b .0, c .0, leb-true _ _ (c .1))
-
-  rest-says : waitRight live x left joined ≡ true → waitsOn x ≡ false → (left ≡ 0) × (joined ≡ 0)
-  unfolding waitRight
-  rest-says e w =
-      let a = both-true (eqb left 0) _ (chosen-no (waitsOn x) _ _ e w) in
-      (eqb-true _ _ (a .0), eqb-true _ _ (a .1))
-
-  wait-right : waitsOn x ≡ true → 64 ≤ x → getD live (queueOf x) false ≡ true → isTimeOut left ≡ true → joined ≤ 15
-      → waitRight live x left joined ≡ true
-  unfolding waitRight
-  wait-right w a b c d = picked-yes (waitsOn x) _ _ w ∙ both _ _ (le-leb _ _ a) (both _ _ b (both _ _ c (le-leb _ _ d)))
-
-  rest-right : waitsOn x ≡ false → left ≡ 0 → joined ≡ 0 → waitRight live x left joined ≡ true
-  unfolding waitRight
-  rest-right w a b = picked-no (waitsOn x) _ _ w ∙ both _ _ (eq-eqb _ _ a) (eq-eqb _ _ b)
-
--- and of one who is ready or idle
+-- who is ready, idle or waits, by its flags and its seat
 module _ (started suspended : Bool) (x : ℕ) where
   -- it is started and not suspended
   abbrev Runnable : Type 0
@@ -108,43 +63,12 @@ module _ (started suspended : Bool) (x : ℕ) where
   unfolding readyWith
   waits-with w = second-fails started _ (second-fails (not suspended) _ (not-of-true _ w))
 
-  start-says : startRight started suspended x ≡ true → started ≡ false → (waitsOn x ≡ false) × (suspended ≡ false)
-  unfolding startRight
-  start-says e h =
-      let b = both-true (not (waitsOn x)) _ (chosen-no started _ _ e h) in
-      (not-true _ (b .0), not-true _ (b .1))
-
-  start-right : (started ≡ false → (waitsOn x ≡ false) × (suspended ≡ false)) → startRight started suspended x ≡ true
-  unfolding startRight
-  start-right f = choose started (λ a. refl) (λ a. both _ _ (not-of-false _ (f a .0)) (not-of-false _ (f a .1)))
-
   waits-started : startRight started suspended x ≡ true → waitsOn x ≡ true → started ≡ true
   waits-started e w =
-      ⊎-elim (λ a. a) (λ a. absurd (true-false w (start-says e a .0))) (true-or-false started)
-
-  module _ (priority : ℕ) where
-    ready-says : readyRight started suspended priority x ≡ true → readyWith started suspended x ≡ true
-        → (ringSeats priority < x) × (x < ringSeats priority + 63)
-    unfolding readyRight
-    ready-says e r =
-        let b = both-true (ltb (ringSeats priority) x) _ (chosen-yes (readyWith started suspended x) _ _ e r) in
-        (ltb-true _ _ (b .0), ltb-true _ _ (b .1))
-
-    idle-says : readyRight started suspended priority x ≡ true → readyWith started suspended x ≡ false → x < 2048
-    unfolding readyRight
-    idle-says e r = ltb-true _ _ (chosen-no (readyWith started suspended x) _ _ e r)
-
-    ready-right : readyWith started suspended x ≡ true → (ringSeats priority < x) × (x < ringSeats priority + 63)
-        → readyRight started suspended priority x ≡ true
-    unfolding readyRight
-    ready-right r h = picked-yes (readyWith started suspended x) _ _ r ∙ both _ _ (lt-ltb _ _ (h .0)) (lt-ltb _ _ (h .1))
-
-    idle-right : readyWith started suspended x ≡ false → x < 2048 → readyRight started suspended priority x ≡ true
-    unfolding readyRight
-    idle-right r h = picked-no (readyWith started suspended x) _ _ r ∙ lt-ltb _ _ h
+      ⊎-elim (λ a. a) (λ a. absurd (true-false w (start-says started suspended x e a .0))) (true-or-false started)
 
 -- where a task stands, from the rules at it
-module _ (l : Line) (k : Tasks) (m : Semaphores) (t : ℕ) where
+module _ (l : Line) (k : Tasks) (m : Objects) (t : ℕ) where
   abbrev seat : ℕ
   seat = getD (l .seat) t 0
 
@@ -163,8 +87,8 @@ module _ (l : Line) (k : Tasks) (m : Semaphores) (t : ℕ) where
   abbrev StartRight : Type 0
   StartRight = startRight isStarted isSuspended seat ≡ true
 
-  stands-says : length (m .live) ≡ 16 → (seat ≡ 0) ⊎ ((0 < seat % 64) × (seat % 64 < 63)) → ReadyRight → WaitRight → StartRight → Stands l k m t
-  stands-says lives places ready wait start = ⊎-elim waiting resting (true-or-false (waitsOn seat))
+  stands-says : (seat ≡ 0) ⊎ ((0 < seat % 64) × (seat % 64 < 63)) → ReadyRight → WaitRight → StartRight → Stands l k m t
+  stands-says places ready wait start = ⊎-elim waiting resting (true-or-false (waitsOn seat))
     where
       waiting : waitsOn seat ≡ true → Stands l k m t
       waiting w =
@@ -174,7 +98,7 @@ module _ (l : Line) (k : Tasks) (m : Semaphores) (t : ℕ) where
           let p : (0 < seat % 64) × (seat % 64 < 63) = ⊎-elim (λ z. absurd (omega arith)) (λ z. z) places in
           inr (inl (record {
             on = i;
-            within = ⊎-elim (λ b. b) (λ b. absurd (true-false (r .1) (sym (past 16 (m .live) i false lives b)))) (lt-or-le i 16);
+            within = omega (arith, h, r .0);
             alive = r .1;
             stands = (omega (arith, r .0, p), omega (arith, r .0, p));
             started = waits-started isStarted isSuspended seat start w;
@@ -187,13 +111,13 @@ module _ (l : Line) (k : Tasks) (m : Semaphores) (t : ℕ) where
           let r = rest-says (m .live) seat (getD (l .left) t 0) (getD (l .joined) t 0) wait w in
           ⊎-elim
           (λ a. inr (inr (record {
-            stands = ready-says isStarted isSuspended seat _ ready (ready-with isStarted isSuspended seat a w);
+            stands = ready-says isStarted isSuspended _ seat ready (ready-with isStarted isSuspended seat a w);
             started = a .0;
             awake = a .1;
             left = r .0;
             joined = r .1;
           })))
-          (λ a. let low : seat < 2048 = idle-says isStarted isSuspended seat _ ready (idle-with isStarted isSuspended seat a) in
+          (λ a. let low : seat < 2048 = idle-says isStarted isSuspended _ seat ready (idle-with isStarted isSuspended seat a) in
           inl (record {
             seat = ⊎-elim (λ z. z) (λ z. absurd (omega arith)) (idles-says seat w);
             left = r .0;
@@ -202,39 +126,38 @@ module _ (l : Line) (k : Tasks) (m : Semaphores) (t : ℕ) where
           }))
           (runnable-or-not isStarted isSuspended seat)
 
+  -- who waits sits on a seat that one waits on, who is ready does not
+  waiter-on : Waits l k m t → waitsOn seat ≡ true
+  waiter-on w = waits-is seat (omega (arith, w .stands .0)) (omega (arith, w .stands .1, w .within))
+
+  ready-off : Ready l k t → waitsOn seat ≡ false
+  ready-off r = waits-not seat (inr (omega (arith, r .stands .0)))
+
   -- and back: the rules at it, from where it stands
   stands-ready : Stands l k m t → ReadyRight
   stands-ready h =
-      ⊎-elim
-      (λ n. idle-right isStarted isSuspended seat _ (idle-with isStarted isSuspended seat (n .idle)) (omega (arith, n .seat)))
-      (λ h. ⊎-elim
-      (λ w. let s : In (l .seat) (queueSeats (w .on)) t = w .stands in
-      let b : w .on < 16 = w .within in
-      idle-right isStarted isSuspended seat _ (waits-with isStarted isSuspended seat (waits-is seat (omega arith) (omega arith)))
-      (omega arith))
-      (λ r. let s : In (l .seat) (ringSeats (getD (k .priority) t 0)) t = r .stands in
-      ready-right isStarted isSuspended seat _
-      (ready-with isStarted isSuspended seat (r .started, r .awake) (waits-not seat (inr (omega arith))))
-      s)
+      ready-right isStarted isSuspended (getD (k .priority) t 0) seat
+      (λ e. ⊎-elim (λ n. absurd (true-false e (idle-with isStarted isSuspended seat (n .idle))))
+      (λ h. ⊎-elim (λ w. absurd (true-false e (waits-with isStarted isSuspended seat (waiter-on w)))) (λ r. r .stands) h)
       h)
-      h
+      (λ e. ⊎-elim (λ n. omega (arith, n .seat))
+      (λ h. ⊎-elim (λ w. omega (arith, w .stands .1, w .within))
+      (λ r. absurd (true-false (ready-with isStarted isSuspended seat (r .started, r .awake) (ready-off r)) e))
+      h)
+      h)
 
   stands-wait : Stands l k m t → WaitRight
   stands-wait h =
-      ⊎-elim
-      (λ n. rest-right (m .live) seat _ _ (waits-not seat (inl (n .seat))) (n .left) (n .joined))
+      wait-right (m .live) seat _ _
+      (λ e. ⊎-elim (λ n. absurd (true-false e (waits-not seat (inl (n .seat)))))
       (λ h. ⊎-elim
-      (λ w. let s : In (l .seat) (queueSeats (w .on)) t = w .stands in
-      let b : w .on < 16 = w .within in
-      let d : queueOf seat ≡ w .on = omega arith in
-      wait-right (m .live) seat _ _ (waits-is seat (omega arith) (omega arith)) (omega arith)
-      (ap (λ (i : ℕ). getD (m .live) i false) d ∙ w .alive)
-      (w .time)
-      (w .joined))
-      (λ r. let s : In (l .seat) (ringSeats (getD (k .priority) t 0)) t = r .stands in
-      rest-right (m .live) seat _ _ (waits-not seat (inr (omega arith))) (r .left) (r .joined))
+      (λ w. let d : queueOf seat ≡ w .on = omega (arith, w .stands) in (omega (arith, w .stands .0), ap (m .live) d ∙ w .alive, w .time, w .joined))
+      (λ r. absurd (true-false e (ready-off r)))
       h)
-      h
+      h)
+      (λ e. ⊎-elim (λ n. (n .left, n .joined))
+      (λ h. ⊎-elim (λ w. absurd (true-false (waiter-on w) e)) (λ r. (r .left, r .joined)) h)
+      h)
 
   stands-start : (isStarted ≡ false → isSuspended ≡ false) → Stands l k m t → StartRight
   stands-start f h =
@@ -247,53 +170,35 @@ module _ (l : Line) (k : Tasks) (m : Semaphores) (t : ℕ) where
       ))
 
 -- a queue by joining priority: a test of each task says it of each pair
-module _ (l : Line) (k : Tasks) (m : Semaphores) (queues : Queues (l .seat)) where
-  joined-says : (i t : ℕ) → i < 16 → getD (m .fifo) i false ≡ false → In (l .seat) (queueSeats i) t → queueSeats i + 1 < getD (l .seat) t 0
-      → joinedRight (l .seat) (l .joined) (m .fifo) (getD (l .seat) t 0) (getD (l .joined) t 0) ≡ true
-      → getD (l .joined) t 0 ≤ getD (l .joined) (onSeat (l .seat) (getD (l .seat) t 0 - 1)) 0
-  unfolding joinedRight
-  joined-says i t b f at h e =
-      let d : queueOf (getD (l .seat) t 0) ≡ i = omega arith in
-      let w : (waitsOn (getD (l .seat) t 0) && ltb 1 (getD (l .seat) t 0 % 64)) ≡ true =
-      both _ _ (waits-is (getD (l .seat) t 0) (omega arith) (omega arith)) (lt-ltb 1 (getD (l .seat) t 0 % 64) (omega arith)) in
-      leb-true _ _
-      (chosen-no (getD (m .fifo) (queueOf (getD (l .seat) t 0)) false) _ _ (chosen-yes _ _ _ e w)
-      (ap (λ (j : ℕ). getD (m .fifo) j false) d ∙ f))
-
-  sorted-says : queuesSorted l (m .fifo) ≡ true → (i : ℕ) → i < 16 → getD (m .fifo) i false ≡ false → Sorted (l .seat) (l .joined) (queueSeats i)
+module _ (l : Line) (k : Tasks) (m : Objects) (queues : Queues (l .seat)) where
+  sorted-says : queuesSorted l (m .fifo) ≡ true → (i : ℕ) → i < objectsEnd → m .fifo i ≡ false → Sorted (l .seat) (l .joined) (queueSeats i)
   unfolding queuesSorted
   sorted-says e i b f =
       sorted-from-steps (l .seat) (l .joined) (queueSeats i) _ (queues .tasks) (queues .seated (queueSeats i) (omega arith))
-      (λ t at h. joined-says i t b f at h
+      (λ t at h. let d : queueOf (getD (l .seat) t 0) ≡ i = omega (arith, at) in
+      joined-says (l .seat) (l .joined) (m .fifo) (getD (l .seat) t 0) (getD (l .joined) t 0)
       (every-at (λ u. joinedRight (l .seat) (l .joined) (m .fifo) (getD (l .seat) u 0) (getD (l .joined) u 0)) 32 e t
-      (inside 32 (l .seat) t (queues .tasks) (λ z. omega arith))))
+      (inside 32 (l .seat) t (queues .tasks) (λ z. omega arith)))
+      (waits-is (getD (l .seat) t 0) (omega (arith, at)) (omega (arith, at, b)))
+      (omega (arith, at, h))
+      (ap (m .fifo) d ∙ f))
 
-  joined-right : (t : ℕ) → Stands l k m t
-      → ((i : ℕ) → i < 16 → getD (m .fifo) i false ≡ false → Sorted (l .seat) (l .joined) (queueSeats i))
+  sorted-right : (t : ℕ) → Stands l k m t
+      → ((i : ℕ) → i < objectsEnd → m .fifo i ≡ false → Sorted (l .seat) (l .joined) (queueSeats i))
       → joinedRight (l .seat) (l .joined) (m .fifo) (getD (l .seat) t 0) (getD (l .joined) t 0) ≡ true
-  unfolding joinedRight
-  joined-right t h order = choose _ waiting (λ no. refl)
-    where
-      waiting : (waitsOn (getD (l .seat) t 0) && ltb 1 (getD (l .seat) t 0 % 64)) ≡ true
-          → pick (getD (m .fifo) (queueOf (getD (l .seat) t 0)) false) true
-          (leb (getD (l .joined) t 0) (getD (l .joined) (onSeat (l .seat) (getD (l .seat) t 0 - 1)) 0))
-          ≡ true
-      waiting e =
-          let b = both-true (waitsOn (getD (l .seat) t 0)) _ e in
-          let u : (0 < getD (l .seat) t 0) × (getD (l .seat) t 0 < 2048) = waits-says _ (b .0) in
-          let v : 1 < getD (l .seat) t 0 % 64 = ltb-true _ _ (b .1) in
-          choose (getD (m .fifo) (queueOf (getD (l .seat) t 0)) false) (λ a. refl)
-          (λ a. le-leb _ _
-          (⊎-elim (λ n. absurd (omega (arith, n .seat)))
-          (λ h. ⊎-elim
-          (λ w. let s : In (l .seat) (queueSeats (w .on)) t = w .stands in
-          let d : queueOf (getD (l .seat) t 0) ≡ w .on = omega arith in
-          steps-from-sorted (l .seat) (l .joined) (queueSeats (w .on)) _ (queues .tasks) (queues .seated (queueSeats (w .on)) (omega arith))
-          (order (w .on) (w .within) (sym (ap (λ (j : ℕ). getD (m .fifo) j false) d) ∙ a))
-          t s (omega arith))
-          (λ r. let s : In (l .seat) (ringSeats (getD (k .priority) t 0)) t = r .stands in absurd (omega arith))
-          h)
-          h))
+  sorted-right t h order =
+      joined-right (l .seat) (l .joined) (m .fifo) (getD (l .seat) t 0) (getD (l .joined) t 0)
+      (λ on second a.
+      ⊎-elim (λ n. absurd (omega (arith, n .seat, second)))
+      (λ h. ⊎-elim
+      (λ w. let s : In (l .seat) (queueSeats (w .on)) t = w .stands in
+      let d : queueOf (getD (l .seat) t 0) ≡ w .on = omega arith in
+      steps-from-sorted (l .seat) (l .joined) (queueSeats (w .on)) _ (queues .tasks) (queues .seated (queueSeats (w .on)) (omega arith))
+      (order (w .on) (w .within) (sym (ap (m .fifo) d) ∙ a))
+      t s (omega arith))
+      (λ r. absurd (omega (arith, r .stands .0, waits-says (getD (l .seat) t 0) on .1)))
+      h)
+      h)
 
 -- a slot of the tasks and one of the semaphores
 module _ (k : Tasks) (t : ℕ) where
@@ -350,8 +255,8 @@ module _ (m : Semaphores) (i : ℕ) where
 record Held (s : State) : Type 0 where
   seats : seatsRight (s .line .seat) ≡ true
   order : readyOrderRight (s .line) (s .tasks) ≡ true
-  waits : waitsRight (s .line) (s .semaphores .live) ≡ true
-  sorted : queuesSorted (s .line) (s .semaphores .fifo) ≡ true
+  waits : waitsRight (s .line) (objectsOf s .live) ≡ true
+  sorted : queuesSorted (s .line) (objectsOf s .fifo) ≡ true
   counts : countsRight (s .line) (s .semaphores) ≡ true
   starts : startsRight (s .line) (s .tasks) ≡ true
   tasks : tasksRight (s .tasks) ≡ true
@@ -365,8 +270,8 @@ unfolding sound
 sound-held s e =
     let a = both-true (seatsRight (s .line .seat)) _ e in
     let b = both-true (readyOrderRight (s .line) (s .tasks)) _ (a .1) in
-    let c = both-true (waitsRight (s .line) (s .semaphores .live)) _ (b .1) in
-    let d = both-true (queuesSorted (s .line) (s .semaphores .fifo)) _ (c .1) in
+    let c = both-true (waitsRight (s .line) (objectsOf s .live)) _ (b .1) in
+    let d = both-true (queuesSorted (s .line) (objectsOf s .fifo)) _ (c .1) in
     let f = both-true (countsRight (s .line) (s .semaphores)) _ (d .1) in
     let g = both-true (startsRight (s .line) (s .tasks)) _ (f .1) in
     let h = both-true (tasksRight (s .tasks)) _ (g .1) in
@@ -406,25 +311,25 @@ module _ (s : State) (sized : Sized s) (held : Held s) where
   says-queues : Queues (s .line .seat)
   says-queues = queues-from-rule (s .line .seat) (sized .seat) (held .seats)
 
-  start-at : (t : ℕ) → t < 32 → StartRight (s .line) (s .tasks) (s .semaphores) t
+  start-at : (t : ℕ) → t < 32 → StartRight (s .line) (s .tasks) (objectsOf s) t
   unfolding startsRight
   start-at t h =
       every-at
       (λ u. startRight (getD (s .tasks .started) u false) (getD (s .tasks .suspended) u false) (getD (s .line .seat) u 0))
       32 (held .starts) t h
 
-  ready-at : (t : ℕ) → t < 32 → ReadyRight (s .line) (s .tasks) (s .semaphores) t
+  ready-at : (t : ℕ) → t < 32 → ReadyRight (s .line) (s .tasks) (objectsOf s) t
   unfolding readyOrderRight
   ready-at t h =
       every-at
       (λ u. readyRight (getD (s .tasks .started) u false) (getD (s .tasks .suspended) u false) (getD (s .tasks .priority) u 0) (getD (s .line .seat) u 0))
       32 (held .order) t h
 
-  wait-at : (t : ℕ) → t < 32 → WaitRight (s .line) (s .tasks) (s .semaphores) t
+  wait-at : (t : ℕ) → t < 32 → WaitRight (s .line) (s .tasks) (objectsOf s) t
   unfolding waitsRight
   wait-at t h =
       every-at
-      (λ u. waitRight (s .semaphores .live) (getD (s .line .seat) u 0) (getD (s .line .left) u 0) (getD (s .line .joined) u 0))
+      (λ u. waitRight (objectsOf s .live) (getD (s .line .seat) u 0) (getD (s .line .left) u 0) (getD (s .line .joined) u 0))
       32 (held .waits) t h
 
   count-at : (i : ℕ) → i < 16
@@ -435,16 +340,21 @@ module _ (s : State) (sized : Sized s) (held : Held s) where
       right-says (waitersOf (s .line) i) (getD (s .semaphores .units) i 0)
       (every-at (λ j. countRight (waitersOf (s .line) j) (count (s .line) (s .semaphores) j)) 16 (held .counts) i h)
 
-  says-line : LineSound (s .line) (s .tasks) (s .semaphores)
+  -- an object that tasks wait for has no stock
+  stock-at : (i : ℕ) → i < objectsEnd → 0 < standing (s .line .seat) (queueSeats i) → objectsOf s .stock i ≡ 0
+  stock-at i h some =
+      ⊎-elim (λ l. sem-stock (s .semaphores) i l ∙ count-at i l .1 some) (no-stock (s .semaphores) i (sized .units)) (lt-or-le i 16)
+
+  says-line : LineSound (s .line) (s .tasks) (objectsOf s)
   says-line =
       record {
         lefts = sized .left;
         joineds = sized .joined;
         queues = says-queues;
         stands = λ t h.
-            stands-says (s .line) (s .tasks) (s .semaphores) t (sized .slive) (says-queues .places t) (ready-at t h) (wait-at t h) (start-at t h);
-        sorted = sorted-says (s .line) (s .tasks) (s .semaphores) says-queues (held .sorted);
-        counts = λ i h. count-at i h .1;
+            stands-says (s .line) (s .tasks) (objectsOf s) t (says-queues .places t) (ready-at t h) (wait-at t h) (start-at t h);
+        sorted = sorted-says (s .line) (s .tasks) (objectsOf s) says-queues (held .sorted);
+        counts = stock-at;
       }
 
   says-tasks : TasksSound (s .tasks)
@@ -511,12 +421,13 @@ sound-right s h =
     held-sound s
     (record {
       seats = rule-from-queues (s .line .seat) (h .line .queues);
-      order = every-yes _ 32 (λ t l. stands-ready (s .line) (s .tasks) (s .semaphores) t (h .line .stands t l));
-      waits = every-yes _ 32 (λ t l. stands-wait (s .line) (s .tasks) (s .semaphores) t (h .line .stands t l));
-      sorted = every-yes _ 32 (λ t l. joined-right (s .line) (s .tasks) (s .semaphores) (h .line .queues) t (h .line .stands t l) (h .line .sorted));
-      counts = every-yes _ 16 (λ i l. says-right (waitersOf (s .line) i) _ (h .semaphores .each i l .units) (h .line .counts i l));
+      order = every-yes _ 32 (λ t l. stands-ready (s .line) (s .tasks) (objectsOf s) t (h .line .stands t l));
+      waits = every-yes _ 32 (λ t l. stands-wait (s .line) (s .tasks) (objectsOf s) t (h .line .stands t l));
+      sorted = every-yes _ 32 (λ t l. sorted-right (s .line) (s .tasks) (objectsOf s) (h .line .queues) t (h .line .stands t l) (h .line .sorted));
+      counts = every-yes _ 16 (λ i l. says-right (waitersOf (s .line) i) _ (h .semaphores .each i l .units)
+          (no-units (s .line) (s .tasks) (s .semaphores) (h .line) i l));
       starts = every-yes _ 32
-          (λ t l. stands-start (s .line) (s .tasks) (s .semaphores) t (h .tasks .each t l .suspended) (h .line .stands t l));
+          (λ t l. stands-start (s .line) (s .tasks) (objectsOf s) t (h .tasks .each t l .suspended) (h .line .stands t l));
       tasks = every-yes _ 32 (λ t l. task-right (s .tasks) t (h .tasks .each t l));
       sems = every-yes _ 16 (λ i l. sem-right (s .semaphores) i (h .semaphores .each i l));
       pools = every-yes _ 8 (h .pools .each);

@@ -14,9 +14,9 @@ use lib.Dec.{ltb}
 use borrow.Author.Tests.{lt-ltb, ltb-true}
 use Rattle.scope.specs.declared.Line.{Line}
 use Rattle.scope.specs.declared.Tasks.{Tasks}
-use Rattle.scope.specs.declared.Semaphores.{Semaphores}
 use Rattle.scope.specs.Choice.{pick}
 use Rattle.scope.specs.Seats.{queueSeats, ringSeats, standing, leaves, joins, becomesReady, aheadOf, waitsOn}
+use Rattle.scope.specs.Objects.{objectsEnd, Objects}
 use Rattle.scope.specs.Views.{withSeats, withWait}
 use Rattle.scope.specs.Waiting.{isTimeOut, queueKey, waits, wokenSeats, wake}
 use Rattle.laws.proofs.Branches.{lt-or-le, eq-or-not, picked-no, both, both-true, true-false}
@@ -143,7 +143,7 @@ record Others (l r : Line) (t : ℕ) : Type 0 where
   out : (u : ℕ) → (u ≡ t → ⊥) → getD (l .seat) u 0 ≡ 0 → getD (r .seat) u 0 ≡ 0
   at : (u : ℕ) → (u ≡ t → ⊥) → (o : ℕ) → o % 64 ≡ 0 → In (l .seat) o u → In (r .seat) o u
 
-stands-other : (l r : Line) (k j : Tasks) (m : Semaphores) (t : ℕ) → Others l r t → Agree k j t → (u : ℕ) → (u ≡ t → ⊥) → Stands l k m u → Stands r j m u
+stands-other : (l r : Line) (k j : Tasks) (m : Objects) (t : ℕ) → Others l r t → Agree k j t → (u : ℕ) → (u ≡ t → ⊥) → Stands l k m u → Stands r j m u
 stands-other l r k j m t same agree u ne =
     ⊎-elim
     (λ s. inl (record {
@@ -173,13 +173,13 @@ stands-other l r k j m t same agree u ne =
     w))
 
 -- the line is sound but for task t, which stands on no seat and has nothing of a wait
-pub record Out (l : Line) (k : Tasks) (m : Semaphores) (t : ℕ) : Type 0 where
+pub record Out (l : Line) (k : Tasks) (m : Objects) (t : ℕ) : Type 0 where
   pub lefts : length (l .left) ≡ 32
   pub joineds : length (l .joined) ≡ 32
   pub queues : Queues (l .seat)
   pub others : (u : ℕ) → u < 32 → (u ≡ t → ⊥) → Stands l k m u
-  pub sorted : (i : ℕ) → i < 16 → getD (m .fifo) i false ≡ false → Sorted (l .seat) (l .joined) (queueSeats i)
-  pub counts : (i : ℕ) → i < 16 → 0 < standing (l .seat) (queueSeats i) → getD (m .units) i 0 ≡ 0
+  pub sorted : (i : ℕ) → i < objectsEnd → m .fifo i ≡ false → Sorted (l .seat) (l .joined) (queueSeats i)
+  pub counts : (i : ℕ) → i < objectsEnd → 0 < standing (l .seat) (queueSeats i) → m .stock i ≡ 0
   pub seat : getD (l .seat) t 0 ≡ 0
   pub left : getD (l .left) t 0 ≡ 0
   pub joined : getD (l .joined) t 0 ≡ 0
@@ -189,7 +189,7 @@ all-stand : (P : ℕ → Type 0) (t : ℕ) → P t → ((u : ℕ) → u < 32 →
 all-stand P t here other u h = ⊎-elim (λ e. subst P (sym e) here) (other u h) (eq-or-not u t)
 
 -- it stays out, not started or suspended
-pub stays : (l : Line) (k : Tasks) (m : Semaphores) (t : ℕ) → Out l k m t
+pub stays : (l : Line) (k : Tasks) (m : Objects) (t : ℕ) → Out l k m t
     → (getD (k .started) t false ≡ false) ⊎ (getD (k .suspended) t false ≡ true) → LineSound l k m
 stays l k m t out idle =
     record {
@@ -201,7 +201,7 @@ stays l k m t out idle =
       counts = out .counts;
     }
 
-module _ (l : Line) (k : Tasks) (m : Semaphores) (ok : LineSound l k m) where
+module _ (l : Line) (k : Tasks) (m : Objects) (ok : LineSound l k m) where
   -- who stands where, told by its seat
   pub seats-low : (u : ℕ) → In (l .seat) 0 u → ⊥
   seats-low u a =
@@ -284,7 +284,7 @@ unfolding queueKey
 key-is fifo p f = picked-no fifo 0 p f
 
 -- task t, which is out, takes a seat
-module _ (l : Line) (k : Tasks) (m : Semaphores) (t : ℕ) (room : t < 32) (out : Out l k m t) where
+module _ (l : Line) (k : Tasks) (m : Objects) (t : ℕ) (room : t < 32) (out : Out l k m t) where
   -- it becomes ready; the keys do not matter
   pub becomes-ready : (key : List ℕ) (p : ℕ) → getD (k .started) t false ≡ true → getD (k .suspended) t false ≡ false → getD (k .priority) t 0 ≡ p
       → LineSound (withSeats l (becomesReady (l .seat) key t p)) k m
@@ -317,12 +317,12 @@ module _ (l : Line) (k : Tasks) (m : Semaphores) (t : ℕ) (room : t < 32) (out 
             (omega (arith, c, joins-standing (l .seat) key t (ringSeats p) 0 (out .queues) room (out .seat) level (queueSeats i) (omega arith) (λ d. omega arith)));
       }
 
-  -- it joins the queue of semaphore i
-  pub joins-queue : (i p ticks : ℕ) → i < 16 → getD (m .live) i false ≡ true → getD (m .units) i 0 ≡ 0
+  -- it joins the queue of object i
+  pub joins-queue : (i p ticks : ℕ) → i < objectsEnd → m .live i ≡ true → m .stock i ≡ 0
       → getD (k .started) t false ≡ true → isTimeOut ticks ≡ true → p ≤ 15
-      → LineSound (withWait l t ticks p (joins (l .seat) (l .joined) t (queueSeats i) (queueKey (getD (m .fifo) i false) p))) k m
+      → LineSound (withWait l t ticks p (joins (l .seat) (l .joined) t (queueSeats i) (queueKey (m .fifo i) p))) k m
   joins-queue i p ticks hi alive none started time small =
-      let x : ℕ = queueKey (getD (m .fifo) i false) p in
+      let x : ℕ = queueKey (m .fifo i) p in
       let r : Line = withWait l t ticks p (joins (l .seat) (l .joined) t (queueSeats i) x) in
       let level : queueSeats i % 64 ≡ 0 = omega arith in
       record {
@@ -348,7 +348,7 @@ module _ (l : Line) (k : Tasks) (m : Semaphores) (t : ℕ) (room : t < 32) (out 
             }) (agree-same k t) u ne (out .others u h ne));
         sorted = λ n h f.
             ⊎-elim
-            (λ e. let g : getD (m .fifo) i false ≡ false = subst (λ (v : ℕ). getD (m .fifo) v false ≡ false) e f in
+            (λ e. let g : m .fifo i ≡ false = subst (λ (v : ℕ). m .fifo v ≡ false) e f in
             subst (λ (v : ℕ). Sorted (r .seat) (r .joined) (queueSeats v)) (sym e)
             (subst (λ (v : ℕ). Sorted (joins (l .seat) (l .joined) t (queueSeats i) v) (set (l .joined) t p) (queueSeats i)) (sym (key-is _ p g))
             (joins-sorted (l .seat) (l .joined) t (queueSeats i) p _ (out .queues .tasks) room (out .seat)
@@ -358,16 +358,16 @@ module _ (l : Line) (k : Tasks) (m : Semaphores) (t : ℕ) (room : t < 32) (out 
             (eq-or-not n i);
         counts = λ n h c.
             ⊎-elim
-            (λ e. subst (λ (v : ℕ). getD (m .units) v 0 ≡ 0) (sym e) none)
+            (λ e. subst (λ (v : ℕ). m .stock v ≡ 0) (sym e) none)
             (λ ne. out .counts n h
             (omega (arith, c, joins-standing (l .seat) (l .joined) t (queueSeats i) x (out .queues) room (out .seat) level (queueSeats n) (omega arith) (λ d. ne (omega arith)))))
             (eq-or-not n i);
       }
 
-module _ (l : Line) (k : Tasks) (m : Semaphores) (ok : LineSound l k m) (t : ℕ) (room : t < 32) where
-  -- a ready task leaves the ready order and waits for semaphore i
-  pub waits-sound : (i p ticks : ℕ) → Ready l k t → i < 16 → getD (m .live) i false ≡ true → getD (m .units) i 0 ≡ 0 → isTimeOut ticks ≡ true → p ≤ 15
-      → LineSound (waits l i (getD (m .fifo) i false) p ticks t) k m
+module _ (l : Line) (k : Tasks) (m : Objects) (ok : LineSound l k m) (t : ℕ) (room : t < 32) where
+  -- a ready task leaves the ready order and waits for object i
+  pub waits-sound : (i p ticks : ℕ) → Ready l k t → i < objectsEnd → m .live i ≡ true → m .stock i ≡ 0 → isTimeOut ticks ≡ true → p ≤ 15
+      → LineSound (waits l i (m .fifo i) p ticks t) k m
   unfolding waits
   waits-sound i p ticks here hi alive none time small =
       joins-queue (withSeats l (leaves (l .seat) t)) k m t room (ready-gone l k m ok k t (agree-same k t) here) i p ticks hi alive none (here .started) time small
@@ -381,7 +381,7 @@ module _ (l : Line) (k : Tasks) (m : Semaphores) (ok : LineSound l k m) (t : ℕ
       becomes-ready (withWait l t 0 0 (leaves (l .seat) t)) k m t room (gone l k m ok k t room (agree-same k t)) (l .joined) (getD (k .priority) t 0) started e refl
 
   -- and one fewer stands in the queue that it leaves
-  pub wake-standing : (suspended : Bool) (p i : ℕ) → i < 16 → In (l .seat) (queueSeats i) t
+  pub wake-standing : (suspended : Bool) (p i : ℕ) → i < objectsEnd → In (l .seat) (queueSeats i) t
       → standing (wake l suspended p t .seat) (queueSeats i) ≡ standing (l .seat) (queueSeats i) - 1
   unfolding wake wokenSeats pick
   wake-standing true p i hi at = leaves-standing (l .seat) (ok .queues) (seats-low l k m ok) t (queueSeats i) (omega arith) at
@@ -390,8 +390,8 @@ module _ (l : Line) (k : Tasks) (m : Semaphores) (ok : LineSound l k m) (t : ℕ
       (omega arith) (queueSeats i) (omega arith) (λ d. omega arith)
       ∙ leaves-standing (l .seat) (ok .queues) (seats-low l k m ok) t (queueSeats i) (omega arith) at
 
-  -- who stands in a semaphore's queue waits there
-  pub queue-waits : (i : ℕ) → i < 16 → In (l .seat) (queueSeats i) t → (w : Waits l k m t) × (w .on ≡ i)
+  -- who stands in an object's queue waits there
+  pub queue-waits : (i : ℕ) → i < objectsEnd → In (l .seat) (queueSeats i) t → (w : Waits l k m t) × (w .on ≡ i)
   queue-waits i hi at =
       ⊎-elim (λ s. absurd (omega (arith, s .seat, at .0)))
       (λ w. ⊎-elim (λ s. (s, omega (arith, s .stands, at))) (λ s. absurd (omega (arith, s .stands .0, at .1))) w)

@@ -17,6 +17,7 @@ use Rattle.scope.specs.declared.Fresh.{Fresh}
 use Rattle.scope.specs.declared.Found.{Found}
 use Rattle.scope.specs.Statuses.{OK}
 use Rattle.scope.specs.Seats.{queueSeats, firstOf}
+use Rattle.scope.specs.Objects.{objectsEnd, objects, objectsOf}
 use Rattle.scope.specs.Views.{waitersOf}
 use Rattle.scope.specs.Answers.{answer, plain, badState, wakesWith, onFound}
 use Rattle.scope.specs.Waiting.{wakeNext}
@@ -25,6 +26,7 @@ use Rattle.scope.specs.Step.{callerRefusal, answered, stepped}
 use Rattle.scope.specs.Fresh.{freshState, fresh}
 use Rattle.laws.proofs.Branches.{lt-or-le, true-false, picked-yes, picked-no, first-fails, not-of-true}
 use Rattle.tables.proofs.Laws.{found-below}
+use Rattle.seats.specs.Rule.{In}
 use Rattle.seats.proofs.First.{first-is}
 use Rattle.histories.specs.Sound.{Sound}
 use Rattle.histories.specs.History.{Event, answerTo, after, SemaphoreAt}
@@ -33,12 +35,13 @@ use Rattle.histories.proofs.Refused.{by-choice}
 use Rattle.histories.proofs.Refusals.{by-rules}
 use Rattle.histories.proofs.Fresh.{fresh-always}
 use Rattle.histories.proofs.Stays.{step-keeps}
+use Rattle.histories.proofs.Waking.{dead-nobody}
 use Rattle.histories.proofs.Arriving.{Ordered}
-use Rattle.histories.proofs.Turns.{dead-nobody, step-goes}
+use Rattle.histories.proofs.Turns.{step-goes}
 
 -- a state whose queues are in order before event n
 abbrev OrderedIn : State → Arrivals → ℕ → Type 0
-OrderedIn s told n = Ordered (s .line) (s .semaphores .fifo) told n
+OrderedIn s told n = Ordered (s .line) (objectsOf s .fifo) told n
 
 event-sound : (s : State) (x : Event) → Sound s → Sound (answerTo s x .state)
 event-sound s x ok = step-keeps s ok (x .call) (x .mark) (x .a) (x .b) (x .c) (x .d) (x .e)
@@ -57,14 +60,18 @@ after-ordered s [] told n ok h = (n, h)
 after-ordered s (x ∷ xs) told n ok h =
     after-ordered (answerTo s x .state) xs (arrives told n s (answerTo s x)) (suc n) (event-sound s x ok) (event-ordered s x told n ok h)
 
--- a fresh state has no semaphore, so nobody waits
+-- a fresh state has no object, so nobody waits
 getD-same : {A : Type 0} (n i : ℕ) (a : A) → getD (replicate n a) i a ≡ a
 getD-same n i a =
     ⊎-elim (λ h. getD-replicate n i a a h) (λ h. List·getD-eq-default (replicate n a) a (omega (arith, length-replicate n a))) (lt-or-le i n)
 
-fresh-dead : (p i : ℕ) → getD (fresh p .state .semaphores .live) i false ≡ false
-unfolding fresh freshState
-fresh-dead p i = by-choice (λ (f : Fresh). getD (f .state .semaphores .live) i false ≡ false) (ltb 15 p) (λ e. getD-same 16 i false) (λ e. getD-same 16 i false)
+fresh-dead : (p i : ℕ) → objectsOf (fresh p .state) .live i ≡ false
+unfolding fresh freshState objects
+fresh-dead p i = by-choice (λ (f : Fresh). objectsOf (f .state) .live i ≡ false) (ltb 15 p) (λ e. getD-same 16 i false) (λ e. getD-same 16 i false)
+
+fresh-nobody : (p i : ℕ) → i < objectsEnd → (t : ℕ) → In (fresh p .state .line .seat) (queueSeats i) t → ⊥
+fresh-nobody p i h =
+    dead-nobody (fresh p .state .line) (fresh p .state .tasks) (objectsOf (fresh p .state)) (fresh-always p .line) i h (fresh-dead p i)
 
 fresh-ordered : (p : ℕ) → OrderedIn (fresh p .state) noArrivals 1
 fresh-ordered p =
@@ -72,8 +79,8 @@ fresh-ordered p =
       times = refl;
       priorities = refl;
       below = λ t. omega (arith, getD-same {A = ℕ} 32 t 0);
-      joined = λ i h t a. absurd (dead-nobody (fresh p .state) (fresh-always p) i h (fresh-dead p i) t a);
-      order = λ i h t u a b less. absurd (dead-nobody (fresh p .state) (fresh-always p) i h (fresh-dead p i) t a);
+      joined = λ i h t a. absurd (fresh-nobody p i h t a);
+      order = λ i h t u a b less. absurd (fresh-nobody p i h t a);
     }
 
 -- no two tasks precede each other
@@ -88,7 +95,7 @@ ordered-both s told n ok h =
       joined = h .joined;
       forward = h .order;
       back = λ i hi t u a b p.
-          let once : (c : Precedes s told i u t) → ⊥ = λ c. ahead-once (getD (s .semaphores .fifo) i false) told t u p c in
+          let once : (c : Precedes s told i u t) → ⊥ = λ c. ahead-once (objectsOf s .fifo i) told t u p c in
           ⊎-elim (λ l. l)
           (λ l. absurd (⊎-elim
           (λ e. let d : u ≡ t = ok .line .queues .seated (queueSeats i) (omega arith) .once u t b e in
@@ -99,7 +106,7 @@ ordered-both s told n ok h =
     }
 
 -- a release wakes the task on the first seat, and all others sit behind it
-module _ (s : State) (told : Arrivals) (n : ℕ) (ok : Sound s) (h : OrderedIn s told n) (i : ℕ) (hi : i < 16)
+module _ (s : State) (told : Arrivals) (n : ℕ) (ok : Sound s) (h : OrderedIn s told n) (i : ℕ) (hi : i < objectsEnd)
     (some : 0 < waitersOf (s .line) i) where
   abbrev t : ℕ
   t = firstOf (s .line .seat) (queueSeats i)

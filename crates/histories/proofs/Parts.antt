@@ -5,22 +5,23 @@ use Rattle.scope.specs.declared.State.{State}
 use Rattle.scope.specs.declared.Line.{Line}
 use Rattle.scope.specs.declared.Tasks.{Tasks}
 use Rattle.scope.specs.declared.Semaphores.{Semaphores}
+use Rattle.scope.specs.Objects.{objects, objectsOf}
 use Rattle.scope.specs.Views.{withLine, withTasks, withSemaphores}
 use Rattle.histories.specs.Sound.{LineSound, TasksSound, SemsSound, Sound}
 
 module _ (s : State) (ok : Sound s) where
   -- tasks stand elsewhere, and the tables of tasks and semaphores may change with it; who runs is told anew
-  pub all-sound : (l : Line) (k : Tasks) (m : Semaphores) → LineSound l k m → TasksSound k → SemsSound m
+  pub all-sound : (l : Line) (k : Tasks) (m : Semaphores) → LineSound l k (objects m) → TasksSound k → SemsSound m
       → Sound (withLine (withTasks (withSemaphores s m) k) l)
   all-sound l k m line tasks sems = record { line = line; tasks = tasks; semaphores = sems; pools = ok .pools; running = refl }
 
   -- tasks stand elsewhere
-  pub line-sound : (l : Line) → LineSound l (s .tasks) (s .semaphores) → Sound (withLine s l)
+  pub line-sound : (l : Line) → LineSound l (s .tasks) (objectsOf s) → Sound (withLine s l)
   line-sound l line = record { line = line; tasks = ok .tasks; semaphores = ok .semaphores; pools = ok .pools; running = refl }
 
   -- tasks stand where they stood, and a table changes
-  pub tasks-sound : (k : Tasks) → LineSound (s .line) k (s .semaphores) → TasksSound k → Sound (withTasks s k)
+  pub tasks-sound : (k : Tasks) → LineSound (s .line) k (objectsOf s) → TasksSound k → Sound (withTasks s k)
   tasks-sound k line tasks = record { line = line; tasks = tasks; semaphores = ok .semaphores; pools = ok .pools; running = ok .running }
 
-  pub semaphores-sound : (m : Semaphores) → LineSound (s .line) (s .tasks) m → SemsSound m → Sound (withSemaphores s m)
+  pub semaphores-sound : (m : Semaphores) → LineSound (s .line) (s .tasks) (objects m) → SemsSound m → Sound (withSemaphores s m)
   semaphores-sound m line sems = record { line = line; tasks = ok .tasks; semaphores = sems; pools = ok .pools; running = ok .running }

@@ -14,11 +14,11 @@ use borrow.Author.Tests.{le-ltb, ltb-true, ltb-false, leb-false, not-true, not-f
 use Rattle.scope.specs.declared.State.{State}
 use Rattle.scope.specs.declared.Line.{Line}
 use Rattle.scope.specs.declared.Tasks.{Tasks}
-use Rattle.scope.specs.declared.Semaphores.{Semaphores}
 use Rattle.scope.specs.declared.Found.the-variants.{At, Invalid}
 use Rattle.scope.specs.Choice.{pick}
 use Rattle.scope.specs.Identifiers.{found, lowestUsable}
 use Rattle.scope.specs.Seats.{leaves, becomesReady, waitsOn}
+use Rattle.scope.specs.Objects.{Objects, objectsOf}
 use Rattle.scope.specs.Views.{withLine, withTasks, withSeats, withWait, readyWith, isReady}
 use Rattle.scope.specs.Tasks.{taskFound, taskBorn, taskGone, withStarted, withSuspended, withPriority, taskCreateAt, taskCreate, taskDeleteAt, taskDelete, taskIdentAt, taskIdent, taskStartAt, taskStart, taskSuspendAt, taskSuspend, taskResumeAt, taskResume, taskSetPriorityAt, taskSetPriority}
 use Rattle.laws.proofs.Branches.{eq-or-not, both, both-true, second-fails, not-of-false, true-false, true-or-false}
@@ -222,20 +222,20 @@ module _ (k : Tasks) (sound : TasksSound k) (t : ℕ) (room : t < 32) where
 -- What becomes of a state whose slot t is written, by where its task stood and where it goes.
 module _ (s : State) (ok : Sound s) (t : ℕ) (room : t < 32) {j : Tasks} {a b : Bool} {p : ℕ} (w : Writes (s .tasks) j t a b p) where
   -- a task that stands nowhere is out, and may stay so
-  nowhere-gone : Nowhere (s .line) (s .tasks) t → Out (s .line) j (s .semaphores) t
-  nowhere-gone here = nowhere-out (s .line) (s .tasks) (s .semaphores) (ok .line) j t (w .agree) here
+  nowhere-gone : Nowhere (s .line) (s .tasks) t → Out (s .line) j (objectsOf s) t
+  nowhere-gone here = nowhere-out (s .line) (s .tasks) (objectsOf s) (ok .line) j t (w .agree) here
 
   idle-now : (a ≡ false) ⊎ (b ≡ true) → (getD (j .started) t false ≡ false) ⊎ (getD (j .suspended) t false ≡ true)
   idle-now = ⊎-elim (λ e. inl (w .started ∙ e)) (λ e. inr (w .suspended ∙ e))
 
   stays-nowhere : Nowhere (s .line) (s .tasks) t → (a ≡ false) ⊎ (b ≡ true) → Sound (withTasks s j)
-  stays-nowhere here idle = tasks-sound s ok j (stays (s .line) j (s .semaphores) t (nowhere-gone here) (idle-now idle)) (w .table)
+  stays-nowhere here idle = tasks-sound s ok j (stays (s .line) j (objectsOf s) t (nowhere-gone here) (idle-now idle)) (w .table)
 
   -- a waiting task waits
-  stays-waiting : Waits (s .line) (s .tasks) (s .semaphores) t → a ≡ true → Sound (withTasks s j)
+  stays-waiting : Waits (s .line) (s .tasks) (objectsOf s) t → a ≡ true → Sound (withTasks s j)
   stays-waiting here e =
       tasks-sound s ok j
-      (retold (s .line) (s .tasks) (s .semaphores) (ok .line) j t (w .agree)
+      (retold (s .line) (s .tasks) (objectsOf s) (ok .line) j t (w .agree)
       (inr (inl (record {
         on = here .on;
         within = here .within;
@@ -248,14 +248,14 @@ module _ (s : State) (ok : Sound s) (t : ℕ) (room : t < 32) {j : Tasks} {a b :
       (w .table)
 
   -- a task that is out in another line stays out, or becomes ready
-  module _ (l : Line) (out : Out l j (s .semaphores) t) where
+  module _ (l : Line) (out : Out l j (objectsOf s) t) where
     leaves-idle : (a ≡ false) ⊎ (b ≡ true) → Sound (withLine (withTasks s j) l)
-    leaves-idle idle = all-sound s ok l j (s .semaphores) (stays l j (s .semaphores) t out (idle-now idle)) (w .table) (ok .semaphores)
+    leaves-idle idle = all-sound s ok l j (s .semaphores) (stays l j (objectsOf s) t out (idle-now idle)) (w .table) (ok .semaphores)
 
     turns-ready : (key : List ℕ) → a ≡ true → b ≡ false → Sound (withLine (withTasks s j) (withSeats l (becomesReady (l .seat) key t p)))
     turns-ready key e f =
         all-sound s ok (withSeats l (becomesReady (l .seat) key t p)) j (s .semaphores)
-        (becomes-ready l j (s .semaphores) t room out key p (w .started ∙ e) (w .suspended ∙ f) (w .priority))
+        (becomes-ready l j (objectsOf s) t room out key p (w .started ∙ e) (w .suspended ∙ f) (w .priority))
         (w .table) (ok .semaphores)
 
 -- a ready task passes its test, and who passes it is ready
@@ -266,7 +266,7 @@ ready-is l k t here =
     (both _ _ (not-of-false _ (here .awake))
     (not-of-false _ (second-fails (ltb 0 (getD (l .seat) t 0)) _ (le-ltb (getD (l .seat) t 0) 2048 (omega (arith, here .stands .0))))))
 
-is-ready : (l : Line) (k : Tasks) (m : Semaphores) (t : ℕ) → LineSound l k m → t < 32 → isReady l k t ≡ true → Ready l k t
+is-ready : (l : Line) (k : Tasks) (m : Objects) (t : ℕ) → LineSound l k m → t < 32 → isReady l k t ≡ true → Ready l k t
 unfolding readyWith
 is-ready l k m t ok room e =
     let c = both-true (getD (k .started) t false) _ e in
@@ -282,7 +282,7 @@ module _ (s : State) (ok : Sound s) where
       (λ e. let room : t < 32 = omega (arith, leb-false (length (s .tasks .serial)) t e, ok .tasks .serials) in
       gives-kept _
       (stays-nowhere s ok t room (writes-born (s .tasks) (ok .tasks) t room name p small)
-      (idle-nowhere (s .line) (s .tasks) (s .semaphores) (ok .line) t room (ok .tasks .each t room .started (free room)))
+      (idle-nowhere (s .line) (s .tasks) (objectsOf s) (ok .line) t room (ok .tasks .each t room .started (free room)))
       (inl refl)))
 
   pub taskCreate-sound : (name p : ℕ) → Kept (taskCreate s name p)
@@ -309,7 +309,7 @@ module _ (s : State) (ok : Sound s) where
         let w = writes-gone (s .tasks) (ok .tasks) t room in
         plain-kept _
         (leaves-idle s ok t room w (withWait (s .line) t 0 0 (leaves (s .line .seat) t))
-        (gone (s .line) (s .tasks) (s .semaphores) (ok .line) (taskGone (s .tasks) t) t room (w .agree))
+        (gone (s .line) (s .tasks) (objectsOf s) (ok .line) (taskGone (s .tasks) t) t room (w .agree))
         (inl refl))
 
     module _ (alive : getD (s .tasks .live) t false ≡ true) where
@@ -320,7 +320,7 @@ module _ (s : State) (ok : Sound s) where
           by-choice Kept _ (λ e. plain-kept _ ok)
           (λ e. plain-kept _
           (turns-ready s ok t room w (s .line)
-          (nowhere-gone s ok t room w (idle-nowhere (s .line) (s .tasks) (s .semaphores) (ok .line) t room e))
+          (nowhere-gone s ok t room w (idle-nowhere (s .line) (s .tasks) (objectsOf s) (ok .line) t room e))
           (s .line .joined) refl (ok .tasks .each t room .suspended e)))
 
       pub taskSuspendAt-sound : Kept (taskSuspendAt s t)
@@ -332,11 +332,11 @@ module _ (s : State) (ok : Sound s) where
           by-choice Kept _ (λ e. plain-kept _ ok)
           (λ awake. by-choice Kept _
           (λ e. plain-kept _
-          (stays-waiting s ok t room w (on-waits (s .line) (s .tasks) (s .semaphores) (ok .line) t room e) started))
+          (stays-waiting s ok t room w (on-waits (s .line) (s .tasks) (objectsOf s) (ok .line) t room e) started))
           (λ e. plain-kept _
           (leaves-idle s ok t room w (withSeats (s .line) (leaves (s .line .seat) t))
-          (ready-gone (s .line) (s .tasks) (s .semaphores) (ok .line) (withSuspended (s .tasks) t true) t (w .agree)
-          (off-ready (s .line) (s .tasks) (s .semaphores) (ok .line) t room e started awake))
+          (ready-gone (s .line) (s .tasks) (objectsOf s) (ok .line) (withSuspended (s .tasks) t true) t (w .agree)
+          (off-ready (s .line) (s .tasks) (objectsOf s) (ok .line) t room e started awake))
           (inr refl)))))
 
       pub taskResumeAt-sound : Kept (taskResumeAt s t)
@@ -349,11 +349,11 @@ module _ (s : State) (ok : Sound s) where
           (λ e. let suspended = not-false (getD (s .tasks .suspended) t false) e in
           by-choice Kept _
           (λ e. plain-kept _
-          (stays-waiting s ok t room w (on-waits (s .line) (s .tasks) (s .semaphores) (ok .line) t room e) started))
+          (stays-waiting s ok t room w (on-waits (s .line) (s .tasks) (objectsOf s) (ok .line) t room e) started))
           (λ e. plain-kept _
           (turns-ready s ok t room w (s .line)
           (nowhere-gone s ok t room w
-          (off-nowhere (s .line) (s .tasks) (s .semaphores) (ok .line) t room e suspended))
+          (off-nowhere (s .line) (s .tasks) (objectsOf s) (ok .line) t room e suspended))
           (s .line .joined) started refl))))
 
       pub taskSetPriorityAt-sound : (p : ℕ) → Kept (taskSetPriorityAt s p t)
@@ -363,10 +363,10 @@ module _ (s : State) (ok : Sound s) where
           (λ small. let j : Tasks = withPriority (s .tasks) t p in
           let w = writes-priority (s .tasks) (ok .tasks) t room alive p (ltb-false 15 p small) in
           by-choice Kept _
-          (λ e. let here : Ready (s .line) (s .tasks) t = is-ready (s .line) (s .tasks) (s .semaphores) t (ok .line) room e in
+          (λ e. let here : Ready (s .line) (s .tasks) t = is-ready (s .line) (s .tasks) (objectsOf s) t (ok .line) room e in
           gives-kept _
           (turns-ready s ok t room w (withSeats (s .line) (leaves (s .line .seat) t))
-          (ready-gone (s .line) (s .tasks) (s .semaphores) (ok .line) j t (w .agree) here)
+          (ready-gone (s .line) (s .tasks) (objectsOf s) (ok .line) j t (w .agree) here)
           (s .line .joined) (here .started) (here .awake)))
           (λ e. gives-kept _
           (⊎-elim (λ here. stays-nowhere s ok t room w here (here .idle))

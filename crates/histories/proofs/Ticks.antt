@@ -14,9 +14,9 @@ use borrow.Author.Tests.{le-leb, leb-true, eq-eqb, ne-eqb}
 use Rattle.scope.specs.declared.State.{State}
 use Rattle.scope.specs.declared.Line.{Line}
 use Rattle.scope.specs.declared.Tasks.{Tasks}
-use Rattle.scope.specs.declared.Semaphores.{Semaphores}
 use Rattle.scope.specs.declared.Waking.{Waking}
 use Rattle.scope.specs.Choice.{pick}
+use Rattle.scope.specs.Objects.{Objects, objectsOf}
 use Rattle.scope.specs.Answers.{wakesWith}
 use Rattle.scope.specs.Waiting.{FOREVER, isTimeOut, wokenSeats, wake, wakeNext, noneWoken}
 use Rattle.scope.specs.Ticks.{timeLeft, timesLeft, ticked, isDue, wakeDue, tick}
@@ -115,7 +115,7 @@ module _ (g left : List ℕ) (t : ℕ) (passed : Passed g left t) where
       }
 
 -- all are gone past
-passed-all : (l : Line) (k : Tasks) (m : Semaphores) (g : List ℕ) → LineSound (withLeft l g) k m → Passed g (l .left) 32 → LineSound l k m
+passed-all : (l : Line) (k : Tasks) (m : Objects) (g : List ℕ) → LineSound (withLeft l g) k m → Passed g (l .left) 32 → LineSound l k m
 passed-all l k m g ok passed =
     record {
       lefts = passed .size;
@@ -148,7 +148,7 @@ passed-all l k m g ok passed =
     }
 
 -- a task that is not due has a time_out left
-not-due : (l : Line) (k : Tasks) (m : Semaphores) (g : List ℕ) (t : ℕ) → t < 32 → LineSound (withLeft l g) k m → Passed g (l .left) t
+not-due : (l : Line) (k : Tasks) (m : Objects) (g : List ℕ) (t : ℕ) → t < 32 → LineSound (withLeft l g) k m → Passed g (l .left) t
     → isDue l t ≡ false → isTimeOut (getD g t 0) ≡ true → isTimeOut (getD (l .left) t 0) ≡ true
 unfolding isDue
 not-due l k m g t room ok passed e f =
@@ -162,7 +162,7 @@ not-due l k m g t room ok passed e f =
     (passed .some t f)
 
 -- one that is due is woken
-due-woken : (k : Tasks) (m : Semaphores) (w : Waking) (g : List ℕ) (t : ℕ) → t < 32 → LineSound (withLeft (w .line) g) k m → isDue (w .line) t ≡ true
+due-woken : (k : Tasks) (m : Objects) (w : Waking) (g : List ℕ) (t : ℕ) → t < 32 → LineSound (withLeft (w .line) g) k m → isDue (w .line) t ≡ true
     → LineSound (withLeft (wakeNext k w t .line) (set g t 0)) k m
 unfolding isDue wakeNext wake wokenSeats
 due-woken k m w g t room ok e =
@@ -173,7 +173,7 @@ next-left : (k : Tasks) (w : Waking) (t : ℕ) → wakeNext k w t .line .left �
 unfolding wakeNext wake
 next-left k w t = refl
 
-due-sound : (k : Tasks) (m : Semaphores) (n t : ℕ) (w : Waking) (g : List ℕ) → n + t ≡ 32 → LineSound (withLeft (w .line) g) k m → Passed g (w .line .left) t
+due-sound : (k : Tasks) (m : Objects) (n t : ℕ) (w : Waking) (g : List ℕ) → n + t ≡ 32 → LineSound (withLeft (w .line) g) k m → Passed g (w .line .left) t
     → LineSound (wakeDue k n t w .line) k m
 unfolding wakeDue
 due-sound k m zero t w g e ok passed = let d : t ≡ 32 = omega arith in passed-all (w .line) k m g ok (subst (Passed g (w .line .left)) d passed)
@@ -192,5 +192,5 @@ pub tick-sound : (s : State) → Sound s → Sound (tick s .state)
 unfolding tick wakesWith
 tick-sound s ok =
     line-sound s ok _
-    (due-sound (s .tasks) (s .semaphores) 32 0 (noneWoken (ticked (s .line))) (s .line .left) refl (ok .line)
+    (due-sound (s .tasks) (objectsOf s) 32 0 (noneWoken (ticked (s .line))) (s .line .left) refl (ok .line)
     (passed-start (s .line .left) (ok .line .lefts)))

@@ -3,12 +3,11 @@
 -- Assumes nothing.
 use Prim.Native.Nat.{ℕ, suc, _<_}
 use native.Mathlib.Omega.{arith}
-use mathlib.Core.Path.{_≡_, refl, sym, subst, ap}
+use mathlib.Core.Path.{_≡_, refl, sym, subst, ap, _∙_}
 use mathlib.Core.Logic.{inl, inr, ⊎-elim}
 use mathlib.Core.Bool.{Bool, true, false}
-use mathlib.Core.List.{List}
-use lib.ListN.{length, getD, set}
-use lib.Seq.{getD-set-same, getD-set-other}
+use lib.ListN.{length, getD}
+use lib.Seq.{getD-set-same}
 use lib.Dec.{ltb, eqb}
 use borrow.Author.Tests.{ltb-true, leb-false, not-false}
 use Rattle.scope.specs.declared.State.{State}
@@ -21,61 +20,63 @@ use Rattle.scope.specs.Choice.{pick}
 use Rattle.scope.specs.Statuses.{PENDING}
 use Rattle.scope.specs.Identifiers.{found}
 use Rattle.scope.specs.Seats.{queueSeats, firstOf, leaves, becomesReady}
+use Rattle.scope.specs.Objects.{objects, objectsOf}
 use Rattle.scope.specs.Answers.{answer, plain, badState, wakesWith}
 use Rattle.scope.specs.Tasks.{taskFound}
-use Rattle.scope.specs.Waiting.{noneWoken}
+use Rattle.scope.specs.Waiting.{waits, noneWoken}
 use Rattle.scope.specs.Semaphores.{semFound, semDeleteAt}
 use Rattle.scope.specs.Ticks.{ticked, tick}
 use Rattle.scope.specs.Step.{stepped}
-use Rattle.laws.proofs.Branches.{eq-or-not, true-false, picked-yes, picked-no}
-use Rattle.laws.proofs.Arrays.{inside}
+use Rattle.laws.proofs.Branches.{eq-or-not, picked-yes, picked-no}
 use Rattle.tables.proofs.Laws.{found-below, found-live, usable-at, usable-free}
 use Rattle.seats.specs.Rule.{In}
 use Rattle.seats.proofs.Leaving.{leaves-out}
 use Rattle.histories.specs.Order.{Arrivals, arrival, arrives}
-use Rattle.histories.specs.Sound.{Waits, Sound}
+use Rattle.histories.specs.Sound.{Sound}
 use Rattle.histories.specs.History.{Event}
 use Rattle.histories.proofs.Deeds.{newSemaphore, TaskMove, task-deleted, task-started, task-suspended, task-resumed, priority-set, SemChange, sem-created, unit-claimed, unit-released}
 use Rattle.histories.proofs.Deeds.{Deed, refused, tells, tasks-change, task-moves, sems-change, pools-change, caller-waits, first-woken, sem-deleted, time-passes, by-deed}
-use Rattle.histories.proofs.Moves.{queue-waits, seats-low, idle-nowhere, off-nowhere}
+use Rattle.histories.proofs.Objects.{sem-live, sem-fifo, Elsewhere, born-elsewhere, gone-elsewhere, units-fifo}
+use Rattle.histories.proofs.Moves.{seats-low, idle-nowhere, off-nowhere}
+use Rattle.histories.proofs.Waking.{dead-nobody}
 use Rattle.histories.proofs.Semaphores.{runs-ready, sem-delete-at}
 use Rattle.histories.proofs.Staying.{Good, Fewer, stays-same, stays-then, leaves-stays, leaves-good, ready-stays, fewer-same, fewer-then, left-fewer, next-fewer, all-fewer, due-fewer, ticked-fewer}
 use Rattle.histories.proofs.Arriving.{Ordered, Passes, passes-ordered, ordered-later, waits-ordered}
 
 -- an answer after which the queues are in order, if they were before
 pub record Goes (s : State) (a : Answer) : Type 0 where
-  pub goes : (told : Arrivals) (n : ℕ) → Ordered (s .line) (s .semaphores .fifo) told n
-      → Ordered (a .state .line) (a .state .semaphores .fifo) (arrives told n s a) (suc n)
+  pub goes : (told : Arrivals) (n : ℕ) → Ordered (s .line) (objectsOf s .fifo) told n
+      → Ordered (a .state .line) (objectsOf (a .state) .fifo) (arrives told n s a) (suc n)
 
 module _ {s : State} where
   -- nobody arrives
-  passes : {a : Answer} → eqb (a .status) PENDING ≡ false → Passes (s .line) (s .semaphores .fifo) (a .state .line) (a .state .semaphores .fifo) → Goes s a
+  passes : {a : Answer} → eqb (a .status) PENDING ≡ false → Passes (s .line) (objectsOf s .fifo) (a .state .line) (objectsOf (a .state) .fifo) → Goes s a
   unfolding arrives
   passes {a} e p =
       record {
         goes = λ told n ok.
-            subst (λ (x : Arrivals). Ordered (a .state .line) (a .state .semaphores .fifo) x (suc n)) (sym (picked-no (eqb (a .status) PENDING) _ told e))
+            subst (λ (x : Arrivals). Ordered (a .state .line) (objectsOf (a .state) .fifo) x (suc n)) (sym (picked-no (eqb (a .status) PENDING) _ told e))
             (ordered-later _ _ told n (passes-ordered _ _ _ _ told n p ok));
       }
 
   -- the caller does
   arrived-goes : {a : Answer} → a .status ≡ PENDING
-      → ((told : Arrivals) (n : ℕ) → Ordered (s .line) (s .semaphores .fifo) told n
-      → Ordered (a .state .line) (a .state .semaphores .fifo) (arrival told (s .running) n (getD (s .tasks .priority) (s .running) 0)) (suc n)) → Goes s a
+      → ((told : Arrivals) (n : ℕ) → Ordered (s .line) (objectsOf s .fifo) told n
+      → Ordered (a .state .line) (objectsOf (a .state) .fifo) (arrival told (s .running) n (getD (s .tasks .priority) (s .running) 0)) (suc n)) → Goes s a
   unfolding arrives
   arrived-goes {a} e f =
       record {
         goes = λ told n ok.
-            subst (λ (x : Arrivals). Ordered (a .state .line) (a .state .semaphores .fifo) x (suc n))
+            subst (λ (x : Arrivals). Ordered (a .state .line) (objectsOf (a .state) .fifo) x (suc n))
             (sym (picked-yes (eqb (a .status) PENDING) _ told (ap (λ (x : ℕ). eqb x PENDING) e)))
             (f told n ok);
       }
 
 -- the queues' tasks go on waiting, or leave
-moved : {l r : Line} {fifo : List Bool} → Fewer l r → Passes l fifo r fifo
+moved : {l r : Line} {fifo : ℕ → Bool} → Fewer l r → Passes l fifo r fifo
 moved f = record { line = f; fifos = λ i h. inl refl }
 
-same : {l : Line} {fifo : List Bool} → Passes l fifo l fifo
+same : {l : Line} {fifo : ℕ → Bool} → Passes l fifo l fifo
 same = moved (fewer-same _)
 
 pub stay : {s : State} (x : ℕ) → eqb x PENDING ≡ false → Goes s (plain s x)
@@ -87,12 +88,9 @@ unfolding badState
 broken-goes s = passes refl same
 
 -- nobody waits for a semaphore that is not live
-pub dead-nobody : (s : State) → Sound s → (i : ℕ) → i < 16 → getD (s .semaphores .live) i false ≡ false → (t : ℕ) → In (s .line .seat) (queueSeats i) t → ⊥
-dead-nobody s ok i hi dead t a =
-    let room : t < 32 = inside 32 (s .line .seat) t (ok .line .queues .tasks) (λ z. omega (arith, z, a .0)) in
-    let w : (w : Waits (s .line) (s .tasks) (s .semaphores) t) × (w .on ≡ i) =
-    queue-waits (s .line) (s .tasks) (s .semaphores) (ok .line) t room i hi a in
-    true-false (subst (λ (v : ℕ). getD (s .semaphores .live) v false ≡ true) (w .1) (w .0 .alive)) dead
+pub no-waiters : (s : State) → Sound s → (i : ℕ) → i < 16 → getD (s .semaphores .live) i false ≡ false → (t : ℕ) → In (s .line .seat) (queueSeats i) t → ⊥
+no-waiters s ok i hi dead =
+    dead-nobody (s .line) (s .tasks) (objectsOf s) (ok .line) i (omega arith) (sem-live (s .semaphores) i hi ∙ dead)
 
 module _ (s : State) (ok : Sound s) where
   abbrev l : Line
@@ -105,7 +103,7 @@ module _ (s : State) (ok : Sound s) where
   m = s .semaphores
 
   pub good : Good (l .seat)
-  good = record { queues = ok .line .queues; low = seats-low l k m (ok .line) }
+  good = record { queues = ok .line .queues; low = seats-low l k (objectsOf s) (ok .line) }
 
   pub task-room : (id t : ℕ) → taskFound s id ≡ At t → t < 32
   unfolding taskFound pick
@@ -123,14 +121,15 @@ module _ (s : State) (ok : Sound s) where
   pub slot-room : (id i : ℕ) → semFound s id ≡ At i → i < 16
   slot-room id i e = omega (arith, found-below (m .serial) (m .live) id e, ok .semaphores .serials)
 
-  -- a slot where nobody stands in the queue becomes FIFO or not
-  slot-passes : (r : Line) (i : ℕ) (b : Bool) → Fewer l r → ((t : ℕ) → In (r .seat) (queueSeats i) t → ⊥) → Passes l (m .fifo) r (set (m .fifo) i b)
-  slot-passes r i b f none =
+  -- a slot where nobody stands in the queue changes
+  slot-passes : (r : Line) (n : Semaphores) (i : ℕ) → Fewer l r → Elsewhere (objects m) (objects n) i → ((t : ℕ) → In (r .seat) (queueSeats i) t → ⊥)
+      → Passes l (objects m .fifo) r (objects n .fifo)
+  slot-passes r n i f same none =
       record {
         line = f;
         fifos = λ j h.
             ⊎-elim (λ e. inr (subst (λ (v : ℕ). (t : ℕ) → In (r .seat) (queueSeats v) t → ⊥) (sym e) none))
-            (λ ne. inl (getD-set-other (m .fifo) i j b false ne))
+            (λ ne. inl (same .fifo j ne))
             (eq-or-not j i);
       }
 
@@ -140,11 +139,11 @@ module _ (s : State) (ok : Sound s) where
     move-fewer (task-deleted at t e) = left-fewer l good t 0 0 (leaves (l .seat) t) (stays-same (leaves (l .seat) t))
     move-fewer (task-started at t e f) =
         let room : t < 32 = task-room (x .a) t e in
-        readied-goes t _ room (idle-nowhere l k m (ok .line) t room f .seat)
+        readied-goes t _ room (idle-nowhere l k (objectsOf s) (ok .line) t room f .seat)
     move-fewer (task-suspended at t e f g h) = record { seats = leaves-stays (l .seat) good t; joined = λ o a b u i. refl }
     move-fewer (task-resumed at t e f g h) =
         let room : t < 32 = task-room (x .a) t e in
-        readied-goes t _ room (off-nowhere l k m (ok .line) t room h (not-false (getD (k .suspended) t false) g) .seat)
+        readied-goes t _ room (off-nowhere l k (objectsOf s) (ok .line) t room h (not-false (getD (k .suspended) t false) g) .seat)
     move-fewer (priority-set at t e f g) =
         record {
           seats = stays-then (l .seat) (leaves (l .seat) t) _ (leaves-stays (l .seat) good t)
@@ -152,14 +151,15 @@ module _ (s : State) (ok : Sound s) where
           joined = λ o a b u h. refl;
         }
 
-    sem-passes : {n : Semaphores} {v : ℕ} → SemChange s x n v → Passes l (m .fifo) l (n .fifo)
+    sem-passes : {n : Semaphores} {v : ℕ} → SemChange s x n v → Passes l (objects m .fifo) l (objects n .fifo)
     sem-passes (sem-created at e f g) =
         let h : newSemaphore s < length (m .serial) = leb-false (length (m .serial)) (newSemaphore s) g in
-        slot-passes l (newSemaphore s) (eqb (x .c) 1) (fewer-same l)
-        (dead-nobody s ok (newSemaphore s) (omega (arith, h, ok .semaphores .serials))
+        slot-passes l _ (newSemaphore s) (fewer-same l)
+        (born-elsewhere m (newSemaphore s) _ _ _)
+        (no-waiters s ok (newSemaphore s) (omega (arith, h, ok .semaphores .serials))
         (usable-free (m .serial) (m .live) (newSemaphore s) (usable-at (m .serial) (m .live) h)))
-    sem-passes (unit-claimed at i e f) = same
-    sem-passes (unit-released at i e f g) = same
+    sem-passes (unit-claimed at i e f) = subst (λ (f : ℕ → Bool). Passes l (objects m .fifo) l f) (sym (units-fifo m i _)) same
+    sem-passes (unit-released at i e f g) = subst (λ (f : ℕ → Bool). Passes l (objects m .fifo) l f) (sym (units-fifo m i _)) same
 
     deed-goes : {a : Answer} → Deed s x a → Goes s a
     unfolding plain answer wakesWith semDeleteAt tick
@@ -171,13 +171,19 @@ module _ (s : State) (ok : Sound s) where
     deed-goes (pools-change c) = passes refl same
     deed-goes (caller-waits at i e f g) =
         let h : s .running < 32 = leb-false 32 (s .running) g in
-        arrived-goes refl (waits-ordered l k m (ok .line) (s .running) h (runs-ready s ok h) i _ (x .c) (slot-room (x .a) i e))
+        let hi : i < 16 = slot-room (x .a) i e in
+        let p : ℕ = getD (k .priority) (s .running) 0 in
+        arrived-goes refl
+        (λ told n before.
+        subst (λ (f : Bool). Ordered (waits l i f p (x .c) (s .running)) (objectsOf s .fifo) (arrival told (s .running) n p) (suc n)) (sem-fifo m i hi)
+        (waits-ordered l k (objectsOf s) (ok .line) (s .running) h (runs-ready s ok h) i p (x .c) (omega arith) told n before))
     deed-goes (first-woken at i e f) = passes refl (moved (next-fewer k (noneWoken l) (firstOf (l .seat) (queueSeats i)) (ltb-true _ 32 f) good))
     deed-goes (sem-deleted at i e) =
         let hi : i < 16 = slot-room (x .a) i e in
         passes refl
-        (slot-passes _ i false (all-fewer k i 32 (noneWoken l) good)
-        (dead-nobody (semDeleteAt s i .state) (sem-delete-at s ok i hi (found-live (m .serial) (m .live) (x .a) e)) i hi
+        (slot-passes _ _ i (all-fewer k i 32 (noneWoken l) good)
+        (gone-elsewhere m i)
+        (no-waiters (semDeleteAt s i .state) (sem-delete-at s ok i hi (found-live (m .serial) (m .live) (x .a) e)) i hi
         (getD-set-same (m .live) i false false (omega (arith, ok .semaphores .lives)))))
     deed-goes (time-passes at) =
         passes refl (moved (fewer-then l (ticked l) _ (ticked-fewer l) (due-fewer k 32 0 (noneWoken (ticked l)) (omega arith) good)))

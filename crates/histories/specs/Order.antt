@@ -14,6 +14,7 @@ use Rattle.scope.specs.Choice.{pick}
 use Rattle.scope.specs.Statuses.{PENDING}
 use Rattle.scope.specs.Identifiers.{identifier}
 use Rattle.scope.specs.Seats.{queueSeats}
+use Rattle.scope.specs.Objects.{objectsEnd, objectsOf}
 use Rattle.seats.specs.Rule.{In}
 use Rattle.histories.specs.History.{Event, answerTo}
 
@@ -50,20 +51,20 @@ Ahead false told t u =
     (getD (told .priority) u 0 < getD (told .priority) t 0)
     ⊎ ((getD (told .priority) t 0 ≡ getD (told .priority) u 0) × (getD (told .time) t 0 < getD (told .time) u 0))
 
--- task t waits for the semaphore in slot i
+-- task t waits for object i
 abbrev pub WaitsFor : State → ℕ → ℕ → Type 0
 WaitsFor s i t = In (s .line .seat) (queueSeats i) t
 
 -- of two tasks that wait for it, t precedes u
 abbrev pub Precedes : State → Arrivals → ℕ → ℕ → ℕ → Type 0
-Precedes s told i t u = Ahead (getD (s .semaphores .fifo) i false) told t u
+Precedes s told i t u = Ahead (objectsOf s .fifo i) told t u
 
--- Each semaphore's queue is in that order, and a waiting task's joining priority is the one that it had when it arrived.
+-- Each object's queue is in that order, and a waiting task's joining priority is the one that it had when it arrived.
 pub record InOrder (s : State) (told : Arrivals) : Type 0 where
-  pub joined : (i : ℕ) → i < 16 → (t : ℕ) → WaitsFor s i t → getD (s .line .joined) t 0 ≡ getD (told .priority) t 0
-  pub forward : (i : ℕ) → i < 16 → (t u : ℕ) → WaitsFor s i t → WaitsFor s i u → getD (s .line .seat) t 0 < getD (s .line .seat) u 0
+  pub joined : (i : ℕ) → i < objectsEnd → (t : ℕ) → WaitsFor s i t → getD (s .line .joined) t 0 ≡ getD (told .priority) t 0
+  pub forward : (i : ℕ) → i < objectsEnd → (t u : ℕ) → WaitsFor s i t → WaitsFor s i u → getD (s .line .seat) t 0 < getD (s .line .seat) u 0
       → Precedes s told i t u
-  pub back : (i : ℕ) → i < 16 → (t u : ℕ) → WaitsFor s i t → WaitsFor s i u → Precedes s told i t u
+  pub back : (i : ℕ) → i < objectsEnd → (t u : ℕ) → WaitsFor s i t → WaitsFor s i u → Precedes s told i t u
       → getD (s .line .seat) t 0 < getD (s .line .seat) u 0
 
 -- An answer that grants semaphore i, for which tasks waited: it wakes one of them, with status 0, and that one precedes all others.

@@ -1,5 +1,5 @@
 -- A sound state, said without tests: what `sound` (scope's Rules.antt) asks, in the form that proofs use.
--- Each task stands nowhere, waits in one live semaphore's queue, or stands among the ready tasks of its priority.
+-- Each task stands nowhere, waits in one live object's queue, or stands among the ready tasks of its priority.
 -- Assumes nothing.
 use Prim.Native.Nat.{ℕ, _+_, _≤_, _<_}
 use mathlib.Core.Path.{_≡_}
@@ -12,6 +12,7 @@ use Rattle.scope.specs.declared.Tasks.{Tasks}
 use Rattle.scope.specs.declared.Semaphores.{Semaphores}
 use Rattle.scope.specs.declared.Pools.{Pools}
 use Rattle.scope.specs.Seats.{queueSeats, ringSeats, standing, runnerOf}
+use Rattle.scope.specs.Objects.{objectsEnd, Objects, objectsOf}
 use Rattle.scope.specs.Waiting.{isTimeOut}
 use Rattle.scope.specs.Rules.{poolRight, poolsApart}
 use Rattle.seats.specs.Rule.{In, Sorted, Queues}
@@ -23,11 +24,11 @@ pub record Nowhere (l : Line) (k : Tasks) (t : ℕ) : Type 0 where
   pub joined : getD (l .joined) t 0 ≡ 0
   pub idle : (getD (k .started) t false ≡ false) ⊎ (getD (k .suspended) t false ≡ true)
 
--- task t waits for semaphore `on`, suspended or not
-pub record Waits (l : Line) (k : Tasks) (m : Semaphores) (t : ℕ) : Type 0 where
+-- task t waits for object `on`, suspended or not
+pub record Waits (l : Line) (k : Tasks) (o : Objects) (t : ℕ) : Type 0 where
   pub on : ℕ
-  pub within : on < 16
-  pub alive : getD (m .live) on false ≡ true
+  pub within : on < objectsEnd
+  pub alive : o .live on ≡ true
   pub stands : In (l .seat) (queueSeats on) t
   pub started : getD (k .started) t false ≡ true
   pub time : isTimeOut (getD (l .left) t 0) ≡ true
@@ -41,16 +42,17 @@ pub record Ready (l : Line) (k : Tasks) (t : ℕ) : Type 0 where
   pub left : getD (l .left) t 0 ≡ 0
   pub joined : getD (l .joined) t 0 ≡ 0
 
-abbrev pub Stands : Line → Tasks → Semaphores → ℕ → Type 0
-Stands l k m t = Nowhere l k t ⊎ (Waits l k m t ⊎ Ready l k t)
+abbrev pub Stands : Line → Tasks → Objects → ℕ → Type 0
+Stands l k o t = Nowhere l k t ⊎ (Waits l k o t ⊎ Ready l k t)
 
-pub record LineSound (l : Line) (k : Tasks) (m : Semaphores) : Type 0 where
+-- where tasks stand is sound: a queue that is not FIFO is by joining priority, and an object that tasks wait for has no stock
+pub record LineSound (l : Line) (k : Tasks) (o : Objects) : Type 0 where
   pub lefts : length (l .left) ≡ 32
   pub joineds : length (l .joined) ≡ 32
   pub queues : Queues (l .seat)
-  pub stands : (t : ℕ) → t < 32 → Stands l k m t
-  pub sorted : (i : ℕ) → i < 16 → getD (m .fifo) i false ≡ false → Sorted (l .seat) (l .joined) (queueSeats i)
-  pub counts : (i : ℕ) → i < 16 → 0 < standing (l .seat) (queueSeats i) → getD (m .units) i 0 ≡ 0
+  pub stands : (t : ℕ) → t < 32 → Stands l k o t
+  pub sorted : (i : ℕ) → i < objectsEnd → o .fifo i ≡ false → Sorted (l .seat) (l .joined) (queueSeats i)
+  pub counts : (i : ℕ) → i < objectsEnd → 0 < standing (l .seat) (queueSeats i) → o .stock i ≡ 0
 
 -- a live task's serial and priority are in range; a slot without one holds zeros; a task not started is not suspended
 pub record TaskSound (k : Tasks) (t : ℕ) : Type 0 where
@@ -97,7 +99,7 @@ pub record PoolsSound (p : Pools) : Type 0 where
   pub apart : poolsApart p ≡ true
 
 pub record Sound (s : State) : Type 0 where
-  pub line : LineSound (s .line) (s .tasks) (s .semaphores)
+  pub line : LineSound (s .line) (s .tasks) (objectsOf s)
   pub tasks : TasksSound (s .tasks)
   pub semaphores : SemsSound (s .semaphores)
   pub pools : PoolsSound (s .pools)

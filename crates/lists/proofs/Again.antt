@@ -11,9 +11,9 @@ use lib.ListN.{getD}
 use lib.Dec.{leb}
 use Rattle.scope.specs.declared.Line.{Line}
 use Rattle.scope.specs.declared.Tasks.{Tasks}
-use Rattle.scope.specs.declared.Semaphores.{Semaphores}
 use Rattle.scope.specs.Lists.{has, without, insert}
 use Rattle.scope.specs.Seats.{ringSeats, queueSeats, firstRing, standing, leaves, becomesReady, queue, readyOrder}
+use Rattle.scope.specs.Objects.{objectsEnd, Objects}
 use Rattle.laws.proofs.Branches.{true-false, true-or-false, eq-or-not}
 use Rattle.laws.proofs.Arrays.{inside}
 use Rattle.seats.specs.Rule.{In, Queues}
@@ -51,7 +51,7 @@ module _ (q key priority : List ℕ) (good : Good q) (own : Own q priority) (t :
       ready-order (leaves q t) key priority t p (leaves-good q good t .queues) room (leaves-out q t) own-left h
       ∙ ap (λ (l : List ℕ). insert (λ u. leb p (getD priority u 0)) t l) (leaves-order q (good .queues) (good .low) t)
 
-  pub again-queue : (p i : ℕ) → i < 16 → queue (becomesReady (leaves q t) key t p) i ≡ without t (queue q i)
+  pub again-queue : (p i : ℕ) → i < objectsEnd → queue (becomesReady (leaves q t) key t p) i ≡ without t (queue q i)
   again-queue p i h =
       ready-queue (leaves q t) key priority t p (leaves-good q good t .queues) room (leaves-out q t) own-left i h
       ∙ leaves-queue q (good .queues) (good .low) t i
@@ -86,7 +86,7 @@ module _ (q key priority : List ℕ) (good : Good q) (own : Own q priority) (t :
 
 -- who stands in a ring is on no queue, and the other way round
 module _ (q : List ℕ) (t : ℕ) where
-  pub off-queue : (i : ℕ) → i < 16 → firstRing ≤ getD q t 0 → without t (queue q i) ≡ queue q i
+  pub off-queue : (i : ℕ) → i < objectsEnd → firstRing ≤ getD q t 0 → without t (queue q i) ≡ queue q i
   unfolding queue
   off-queue i h high =
       without-none t (queue q i) (λ k. let a : In q (queueSeats i) t = queue-says q (queueSeats i) t k in omega (arith, a, h, high))
@@ -95,7 +95,7 @@ module _ (q : List ℕ) (t : ℕ) where
   off-order low = without-none t (readyOrder q) (λ k. let a = order-says q t k in omega (arith, a .2, low))
 
 -- a sound line
-module _ (l : Line) (k : Tasks) (m : Semaphores) (ok : LineSound l k m) where
+module _ (l : Line) (k : Tasks) (m : Objects) (ok : LineSound l k m) where
   pub good-line : Good (l .seat)
   good-line = record { queues = ok .queues; low = seats-low l k m ok }
 

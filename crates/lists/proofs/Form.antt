@@ -15,10 +15,12 @@ use borrow.Author.Tests.{eq-eqb, ne-eqb}
 use Rattle.scope.specs.declared.State.{State}
 use Rattle.scope.specs.Lists.{has, keep}
 use Rattle.scope.specs.Seats.{queueSeats, ringSeats, onSeat, standing, tasksFrom, queue, readyBelow, readyOrder}
+use Rattle.scope.specs.Objects.{objectsOf}
 use Rattle.laws.proofs.Branches.{lt-or-le, true-false}
 use Rattle.seats.specs.Rule.{In}
 use Rattle.seats.proofs.First.{on-seat}
 use Rattle.histories.specs.Sound.{Sound}
+use Rattle.histories.proofs.Objects.{live-sem}
 use Rattle.lists.specs.Along.{queueAbove, firstIn}
 use Rattle.lists.specs.Rules.{readyOf, queueIn}
 use Rattle.lists.proofs.Plain.{has-says, keep-all, keep-none, keep-append}
@@ -95,10 +97,10 @@ module _ (s r : State) (ok : Sound s) (fine : Sound r) (same : Alike s r) where
 
   rings : (p : ℕ) → p < 16 → queueAbove (s .line .seat) (ringSeats p) ≡ queueAbove (r .line .seat) (ringSeats p)
   rings p h =
-      sym (ring-of (s .line .seat) (s .tasks .priority) (own-line (s .line) (s .tasks) (s .semaphores) (ok .line)) p h)
+      sym (ring-of (s .line .seat) (s .tasks .priority) (own-line (s .line) (s .tasks) (objectsOf s) (ok .line)) p h)
       ∙ ap (λ (k : List ℕ). keep (λ u. eqb (getD k u 0) p) (readyOf s)) (same .priorities)
       ∙ ap (λ (l : List ℕ). keep (λ u. eqb (getD (r .tasks .priority) u 0) p) l) (same .order)
-      ∙ ring-of (r .line .seat) (r .tasks .priority) (own-line (r .line) (r .tasks) (r .semaphores) (fine .line)) p h
+      ∙ ring-of (r .line .seat) (r .tasks .priority) (own-line (r .line) (r .tasks) (objectsOf r) (fine .line)) p h
 
   ready : (p t : ℕ) → p < 16 → In (s .line .seat) (ringSeats p) t → getD (s .line .seat) t 0 ≡ getD (r .line .seat) t 0
   ready p t h a =
@@ -109,7 +111,7 @@ module _ (s r : State) (ok : Sound s) (fine : Sound r) (same : Alike s r) where
   stands-same : (t : ℕ) → t < 32 → 0 < getD (s .line .seat) t 0 → getD (s .line .seat) t 0 ≡ getD (r .line .seat) t 0
   stands-same t room h =
       ⊎-elim (λ n. absurd (omega (arith, n .seat, h)))
-      (λ w. ⊎-elim (λ x. waiter (x .on) t (x .within) (x .stands))
+      (λ w. ⊎-elim (λ x. waiter (x .on) t (live-sem (s .semaphores) (x .on) (ok .semaphores .lives) (x .alive)) (x .stands))
       (λ x. ready (getD (s .tasks .priority) t 0) t (range-below (s .tasks) (ok .tasks) t room) (x .stands))
       w)
       (ok .line .stands t room)

@@ -14,6 +14,7 @@ use borrow.Author.Tests.{le-leb, lt-leb, leb-true, leb-false}
 use Rattle.scope.specs.Lists.{has, insert}
 use Rattle.scope.specs.Seats.{queueSeats, ringSeats, standing, aheadOf, seatBehind, joins, becomesReady, queue, readyBelow, readyOrder}
 use Rattle.scope.proofs.Seats.{ahead-from}
+use Rattle.scope.specs.Objects.{objectsEnd}
 use Rattle.laws.proofs.Branches.{eq-or-not}
 use Rattle.seats.specs.Rule.{In, Seated, Sorted, Queues}
 use Rattle.seats.proofs.Counting.{standing-le}
@@ -136,7 +137,7 @@ module _ (q key : List ℕ) (t i p : ℕ) (rule : Queues q) (room : t < 32) (out
       joins-other-above q key t (queueSeats i) p rule room out (omega arith) (queueSeats j) (omega arith) (λ e. ne (omega (arith, e)))
 
   -- and the ready order stays
-  pub joins-queue-order : i < 16 → readyOrder (joins q key t (queueSeats i) p) ≡ readyOrder q
+  pub joins-queue-order : i < objectsEnd → readyOrder (joins q key t (queueSeats i) p) ≡ readyOrder q
   unfolding readyOrder
   joins-queue-order h =
       joins-other-rings q key t (queueSeats i) p rule room out (omega arith) 16 (λ m l e. omega (arith, e, h))
@@ -179,6 +180,6 @@ module _ (q key priority : List ℕ) (t p : ℕ) (rule : Queues q) (room : t < 3
   ready-order h = ready-below 16 h
 
   -- and the queues stay
-  pub ready-queue : (i : ℕ) → i < 16 → queue (becomesReady q key t p) i ≡ queue q i
+  pub ready-queue : (i : ℕ) → i < objectsEnd → queue (becomesReady q key t p) i ≡ queue q i
   unfolding queue
   ready-queue i h = joins-other-above q key t (ringSeats p) 0 rule room out (omega arith) (queueSeats i) (omega arith) (λ e. omega (arith, e, h))

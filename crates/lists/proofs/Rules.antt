@@ -12,6 +12,7 @@ use borrow.Author.Tests.{eq-eqb, eqb-true}
 use Rattle.scope.specs.declared.State.{State}
 use Rattle.scope.specs.Lists.{has}
 use Rattle.scope.specs.Seats.{queueSeats, ringSeats, firstRing, queueOf, standing, queue, runnerOf}
+use Rattle.scope.specs.Objects.{objectsOf}
 use Rattle.scope.specs.Views.{Signed, less, isReady, waitersOf, count}
 use Rattle.scope.specs.Waiting.{isTimeOut}
 use Rattle.scope.specs.Semaphores.{lastCount}
@@ -24,12 +25,12 @@ use Rattle.seats.specs.Rule.{In, Sorted, Queues}
 use Rattle.seats.proofs.Rule.{queues-from-rule}
 use Rattle.seats.proofs.Sorting.{steps-from-sorted, sorted-from-steps}
 use Rattle.histories.specs.Sound.{Sized}
+use Rattle.histories.proofs.Tests.{waits-is, waits-says, ready-says, idle-says, ready-right, ready-started, start-says, start-right, wait-says, rest-says, wait-right, joined-says, joined-right, task-range}
 use Rattle.lists.specs.Along.{Once, NeverRising, queueAbove, firstIn}
 use Rattle.lists.specs.Rules.{readyOf, queueIn, waiting, HoldsTheReady, PrioritiesFall, FirstRuns, StandsInOne, NoOther, JoinedFall, CountBelow, CountEmpty, Ordered, OwnRing, PrioritiesInRange, Tested}
 use Rattle.lists.proofs.Plain.{same-test, along-turn, along-at}
 use Rattle.lists.proofs.Members.{queue-rising, queue-once, queue-says, queue-has, queue-length}
 use Rattle.lists.proofs.Ready.{order-says, order-once, order-falls, order-has, order-first}
-use Rattle.lists.proofs.Tests.{waits-is, waits-says, ready-says, idle-says, ready-right, ready-started, start-says, start-right, wait-says, rest-says, wait-right, joined-says, joined-right, task-range}
 
 -- the test of the tasks says it of priorities
 pub priorities-in-range : (s : State) → tasksRight (s .tasks) ≡ true → PrioritiesInRange s
@@ -115,15 +116,15 @@ module _ (s : State) (sized : Sized s) (seats : seatsRight (s .line .seat) ≡ t
     ready-at t h =
         every-at (λ u. readyRight (getD (s .tasks .started) u false) (getD (s .tasks .suspended) u false) (priority u) (seat u)) 32 (passed .order) t h
 
-    wait-at : (t : ℕ) → t < 32 → waitRight (s .semaphores .live) (seat t) (getD (s .line .left) t 0) (getD (s .line .joined) t 0) ≡ true
+    wait-at : (t : ℕ) → t < 32 → waitRight (objectsOf s .live) (seat t) (getD (s .line .left) t 0) (getD (s .line .joined) t 0) ≡ true
     unfolding waitsRight
     wait-at t h =
-        every-at (λ u. waitRight (s .semaphores .live) (seat u) (getD (s .line .left) u 0) (getD (s .line .joined) u 0)) 32 (passed .waits) t h
+        every-at (λ u. waitRight (objectsOf s .live) (seat u) (getD (s .line .left) u 0) (getD (s .line .joined) u 0)) 32 (passed .waits) t h
 
-    joined-at : (t : ℕ) → t < 32 → joinedRight q (s .line .joined) (s .semaphores .fifo) (seat t) (getD (s .line .joined) t 0) ≡ true
+    joined-at : (t : ℕ) → t < 32 → joinedRight q (s .line .joined) (objectsOf s .fifo) (seat t) (getD (s .line .joined) t 0) ≡ true
     unfolding queuesSorted
     joined-at t h =
-        every-at (λ u. joinedRight q (s .line .joined) (s .semaphores .fifo) (seat u) (getD (s .line .joined) u 0)) 32 (passed .sorted) t h
+        every-at (λ u. joinedRight q (s .line .joined) (objectsOf s .fifo) (seat u) (getD (s .line .joined) u 0)) 32 (passed .sorted) t h
 
     count-at : (i : ℕ) → i < 16 → (units i ≤ lastCount) × (0 < waitersOf (s .line) i → units i ≡ 0)
     unfolding countsRight
@@ -170,9 +171,9 @@ module _ (s : State) (sized : Sized s) (seats : seatsRight (s .line .seat) ≡ t
 
     -- what the test of one who waits says
     waits : (t : ℕ) → waiting s t ≡ true
-        → (64 ≤ seat t) × (getD (s .semaphores .live) (queueOf (seat t)) false ≡ true) × (isTimeOut (getD (s .line .left) t 0) ≡ true) × (getD (s .line .joined) t 0 ≤ 15)
+        → (64 ≤ seat t) × (objectsOf s .live (queueOf (seat t)) ≡ true) × (isTimeOut (getD (s .line .left) t 0) ≡ true) × (getD (s .line .joined) t 0 ≤ 15)
     waits t w =
-        wait-says (s .semaphores .live) (seat t) (getD (s .line .left) t 0) (getD (s .line .joined) t 0)
+        wait-says (objectsOf s .live) (seat t) (getD (s .line .left) t 0) (getD (s .line .joined) t 0)
         (wait-at t (here t (waits-says (seat t) w .0))) w
 
     queues-once : (i : ℕ) → Once (queueIn s i)
@@ -188,9 +189,7 @@ module _ (s : State) (sized : Sized s) (seats : seatsRight (s .line .seat) ≡ t
               let a : In q (queueSeats i) t =
               ⊎-elim (λ z. absurd (omega (arith, z, r .0))) (λ p. (omega (arith, p, r .0), omega (arith, p, r .0))) (rule .places t) in (
                 i,
-                ⊎-elim (λ b. b)
-                    (λ b. absurd (true-false (r .1) (sym (past 16 (s .semaphores .live) i false (sized .slive) b))))
-                    (lt-or-le i 16),
+                omega (arith, r .0, waits-says (seat t) w .1),
                 r .1,
                 on-queue i t a,
               );
@@ -206,10 +205,10 @@ module _ (s : State) (sized : Sized s) (seats : seatsRight (s .line .seat) ≡ t
         falls-from i
         (sorted-from-steps q (s .line .joined) (queueSeats i) (standing q (queueSeats i)) (rule .tasks) (rule .seated (queueSeats i) (omega arith))
         (λ t a b. let d : queueOf (seat t) ≡ i = omega (arith, a) in
-        joined-says q (s .line .joined) (s .semaphores .fifo) (seat t) (getD (s .line .joined) t 0) (joined-at t (here t (omega (arith, a))))
+        joined-says q (s .line .joined) (objectsOf s .fifo) (seat t) (getD (s .line .joined) t 0) (joined-at t (here t (omega (arith, a))))
         (waits-is (seat t) (omega (arith, a)) (omega (arith, a, l)))
         (omega (arith, a, b))
-        (ap (λ (j : ℕ). getD (s .semaphores .fifo) j false) d ∙ f)))
+        (ap (objectsOf s .fifo) d ∙ f)))
 
     count-below : CountBelow s
     count-below i n l e h =
@@ -238,7 +237,7 @@ module _ (s : State) (sized : Sized s) (seats : seatsRight (s .line .seat) ≡ t
           below = count-below;
           empty = count-empty;
           idle = λ t l e. start-says _ _ (seat t) (start-at t l) e;
-          zeros = λ t l e. rest-says (s .semaphores .live) (seat t) _ _ (wait-at t l) e;
+          zeros = λ t l e. rest-says (objectsOf s .live) (seat t) _ _ (wait-at t l) e;
         }
 
   -- and back: the rules hold, so the tests pass
@@ -251,32 +250,32 @@ module _ (s : State) (sized : Sized s) (seats : seatsRight (s .line .seat) ≡ t
         (λ r. own t (on-order t (rules .ready .each t ∙ r)))
         (λ r. ⊎-elim (λ b. b) (λ b. absurd (true-false (in-order own t b) (rules .ready .each t ∙ r))) (lt-or-le (seat t) firstRing)))
 
-    waits-right : waitsRight (s .line) (s .semaphores .live) ≡ true
+    waits-right : waitsRight (s .line) (objectsOf s .live) ≡ true
     unfolding waitsRight
     waits-right =
-        every-yes (λ t. waitRight (s .semaphores .live) (seat t) (getD (s .line .left) t 0) (getD (s .line .joined) t 0)) 32
-        (λ t l. wait-right (s .semaphores .live) (seat t) _ _
+        every-yes (λ t. waitRight (objectsOf s .live) (seat t) (getD (s .line .left) t 0) (getD (s .line .joined) t 0)) 32
+        (λ t l. wait-right (objectsOf s .live) (seat t) _ _
         (λ w. let r = rules .stands .stands t w in
         let a : In q (queueSeats (r .0)) t = in-queue (r .0) t (r .3) in
         let d : queueOf (seat t) ≡ r .0 = omega (arith, a) in (
           omega (arith, a),
-          ap (λ (j : ℕ). getD (s .semaphores .live) j false) d ∙ r .2,
+          ap (objectsOf s .live) d ∙ r .2,
           rules .left t w,
           rules .joined t w,
         ))
         (λ w. rules .zeros t l w))
 
-    sorted-right : queuesSorted (s .line) (s .semaphores .fifo) ≡ true
+    sorted-right : queuesSorted (s .line) (objectsOf s .fifo) ≡ true
     unfolding queuesSorted
     sorted-right =
-        every-yes (λ t. joinedRight q (s .line .joined) (s .semaphores .fifo) (seat t) (getD (s .line .joined) t 0)) 32
-        (λ t l. joined-right q (s .line .joined) (s .semaphores .fifo) (seat t) (getD (s .line .joined) t 0)
+        every-yes (λ t. joinedRight q (s .line .joined) (objectsOf s .fifo) (seat t) (getD (s .line .joined) t 0)) 32
+        (λ t l. joined-right q (s .line .joined) (objectsOf s .fifo) (seat t) (getD (s .line .joined) t 0)
         (λ w b f. let r = rules .stands .stands t w in
         let a : In q (queueSeats (r .0)) t = in-queue (r .0) t (r .3) in
         let d : queueOf (seat t) ≡ r .0 = omega (arith, a) in
         steps-from-sorted q (s .line .joined) (queueSeats (r .0)) (standing q (queueSeats (r .0))) (rule .tasks)
         (rule .seated (queueSeats (r .0)) (omega arith))
-        (sorted-from (r .0) (rules .sorted (r .0) (r .1) (sym (ap (λ (j : ℕ). getD (s .semaphores .fifo) j false) d) ∙ f)))
+        (sorted-from (r .0) (rules .sorted (r .0) (r .1) (sym (ap (objectsOf s .fifo) d) ∙ f)))
         t a (omega (arith, a, b))))
 
     none-left : (i : ℕ) → i < 16 → 0 < waitersOf (s .line) i → units i ≡ 0

@@ -15,6 +15,7 @@ use Rattle.scope.specs.declared.Answer.{Answer}
 use Rattle.scope.specs.Lists.{has, without, insert}
 use Rattle.scope.specs.Statuses.{OK, PENDING, INVALID-PARAMETER, INVALID-OPTIONS, SEMAPHORE-NOT-AVAILABLE, SEMAPHORE-DELETED, NO-CALLER}
 use Rattle.scope.specs.Seats.{queueSeats, firstRing, firstOf, leaves, joins, queue}
+use Rattle.scope.specs.Objects.{objectsEnd, objectsOf}
 use Rattle.scope.specs.Views.{withSeats}
 use Rattle.scope.specs.Answers.{answer, plain, wakesWith}
 use Rattle.scope.specs.Replies.{wakeList}
@@ -24,6 +25,7 @@ use Rattle.laws.proofs.Branches.{eq-or-not, true-or-false, first-fails, not-of-
 use Rattle.seats.specs.Rule.{In}
 use Rattle.seats.proofs.Counting.{standing-le}
 use Rattle.histories.specs.Sound.{Ready, Sound}
+use Rattle.histories.proofs.Objects.{sem-fifo}
 use Rattle.histories.proofs.Refused.{by-choice}
 use Rattle.histories.proofs.Staying.{Good}
 use Rattle.histories.proofs.Moves.{Out, agree-same, ready-gone}
@@ -38,9 +40,9 @@ use Rattle.lists.proofs.Again.{Own, off-queue, good-line, own-line}
 use Rattle.lists.proofs.Sound.{queue-waiters}
 use Rattle.lists.proofs.Wakes.{first-of, on-queue-in, queue-no-doubles, without-first, woken, woken-order, woken-queue, woken-other, next-wakes, AllWoken, all-woken}
 
--- the queues with another one for semaphore i, at i and elsewhere
-queue-at : (queues now : ℕ → List ℕ) (i : ℕ) (xs : List ℕ) → now i ≡ xs → ((j : ℕ) → j < 16 → (j ≡ i → ⊥) → now j ≡ queues j)
-    → (j : ℕ) → j < 16 → now j ≡ withQueue queues i xs j
+-- the queues with another one for object i, at i and elsewhere
+queue-at : (queues now : ℕ → List ℕ) (i : ℕ) (xs : List ℕ) → now i ≡ xs → ((j : ℕ) → j < objectsEnd → (j ≡ i → ⊥) → now j ≡ queues j)
+    → (j : ℕ) → j < objectsEnd → now j ≡ withQueue queues i xs j
 queue-at queues now i xs e f j h =
     ⊎-elim
     (λ d. ap now d ∙ e ∙ sym (picked-yes (eqb j i) xs (queues j) (eq-eqb j i d)))
@@ -49,17 +51,17 @@ queue-at queues now i xs e f j h =
 
 module _ (s : State) (ok : Sound s) (i : ℕ) (hi : i < 16) where
   good : Good (s .line .seat)
-  good = good-line (s .line) (s .tasks) (s .semaphores) (ok .line)
+  good = good-line (s .line) (s .tasks) (objectsOf s) (ok .line)
 
   own : Own (s .line .seat) (s .tasks .priority)
-  own = own-line (s .line) (s .tasks) (s .semaphores) (ok .line)
+  own = own-line (s .line) (s .tasks) (objectsOf s) (ok .line)
 
   short : length (queueIn s i) < 33
   short = omega (arith, queue-waiters s ok i, standing-le (s .line .seat) (queueSeats i))
 
   deleted : AllWoken (s .tasks) i SEMAPHORE-DELETED (queueIn s i) (noneWoken (s .line)) (wakeAll (s .tasks) i 32 (noneWoken (s .line)))
   deleted =
-      all-woken (s .tasks) (ok .tasks) i hi SEMAPHORE-DELETED (queueIn s i) 32 (noneWoken (s .line)) good own refl
+      all-woken (s .tasks) (ok .tasks) i (omega arith) SEMAPHORE-DELETED (queueIn s i) 32 (noneWoken (s .line)) good own refl
       (omega (arith, short)) (length-replicate {A = ℕ} 32 0) (omega (arith, short))
 
   -- "Delete wakes all waiters in queue order with 11."
@@ -106,7 +108,7 @@ module _ (s : State) (ok : Sound s) (i : ℕ) (hi : i < 16) where
         record {
           ready = woken-order (s .tasks) (ok .tasks) (s .line) good own t (on .0) low;
           waiting = queue-at (queueIn s) (queue (woken (s .tasks) (ok .tasks) (s .line) good own t (on .0) low .seat)) i ts
-              (woken-queue (s .tasks) (ok .tasks) (s .line) good own t (on .0) low i hi
+              (woken-queue (s .tasks) (ok .tasks) (s .line) good own t (on .0) low i (omega arith)
               ∙ ap (without t) e
               ∙ without-first t ts (subst (λ (l : List ℕ). Once l) e (queue-no-doubles (s .line .seat) i)))
               (λ j h ne. woken-other (s .tasks) (ok .tasks) (s .line) good own t (on .0) low i j (on .1) h ne);
@@ -147,10 +149,10 @@ module _ (s : State) (ok : Sound s) (i : ℕ) (hi : i < 16) where
     here : Ready (s .line) (s .tasks) t
     here = runs-ready s ok run
 
-    out : Out (withSeats (s .line) left) (s .tasks) (s .semaphores) t
-    out = ready-gone (s .line) (s .tasks) (s .semaphores) (ok .line) (s .tasks) t (agree-same (s .tasks) t) here
+    out : Out (withSeats (s .line) left) (s .tasks) (objectsOf s) t
+    out = ready-gone (s .line) (s .tasks) (objectsOf s) (ok .line) (s .tasks) t (agree-same (s .tasks) t) here
 
-    left-queue : (j : ℕ) → j < 16 → queue left j ≡ queueIn s j
+    left-queue : (j : ℕ) → j < objectsEnd → queue left j ≡ queueIn s j
     left-queue j h =
         leaves-queue (s .line .seat) (ok .line .queues) (good .low) t j
         ∙ off-queue (s .line .seat) t j h (omega (arith, here .stands))
@@ -167,11 +169,11 @@ module _ (s : State) (ok : Sound s) (i : ℕ) (hi : i < 16) where
     joined-queue =
         ⊎-elim
         (λ f. joins-queue-end left (s .line .joined) t i (queueKey fifo p) (out .queues) run (out .seat) (fifo-key f)
-        ∙ ap (λ (l : List ℕ). l ++ (t ∷ [])) (left-queue i hi)
+        ∙ ap (λ (l : List ℕ). l ++ (t ∷ [])) (left-queue i (omega arith))
         ∙ sym (picked-yes fifo _ _ f))
         (λ f. ap (λ (x : ℕ). queue (joins left (s .line .joined) t (queueSeats i) x) i) (other-key f)
-        ∙ joins-queue left (s .line .joined) t i p (out .queues) run (out .seat) (ok .line .joineds) (out .sorted i hi f)
-        ∙ ap (λ (l : List ℕ). insert (λ u. leb p (getD (s .line .joined) u 0)) t l) (left-queue i hi)
+        ∙ joins-queue left (s .line .joined) t i p (out .queues) run (out .seat) (ok .line .joineds) (out .sorted i (omega arith) (sem-fifo (s .semaphores) i hi ∙ f))
+        ∙ ap (λ (l : List ℕ). insert (λ u. leb p (getD (s .line .joined) u 0)) t l) (left-queue i (omega arith))
         ∙ sym (picked-no fifo (queueIn s i ++ (t ∷ [])) _ f))
         (true-or-false fifo)
 
@@ -184,7 +186,7 @@ module _ (s : State) (ok : Sound s) (i : ℕ) (hi : i < 16) where
     wait-lists ticks =
         by-choice Joined (leb 32 t) (λ y. absurd (omega (arith, run, leb-true 32 t y)))
         (λ y. record {
-          ready = joins-queue-order left (s .line .joined) t i (queueKey fifo p) (out .queues) run (out .seat) hi
+          ready = joins-queue-order left (s .line .joined) t i (queueKey fifo p) (out .queues) run (out .seat) (omega arith)
               ∙ leaves-order (s .line .seat) (ok .line .queues) (good .low) t;
           waiting = queue-at (queueIn s) (queue (joins left (s .line .joined) t (queueSeats i) (queueKey fifo p))) i
               (joinedBy fifo (s .line .joined) p t (queueIn s i)) joined-queue

@@ -9,6 +9,7 @@ use lib.ListN.{length}
 use Rattle.scope.specs.declared.State.{State}
 use Rattle.scope.specs.Lists.{has}
 use Rattle.scope.specs.Seats.{queueSeats, standing, queue}
+use Rattle.scope.specs.Objects.{objectsOf}
 use Rattle.scope.specs.Views.{isReady, waitersOf}
 use Rattle.scope.specs.Rules.{seatsRight, readyOrderRight, waitsRight, queuesSorted, countsRight, startsRight, tasksRight, semsRight, poolsRight, poolsApart, sound}
 use Rattle.laws.proofs.Branches.{both, both-true}
@@ -58,8 +59,8 @@ unfolding sound
 sound-parts s e =
     let a = both-true (seatsRight (s .line .seat)) _ e in
     let b = both-true (readyOrderRight (s .line) (s .tasks)) _ (a .1) in
-    let c = both-true (waitsRight (s .line) (s .semaphores .live)) _ (b .1) in
-    let d = both-true (queuesSorted (s .line) (s .semaphores .fifo)) _ (c .1) in
+    let c = both-true (waitsRight (s .line) (objectsOf s .live)) _ (b .1) in
+    let d = both-true (queuesSorted (s .line) (objectsOf s .fifo)) _ (c .1) in
     let f = both-true (countsRight (s .line) (s .semaphores)) _ (d .1) in
     let g = both-true (startsRight (s .line) (s .tasks)) _ (f .1) in
     let h = both-true (tasksRight (s .tasks)) _ (g .1) in

@@ -12,6 +12,7 @@ use Rattle.scope.specs.declared.State.{State}
 use Rattle.scope.specs.declared.Answer.{Answer}
 use Rattle.scope.specs.Lists.{without}
 use Rattle.scope.specs.Seats.{firstRing, becomesReady, waitsOn, queue, readyOrder}
+use Rattle.scope.specs.Objects.{objectsEnd, objectsOf}
 use Rattle.scope.specs.Views.{readyWith, isReady}
 use Rattle.scope.specs.Answers.{answer, plain, gives}
 use Rattle.scope.specs.Tasks.{taskDeleteAt, taskStartAt, taskSuspendAt, taskResumeAt, taskSetPriorityAt}
@@ -31,10 +32,10 @@ use Rattle.lists.proofs.Sound.{order-holds}
 -- a sound state's seats
 module _ (s : State) (ok : Sound s) where
   good-seats : Good (s .line .seat)
-  good-seats = good-line (s .line) (s .tasks) (s .semaphores) (ok .line)
+  good-seats = good-line (s .line) (s .tasks) (objectsOf s) (ok .line)
 
   own-seats : Own (s .line .seat) (s .tasks .priority)
-  own-seats = own-line (s .line) (s .tasks) (s .semaphores) (ok .line)
+  own-seats = own-line (s .line) (s .tasks) (objectsOf s) (ok .line)
 
   ready-high : (t : ℕ) → isReady (s .line) (s .tasks) t ≡ true → firstRing ≤ getD (s .line .seat) t 0
   ready-high t r = let a = order-says (s .line .seat) t (order-holds s ok t ∙ r) in omega (arith, a .2)
@@ -45,7 +46,7 @@ module _ (s : State) (ok : Sound s) where
   came-order t room z =
       ready-order (s .line .seat) (s .line .joined) (s .tasks .priority) t (getD (s .tasks .priority) t 0) (ok .line .queues) room z own-seats (range-below (s .tasks) (ok .tasks) t room)
 
-  came-queue : (t : ℕ) → t < 32 → getD (s .line .seat) t 0 ≡ 0 → (i : ℕ) → i < 16
+  came-queue : (t : ℕ) → t < 32 → getD (s .line .seat) t 0 ≡ 0 → (i : ℕ) → i < objectsEnd
       → queue (becomesReady (s .line .seat) (s .line .joined) t (getD (s .tasks .priority) t 0)) i ≡ queueIn s i
   came-queue t room z =
       ready-queue (s .line .seat) (s .line .joined) (s .tasks .priority) t (getD (s .tasks .priority) t 0) (ok .line .queues) room z own-seats
@@ -66,7 +67,7 @@ module _ (s : State) (ok : Sound s) where
     unfolding taskStartAt plain answer
     task-start-lists e =
         by-choice Comes (getD (s .tasks .started) t false) (λ y. absurd (true-false y e))
-        (λ n. let z : getD (s .line .seat) t 0 ≡ 0 = idle-nowhere (s .line) (s .tasks) (s .semaphores) (ok .line) t room e .seat in
+        (λ n. let z : getD (s .line .seat) t 0 ≡ 0 = idle-nowhere (s .line) (s .tasks) (objectsOf s) (ok .line) t room e .seat in
         record { ready = came-order t room z; waiting = came-queue t room z })
 
     -- one that doesn't wait
@@ -78,7 +79,7 @@ module _ (s : State) (ok : Sound s) where
         by-choice Comes _ (λ y. absurd (true-false e (not-true _ y)))
         (λ y. by-choice Comes _ (λ u. absurd (true-false f (not-true _ u)))
         (λ u. by-choice Comes (waitsOn (getD (s .line .seat) t 0)) (λ w. absurd (true-false w g))
-        (λ w. let z : getD (s .line .seat) t 0 ≡ 0 = off-nowhere (s .line) (s .tasks) (s .semaphores) (ok .line) t room g f .seat in
+        (λ w. let z : getD (s .line .seat) t 0 ≡ 0 = off-nowhere (s .line) (s .tasks) (objectsOf s) (ok .line) t room g f .seat in
         record { ready = came-order t room z; waiting = came-queue t room z })))
 
     -- "A suspended waiter keeps its place"

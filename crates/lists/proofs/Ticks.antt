@@ -19,6 +19,7 @@ use Rattle.scope.specs.Choice.{pick}
 use Rattle.scope.specs.Lists.{has, keep, without}
 use Rattle.scope.specs.Statuses.{TIME-OUT}
 use Rattle.scope.specs.Seats.{ringSeats, firstRing, seatBehind, waitsOn, leaves, becomesReady, queue, readyOrder}
+use Rattle.scope.specs.Objects.{objectsEnd, objectsOf}
 use Rattle.scope.specs.Answers.{wakesWith}
 use Rattle.scope.specs.Waiting.{wokenSeats, wake, wakeNext, noneWoken}
 use Rattle.scope.specs.Replies.{Wake, wakeList}
@@ -32,11 +33,11 @@ use Rattle.seats.proofs.Rule.{stands-in}
 use Rattle.histories.specs.Sound.{TasksSound, Sound}
 use Rattle.histories.proofs.Refused.{by-choice}
 use Rattle.histories.proofs.Staying.{Good}
+use Rattle.histories.proofs.Tests.{waits-says}
 use Rattle.lists.specs.Rules.{readyOf, queueIn}
 use Rattle.lists.specs.Calls.{ListsAfter, allWokenInto, wakeOf, slotsFrom, dueIn, withoutAll}
 use Rattle.lists.proofs.Plain.{has-head, has-other, keep-yes, keep-no, keep-all, keep-twice}
 use Rattle.lists.proofs.Again.{Own, good-line, own-line}
-use Rattle.lists.proofs.Tests.{waits-says}
 use Rattle.lists.proofs.Wakes.{woken, woken-good, woken-own, woken-order, woken-queue, wakesOf, next-wakes, next-line, next-count, next-size}
 
 -- a seat on which one waits, or not, by where it lies
@@ -107,7 +108,7 @@ all-more t ts xs =
 -- these were woken
 record Timed (k : Tasks) (why : ℕ) (xs : List ℕ) (w r : Waking) : Type 0 where
   order : readyOrder (r .line .seat) ≡ allWokenInto k xs (readyOrder (w .line .seat))
-  queues : (j : ℕ) → j < 16 → queue (r .line .seat) j ≡ withoutAll xs (queue (w .line .seat) j)
+  queues : (j : ℕ) → j < objectsEnd → queue (r .line .seat) j ≡ withoutAll xs (queue (w .line .seat) j)
   list : wakesOf why r ≡ wakesOf why w ++ map (wakeOf k why) xs
 
 module _ (k : Tasks) (tasks : TasksSound k) (why : ℕ) (due : ℕ → Bool) where
@@ -176,7 +177,7 @@ module _ (s : State) (ok : Sound s) where
   ticks : Timed (s .tasks) TIME-OUT (dueIn s) start (wakeDue (s .tasks) 32 0 start)
   ticks =
       timed (s .tasks) (ok .tasks) TIME-OUT (isDue (ticked (s .line))) 32 0 start refl
-      (good-line (s .line) (s .tasks) (s .semaphores) (ok .line)) (own-line (s .line) (s .tasks) (s .semaphores) (ok .line))
+      (good-line (s .line) (s .tasks) (objectsOf s) (ok .line)) (own-line (s .line) (s .tasks) (objectsOf s) (ok .line))
       (λ u h. refl) (length-replicate {A = ℕ} 32 0) (omega arith)
 
   -- "Those reaching 0 are woken with 13 in ascending slot order"

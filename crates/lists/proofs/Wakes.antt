@@ -18,6 +18,7 @@ use Rattle.scope.specs.declared.Waking.{Waking}
 use Rattle.scope.specs.Choice.{pick}
 use Rattle.scope.specs.Lists.{has, without}
 use Rattle.scope.specs.Seats.{queueSeats, firstRing, firstOf, leaves, becomesReady, queue, readyOrder}
+use Rattle.scope.specs.Objects.{objectsEnd}
 use Rattle.scope.specs.Waiting.{wokenSeats, wake, wakeNext, wakeAll}
 use Rattle.scope.specs.Replies.{Wake, wakesFrom}
 use Rattle.laws.proofs.Branches.{lt-or-le, not-of-true, picked-no}
@@ -96,7 +97,7 @@ module _ (k : Tasks) (tasks : TasksSound k) where
             again-order (l .seat) (l .joined) (k .priority) good own t room (getD (k .priority) t 0) (range-below k tasks t room)
             ∙ ap (λ (xs : List ℕ). madeReady k (getD (k .priority) t 0) t xs) stays-out
 
-    pub woken-queue : (j : ℕ) → j < 16 → queue (woken .seat) j ≡ without t (queue (l .seat) j)
+    pub woken-queue : (j : ℕ) → j < objectsEnd → queue (woken .seat) j ≡ without t (queue (l .seat) j)
     unfolding wake wokenSeats
     woken-queue j h =
         by-choice (λ (q : List ℕ). queue q j ≡ without t (queue (l .seat) j)) (getD (k .suspended) t false)
@@ -104,7 +105,7 @@ module _ (k : Tasks) (tasks : TasksSound k) where
         (λ n. again-queue (l .seat) (l .joined) (k .priority) good own t room (getD (k .priority) t 0) j h)
 
     -- where it waits for i, no other queue holds it
-    pub woken-other : (i j : ℕ) → In (l .seat) (queueSeats i) t → j < 16 → (j ≡ i → ⊥) → queue (woken .seat) j ≡ queue (l .seat) j
+    pub woken-other : (i j : ℕ) → In (l .seat) (queueSeats i) t → j < objectsEnd → (j ≡ i → ⊥) → queue (woken .seat) j ≡ queue (l .seat) j
     woken-other i j at h ne =
         woken-queue j h ∙ without-none t (queue (l .seat) j) (λ o. ne (omega (arith, on-queue-in (l .seat) j t o .1, at)))
 
@@ -158,10 +159,10 @@ next-size k w t = length-set (w .wakes) (w .woken) _
 pub record AllWoken (k : Tasks) (i why : ℕ) (xs : List ℕ) (w r : Waking) : Type 0 where
   pub order : readyOrder (r .line .seat) ≡ allWokenInto k xs (readyOrder (w .line .seat))
   pub empty : queue (r .line .seat) i ≡ []
-  pub others : (j : ℕ) → j < 16 → (j ≡ i → ⊥) → queue (r .line .seat) j ≡ queue (w .line .seat) j
+  pub others : (j : ℕ) → j < objectsEnd → (j ≡ i → ⊥) → queue (r .line .seat) j ≡ queue (w .line .seat) j
   pub list : wakesOf why r ≡ wakesOf why w ++ map (wakeOf k why) xs
 
-module _ (k : Tasks) (tasks : TasksSound k) (i : ℕ) (hi : i < 16) where
+module _ (k : Tasks) (tasks : TasksSound k) (i : ℕ) (hi : i < objectsEnd) where
   all-yes : (n : ℕ) (w : Waking) → firstOf (w .line .seat) (queueSeats i) < 32
       → wakeAll k i (suc n) w ≡ wakeAll k i n (wakeNext k w (firstOf (w .line .seat) (queueSeats i)))
   unfolding wakeAll

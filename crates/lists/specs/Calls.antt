@@ -12,6 +12,7 @@ use Rattle.scope.specs.declared.Tasks.{Tasks}
 use Rattle.scope.specs.Choice.{pick}
 use Rattle.scope.specs.Lists.{has, keep, insert}
 use Rattle.scope.specs.Identifiers.{identifier}
+use Rattle.scope.specs.Objects.{objectsEnd}
 use Rattle.scope.specs.Replies.{Wake}
 use Rattle.scope.specs.Ticks.{ticked, isDue}
 use Rattle.lists.specs.Rules.{readyOf, queueIn}
@@ -19,7 +20,7 @@ use Rattle.lists.specs.Rules.{readyOf, queueIn}
 -- after the answer the ready order and the queues are these
 pub record ListsAfter (a : Answer) (order : List ℕ) (queues : ℕ → List ℕ) : Type 0 where
   pub ready : readyOf (a .state) ≡ order
-  pub waiting : (i : ℕ) → i < 16 → queueIn (a .state) i ≡ queues i
+  pub waiting : (i : ℕ) → i < objectsEnd → queueIn (a .state) i ≡ queues i
 
 -- "A task becoming ready goes behind all of equal or higher priority."
 abbrev pub madeReady : Tasks → ℕ → ℕ → List ℕ → List ℕ
@@ -29,7 +30,7 @@ madeReady k p t order = insert (λ u. leb p (getD (k .priority) u 0)) t order
 abbrev pub joinedBy : Bool → List ℕ → ℕ → ℕ → List ℕ → List ℕ
 joinedBy fifo joined p t xs = pick fifo (xs ++ (t ∷ [])) (insert (λ u. leb p (getD joined u 0)) t xs)
 
--- the queues with another one for semaphore i
+-- the queues with another one for object i
 abbrev pub withQueue : (ℕ → List ℕ) → ℕ → List ℕ → ℕ → List ℕ
 withQueue queues i xs j = pick (eqb j i) xs (queues j)
 

@@ -8,6 +8,7 @@ use lib.ListN.{length, getD}
 use Rattle.scope.specs.declared.State.{State}
 use Rattle.scope.specs.Lists.{has}
 use Rattle.scope.specs.Seats.{ringSeats, firstRing, waitsOn, queue, readyOrder}
+use Rattle.scope.specs.Objects.{objectsEnd, objectsOf}
 use Rattle.scope.specs.Views.{isReady, count}
 use Rattle.scope.specs.Tasks.{lastPriority}
 use Rattle.scope.specs.Waiting.{isTimeOut}
@@ -16,7 +17,7 @@ use Rattle.scope.specs.Rules.{readyOrderRight, waitsRight, queuesSorted, counts
 use Rattle.seats.specs.Rule.{In}
 use Rattle.lists.specs.Along.{Once, NeverRising, firstIn}
 
--- the ready order and the queue of semaphore i
+-- the ready order and the queue of object i
 abbrev pub readyOf : State → List ℕ
 readyOf s = readyOrder (s .line .seat)
 
@@ -40,10 +41,10 @@ PrioritiesFall s = NeverRising (s .tasks .priority) (readyOf s)
 abbrev pub FirstRuns : State → Type 0
 FirstRuns s = s .running ≡ firstIn (readyOf s)
 
--- "Each waiting task stands once in one live semaphore's queue, .."
+-- "Each waiting task stands once in one live semaphore's queue, .." (A semaphore is an object, and no other object is live.)
 pub record StandsInOne (s : State) : Type 0 where
   pub stands : (t : ℕ) → waiting s t ≡ true
-      → (i : ℕ) × (i < 16) × (getD (s .semaphores .live) i false ≡ true) × (has (queueIn s i) t ≡ true)
+      → (i : ℕ) × (i < objectsEnd) × (objectsOf s .live i ≡ true) × (has (queueIn s i) t ≡ true)
   pub one : (t i j : ℕ) → has (queueIn s i) t ≡ true → has (queueIn s j) t ≡ true → i ≡ j
   pub once : (i : ℕ) → Once (queueIn s i)
 
@@ -57,11 +58,11 @@ JoinedWith s = (t : ℕ) → waiting s t ≡ true → getD (s .line .joined) t 0
 
 -- ".. queues hold no other task; .."
 abbrev pub NoOther : State → Type 0
-NoOther s = (i : ℕ) → i < 16 → (t : ℕ) → has (queueIn s i) t ≡ true → waiting s t ≡ true
+NoOther s = (i : ℕ) → i < objectsEnd → (t : ℕ) → has (queueIn s i) t ≡ true → waiting s t ≡ true
 
 -- ".. those not FIFO never rise in joining priority."
 abbrev pub JoinedFall : State → Type 0
-JoinedFall s = (i : ℕ) → i < 16 → getD (s .semaphores .fifo) i false ≡ false → NeverRising (s .line .joined) (queueIn s i)
+JoinedFall s = (i : ℕ) → i < objectsEnd → objectsOf s .fifo i ≡ false → NeverRising (s .line .joined) (queueIn s i)
 
 -- "A queue with n tasks, n above 0, has count −n; .."
 abbrev pub CountBelow : State → Type 0
@@ -109,8 +110,8 @@ PrioritiesInRange s = (t : ℕ) → t < 32 → getD (s .tasks .priority) t 0 ≤
 -- the tests that run
 pub record Tested (s : State) : Type 0 where
   pub order : readyOrderRight (s .line) (s .tasks) ≡ true
-  pub waits : waitsRight (s .line) (s .semaphores .live) ≡ true
-  pub sorted : queuesSorted (s .line) (s .semaphores .fifo) ≡ true
+  pub waits : waitsRight (s .line) (objectsOf s .live) ≡ true
+  pub sorted : queuesSorted (s .line) (objectsOf s .fifo) ≡ true
   pub counts : countsRight (s .line) (s .semaphores) ≡ true
   pub starts : startsRight (s .line) (s .tasks) ≡ true
   pub running : runningRight s ≡ true

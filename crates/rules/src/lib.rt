@@ -117,7 +117,7 @@ fn ready_order_right(l: Line, k: Tasks) -> bool
     ok
 }
 
-// What a row of the semaphores holds for the queue that seat `x` is in; false where that is no semaphore's.
+// What a row of the semaphores holds for the object whose queue seat `x` is in; false where that is no semaphore.
 fn of_queue(row: [bool; 16], x: u16) -> bool
     ensures { λ r. ⌜ r ≡ getD row (queueOf x) false ⌝ }
 {
@@ -133,7 +133,7 @@ fn of_queue(row: [bool; 16], x: u16) -> bool
 
 // A waiting task waits for a live semaphore, with a time_out left and a joining priority; one that does not wait has neither.
 fn wait_right(live: [bool; 16], x: u16, left: u32, joined: u8) -> bool
-    ensures { λ r. ⌜ r ≡ waitRight live x left joined ⌝ }
+    ensures { λ r. ⌜ r ≡ waitRight (λ i. getD live i false) x left joined ⌝ }
 {
     if seats::waits_on(x) {
         return (64 <= x) & of_queue(live, x) & times::is_time_out(left) & (joined <= 15);
@@ -142,7 +142,7 @@ fn wait_right(live: [bool; 16], x: u16, left: u32, joined: u8) -> bool
 }
 
 fn waits_right(l: Line, live: [bool; 16]) -> bool
-    ensures { λ r. ⌜ r ≡ waitsRight l live ⌝ }
+    ensures { λ r. ⌜ r ≡ waitsRight l (λ i. getD live i false) ⌝ }
 {
     let seat = l.seat;
     let left = l.left;
@@ -170,7 +170,7 @@ fn joined_on(q: [u16; 32], joined: [u8; 32], x: u16) -> u8
 
 // In a queue that is not FIFO nobody has a higher joining priority than who stands directly ahead.
 fn joined_right(q: [u16; 32], joined: [u8; 32], fifo: [bool; 16], x: u16, priority: u8) -> bool
-    ensures { λ r. ⌜ r ≡ joinedRight q joined fifo x priority ⌝ }
+    ensures { λ r. ⌜ r ≡ joinedRight q joined (λ i. getD fifo i false) x priority ⌝ }
 {
     if seats::waits_on(x) & (1 < x % 64) {
         if of_queue(fifo, x) {
@@ -182,7 +182,7 @@ fn joined_right(q: [u16; 32], joined: [u8; 32], fifo: [bool; 16], x: u16, priori
 }
 
 fn queues_sorted(l: Line, fifo: [bool; 16]) -> bool
-    ensures { λ r. ⌜ r ≡ queuesSorted l fifo ⌝ }
+    ensures { λ r. ⌜ r ≡ queuesSorted l (λ i. getD fifo i false) ⌝ }
 {
     let seat = l.seat;
     let joined = l.joined;

@@ -4,6 +4,7 @@ pub mod Lists
 pub mod Identifiers
 pub mod Statuses
 pub mod Seats
+pub mod Objects
 pub mod Views
 pub mod Answers
 pub mod Replies

@@ -12,6 +12,7 @@ use Rattle.scope.specs.declared.Semaphores.{Semaphores}
 use Rattle.scope.specs.declared.Pools.{Pools}
 use Rattle.scope.specs.Choice.{pick, every, number}
 use Rattle.scope.specs.Seats.{ringSeats, firstRing, waitsOn, queueOf, isOn, onSeat, runnerOf}
+use Rattle.scope.specs.Objects.{objectsOf}
 use Rattle.scope.specs.Views.{readyWith, waitersOf, Signed, count}
 use Rattle.scope.specs.Areas.{isArea, isSize, buffersOf, shareByte}
 use Rattle.scope.specs.Tasks.{lastPriority}
@@ -41,24 +42,25 @@ readyOrderRight l k =
     32
 
 -- "Each waiting task stands once in one live semaphore's queue, with a time_out left of 1 to 65,535 or FOREVER, and its joining
--- priority; queues hold no other task"; "the waiting fields of a task that doesn't wait" are zeros
-unfoldable pub waitRight : List Bool → ℕ → ℕ → ℕ → Bool
+-- priority; queues hold no other task"; "the waiting fields of a task that doesn't wait" are zeros. (`live` says it of an object's
+-- number.)
+unfoldable pub waitRight : (ℕ → Bool) → ℕ → ℕ → ℕ → Bool
 waitRight live x left joined =
     pick (waitsOn x)
-    (leb 64 x && (getD live (queueOf x) false && (isTimeOut left && leb joined lastPriority)))
+    (leb 64 x && (live (queueOf x) && (isTimeOut left && leb joined lastPriority)))
     (eqb left 0 && eqb joined 0)
 
-unfoldable pub waitsRight : Line → List Bool → Bool
+unfoldable pub waitsRight : Line → (ℕ → Bool) → Bool
 waitsRight l live = every (λ t. waitRight live (getD (l .seat) t 0) (getD (l .left) t 0) (getD (l .joined) t 0)) 32
 
 -- "those not FIFO never rise in joining priority": nobody has a higher one than who stands directly ahead
-unfoldable pub joinedRight : List ℕ → List ℕ → List Bool → ℕ → ℕ → Bool
+unfoldable pub joinedRight : List ℕ → List ℕ → (ℕ → Bool) → ℕ → ℕ → Bool
 joinedRight q joined fifo x priority =
     pick (waitsOn x && ltb 1 (x % 64))
-    (pick (getD fifo (queueOf x) false) true (leb priority (getD joined (onSeat q (x - 1)) 0)))
+    (pick (fifo (queueOf x)) true (leb priority (getD joined (onSeat q (x - 1)) 0)))
     true
 
-unfoldable pub queuesSorted : Line → List Bool → Bool
+unfoldable pub queuesSorted : Line → (ℕ → Bool) → Bool
 queuesSorted l fifo = every (λ t. joinedRight (l .seat) (l .joined) fifo (getD (l .seat) t 0) (getD (l .joined) t 0)) 32
 
 -- "A queue with n tasks, n above 0, has count −n; an empty queue has count 0 to 32,767."
@@ -130,7 +132,7 @@ runningRight s = eqb (s .running) (runnerOf (s .line .seat))
 -- no rule is broken
 unfoldable pub sound : State → Bool
 sound s =
-    seatsRight (s .line .seat) && (readyOrderRight (s .line) (s .tasks) && (waitsRight (s .line) (s .semaphores .live)
-    && (queuesSorted (s .line) (s .semaphores .fifo) && (countsRight (s .line) (s .semaphores)
+    seatsRight (s .line .seat) && (readyOrderRight (s .line) (s .tasks) && (waitsRight (s .line) (objectsOf s .live)
+    && (queuesSorted (s .line) (objectsOf s .fifo) && (countsRight (s .line) (s .semaphores)
     && (startsRight (s .line) (s .tasks) && (tasksRight (s .tasks) && (semsRight (s .semaphores)
     && (poolsRight (s .pools) && (poolsApart (s .pools) && runningRight s)))))))))

@@ -9,7 +9,7 @@ use lib.ListN.{getD, set}
 use lib.Dec.{ltb, leb, eqb}
 use Rattle.scope.specs.Choice.{pick, least, number}
 
--- the seats of semaphore i's wait queue begin above this one
+-- the seats of object i's wait queue begin above this one; semaphore i is object i
 abbrev pub queueSeats : ℕ → ℕ
 queueSeats i = i * 64 + 64
 
@@ -24,11 +24,11 @@ firstRing = 2048
 abbrev pub seatsEnd : ℕ → ℕ
 seatsEnd x = x / 64 * 64 + 63
 
--- a task on this seat waits in a semaphore's queue
+-- a task on this seat waits in an object's queue
 unfoldable pub waitsOn : ℕ → Bool
 waitsOn x = ltb 0 x && ltb x firstRing
 
--- the semaphore whose queue the seat is in
+-- the object whose queue the seat is in
 abbrev pub queueOf : ℕ → ℕ
 queueOf x = x / 64 - 1
 

@@ -1,5 +1,5 @@
 -- Waiting and waking, for whatever tasks wait for: its time_outs, its queues, and what leaving one does. What is waited for is
--- an object, a number below 31: 0 to 15 are the semaphores.
+-- an object (Objects.antt).
 -- Assumes nothing.
 use Prim.Native.Nat.{ℕ, zero, suc, _+_}
 use mathlib.Core.Bool.{Bool, true, false, _&&_}

@@ -2,6 +2,7 @@
 -- Assumes nothing.
 use mathlib.Core.Bool.{and-assoc}
 use borrow.Author.Needs.{needs}
+use Rattle.scope.specs.Objects.{objects}
 use Rattle.scope.specs.Rules.{sound}
 use Rattle.rules.proofs.is_sound.Statement.{statement}
 use Rattle.rules.proofs.is_sound.Tie as tie
@@ -40,7 +41,7 @@ running-right-requires : tie.Need-running-right-requires
 running-right-requires c κs = search needs
 
 returns : tie.Need-returns
-unfolding sound
+unfolding sound objects
 returns c =
     let d = c .before .before .before .before .before in
     simp and-assoc (rw (

@@ -1,6 +1,7 @@
 -- `rules::queues_sorted`: before each turn the loop holds the test of all slots passed.
 -- Assumes nothing.
 use Prim.Native.Nat.{_-_}
+use mathlib.Core.Bool.{false}
 use borrow.Author.Needs.{needs}
 use lib.ListN.{getD}
 use Rattle.scope.specs.Rules.{queuesSorted, joinedRight}
@@ -10,7 +11,7 @@ use Rattle.rules.proofs.queues_sorted.Tie as tie
 
 abbrev Inv-loop : tie.InvT-loop
 Inv-loop fifo seat joined ok₀ t₀ ok t =
-    Testing 32 (λ j. joinedRight seat joined fifo (getD seat j 0) (getD joined j 0)) ok t
+    Testing 32 (λ j. joinedRight seat joined (λ i. getD fifo i false) (getD seat j 0) (getD joined j 0)) ok t
 
 abbrev μ-loop : tie.MeasureT-loop
 μ-loop fifo seat joined ok₀ t₀ ok t = 32 - t

@@ -1,6 +1,7 @@
 -- `rules::waits_right`: before each turn the loop holds the test of all slots passed.
 -- Assumes nothing.
 use Prim.Native.Nat.{_-_}
+use mathlib.Core.Bool.{false}
 use borrow.Author.Needs.{needs}
 use lib.ListN.{getD}
 use Rattle.scope.specs.Rules.{waitsRight, waitRight}
@@ -9,7 +10,7 @@ use Rattle.rules.proofs.waits_right.Statement.{statement}
 use Rattle.rules.proofs.waits_right.Tie as tie
 
 abbrev Inv-loop : tie.InvT-loop
-Inv-loop live seat left joined ok₀ t₀ ok t = Testing 32 (λ j. waitRight live (getD seat j 0) (getD left j 0) (getD joined j 0)) ok t
+Inv-loop live seat left joined ok₀ t₀ ok t = Testing 32 (λ j. waitRight (λ i. getD live i false) (getD seat j 0) (getD left j 0) (getD joined j 0)) ok t
 
 abbrev μ-loop : tie.MeasureT-loop
 μ-loop live seat left joined ok₀ t₀ ok t = 32 - t

@@ -16,15 +16,15 @@ use Rattle.scope.specs.Views.{readyWith}
 use Rattle.scope.specs.Waiting.{isTimeOut}
 use Rattle.scope.specs.Rules.{readyRight, waitRight, joinedRight, startRight, taskRight}
 use Rattle.laws.proofs.Branches.{picked-yes, picked-no, both, both-true, not-of-false, true-or-false}
 use Rattle.histories.proofs.Refused.{by-choice}
 
-chosen-yes : (b x y : Bool) → pick b x y ≡ true → b ≡ true → x ≡ true
+pub chosen-yes : (b x y : Bool) → pick b x y ≡ true → b ≡ true → x ≡ true
 chosen-yes b x y e h = sym (picked-yes b x y h) ∙ e
 
-chosen-no : (b x y : Bool) → pick b x y ≡ true → b ≡ false → y ≡ true
+pub chosen-no : (b x y : Bool) → pick b x y ≡ true → b ≡ false → y ≡ true
 chosen-no b x y e h = sym (picked-no b x y h) ∙ e
 
-choose : (b : Bool) {x y : Bool} → (b ≡ true → x ≡ true) → (b ≡ false → y ≡ true) → pick b x y ≡ true
+pub choose : (b : Bool) {x y : Bool} → (b ≡ true → x ≡ true) → (b ≡ false → y ≡ true) → pick b x y ≡ true
 choose b f g = by-choice (λ (v : Bool). v ≡ true) b f g
 
 -- a seat that one waits on
@@ -68,13 +68,13 @@ module _ (started suspended : Bool) (x : ℕ) where
   unfolding startRight
   start-right f = choose started (λ a. refl) (λ a. both _ _ (not-of-false _ (f a .0)) (not-of-false _ (f a .1)))
 
-module _ (live : List Bool) (x left joined : ℕ) where
+module _ (live : ℕ → Bool) (x left joined : ℕ) where
   pub wait-says : waitRight live x left joined ≡ true → waitsOn x ≡ true
-      → (64 ≤ x) × (getD live (queueOf x) false ≡ true) × (isTimeOut left ≡ true) × (joined ≤ 15)
+      → (64 ≤ x) × (live (queueOf x) ≡ true) × (isTimeOut left ≡ true) × (joined ≤ 15)
   unfolding waitRight
   wait-says e w =
       let a = both-true (leb 64 x) _ (chosen-yes (waitsOn x) _ _ e w) in
-      let b = both-true (getD live (queueOf x) false) _ (a .1) in
+      let b = both-true (live (queueOf x)) _ (a .1) in
       let c = both-true (isTimeOut left) _ (b .1) in
       (leb-true _ _ (a .0), b .0, c .0, leb-true _ _ (c .1))
 
@@ -84,7 +84,7 @@ module _ (live : List Bool) (x left joined : ℕ) where
       let a = both-true (eqb left 0) _ (chosen-no (waitsOn x) _ _ e w) in
       (eqb-true _ _ (a .0), eqb-true _ _ (a .1))
 
-  pub wait-right : (waitsOn x ≡ true → (64 ≤ x) × (getD live (queueOf x) false ≡ true) × (isTimeOut left ≡ true) × (joined ≤ 15))
+  pub wait-right : (waitsOn x ≡ true → (64 ≤ x) × (live (queueOf x) ≡ true) × (isTimeOut left ≡ true) × (joined ≤ 15))
       → (waitsOn x ≡ false → (left ≡ 0) × (joined ≡ 0)) → waitRight live x left joined ≡ true
   unfolding waitRight
   wait-right f g =
@@ -92,21 +92,21 @@ module _ (live : List Bool) (x left joined : ℕ) where
       (λ w. let r = f w in both _ _ (le-leb _ _ (r .0)) (both _ _ (r .1) (both _ _ (r .2) (le-leb _ _ (r .3)))))
       (λ w. let r = g w in both _ _ (eq-eqb _ _ (r .0)) (eq-eqb _ _ (r .1)))
 
-module _ (q joined : List ℕ) (fifo : List Bool) (x priority : ℕ) where
-  pub joined-says : joinedRight q joined fifo x priority ≡ true → waitsOn x ≡ true → 1 < x % 64 → getD fifo (queueOf x) false ≡ false
+module _ (q joined : List ℕ) (fifo : ℕ → Bool) (x priority : ℕ) where
+  pub joined-says : joinedRight q joined fifo x priority ≡ true → waitsOn x ≡ true → 1 < x % 64 → fifo (queueOf x) ≡ false
       → priority ≤ getD joined (onSeat q (x - 1)) 0
   unfolding joinedRight
   joined-says e w l f =
       leb-true _ _
-      (chosen-no (getD fifo (queueOf x) false) _ _ (chosen-yes (waitsOn x && ltb 1 (x % 64)) _ _ e (both _ _ w (lt-ltb _ _ l))) f)
+      (chosen-no (fifo (queueOf x)) _ _ (chosen-yes (waitsOn x && ltb 1 (x % 64)) _ _ e (both _ _ w (lt-ltb _ _ l))) f)
 
-  pub joined-right : (waitsOn x ≡ true → 1 < x % 64 → getD fifo (queueOf x) false ≡ false → priority ≤ getD joined (onSeat q (x - 1)) 0)
+  pub joined-right : (waitsOn x ≡ true → 1 < x % 64 → fifo (queueOf x) ≡ false → priority ≤ getD joined (onSeat q (x - 1)) 0)
       → joinedRight q joined fifo x priority ≡ true
   unfolding joinedRight
   joined-right f =
       choose (waitsOn x && ltb 1 (x % 64))
       (λ e. let b = both-true (waitsOn x) _ e in
-      choose (getD fifo (queueOf x) false) (λ a. refl) (λ a. le-leb _ _ (f (b .0) (ltb-true _ _ (b .1)) a)))
+      choose (fifo (queueOf x)) (λ a. refl) (λ a. le-leb _ _ (f (b .0) (ltb-true _ _ (b .1)) a)))
       (λ e. refl)
 
 -- a slot's priority is in range
