@@ -125,12 +125,12 @@ module _ (p : ℕ) (s : State) (ok : Sound s) (s2 : State) (ok2 : Sound s2) (y :
       (true-or-false (isAnswerOf 9 id OK y))
 
 -- what a turn's answer says
-answer-is : (y : Turn) (k status : ℕ) → isAnswer k status y ≡ true → (y .event .call ≡ k) × (y .reply .status ≡ status)
+pub answer-is : (y : Turn) (k status : ℕ) → isAnswer k status y ≡ true → (y .event .call ≡ k) × (y .reply .status ≡ status)
 unfolding isAnswer
 answer-is y k status e =
     let b = both-true (eqb (y .event .call) k) (eqb (y .reply .status) status) e in (eqb-true _ _ (b .0), eqb-true _ _ (b .1))
 
-answer-of : (y : Turn) (k id status : ℕ) → isAnswerOf k id status y ≡ true → isAnswer k status y ≡ true
+pub answer-of : (y : Turn) (k id status : ℕ) → isAnswerOf k id status y ≡ true → isAnswer k status y ≡ true
 unfolding isAnswerOf
 answer-of y k id status e = both-true (isAnswer k status y) _ e .0
 

@@ -59,11 +59,11 @@ unfolding waitsOn
 waiter-seen q i h t w =
     both _ _ (lt-ltb 0 (getD q t 0) (omega (arith, w .0))) (lt-ltb (getD q t 0) 2048 (omega (arith, w .1)))
 
-or-first : (b c : Bool) → c ≡ false → (b || c) ≡ b
+pub or-first : (b c : Bool) → c ≡ false → (b || c) ≡ b
 or-first true c e = refl
 or-first false c e = e
 
-or-second : (b c : Bool) → b ≡ false → (b || c) ≡ c
+pub or-second : (b c : Bool) → b ≡ false → (b || c) ≡ c
 or-second b c e = rw e
 
 -- how a wait ends: by a wake, where no task was deleted; by a deletion, where nobody was woken

@@ -57,7 +57,7 @@ next-left : (k : Tasks) (w : Waking) (t : ℕ) → wakeNext k w t .line .left �
 unfolding wakeNext wake
 next-left k w t = refl
 
-next-others : (k : Tasks) (w : Waking) (t : ℕ) → t < 32 → Good (w .line .seat) → Left (w .line .seat) (wakeNext k w t .line .seat) t
+pub next-others : (k : Tasks) (w : Waking) (t : ℕ) → t < 32 → Good (w .line .seat) → Left (w .line .seat) (wakeNext k w t .line .seat) t
 unfolding wakeNext
 next-others k w t h good = wake-left (w .line) good (getD (k .suspended) t false) (getD (k .priority) t 0) t h
 
@@ -81,7 +81,7 @@ module _ (k : Tasks) (u i : ℕ) (hi : i < objectsEnd) where
       go rec false d = rec w good some at
 
 -- all of a wake list have its status
-wakes-as : (n k : ℕ) (tasks : List ℕ) (why z : ℕ) → wakesAs why (wakesFrom n k tasks why) z ≡ wakes (wakesFrom n k tasks why) z
+pub wakes-as : (n k : ℕ) (tasks : List ℕ) (why z : ℕ) → wakesAs why (wakesFrom n k tasks why) z ≡ wakes (wakesFrom n k tasks why) z
 unfolding pick
 wakes-as zero k tasks why z = refl
 wakes-as (suc n) k tasks why z = go (eqb (getD tasks k 0) z) (eqb why why) (eq-eqb why why refl) _ _ (wakes-as n (suc k) tasks why z)

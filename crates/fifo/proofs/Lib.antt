@@ -1,0 +1,8 @@
+pub mod Grown
+pub mod Counting
+pub mod Leaving
+pub mod Places
+pub mod Grants
+pub mod Ends
+pub mod Still
+pub mod Shown
