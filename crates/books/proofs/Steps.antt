@@ -59,7 +59,7 @@ unfolding waitsOn
 waiter-seen q i h t w =
     both _ _ (lt-ltb 0 (getD q t 0) (omega (arith, w .0))) (lt-ltb (getD q t 0) 2048 (omega (arith, w .1)))
 
-pub or-first : (b c : Bool) → c ≡ false → (b || c) ≡ b
+or-first : (b c : Bool) → c ≡ false → (b || c) ≡ b
 or-first true c e = refl
 or-first false c e = e
 

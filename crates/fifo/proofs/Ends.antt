@@ -9,7 +9,7 @@ use mathlib.Core.Bool.{Bool, true, false, not, _||_}
 use mathlib.Core.List.{List, [], _∷_, _++_}
 use lib.Dec.{eqb}
 use borrow.Author.Tests.{eqb-true}
-use Rattle.scope.specs.Statuses.{OK, PENDING, TIME-OUT}
+use Rattle.scope.specs.Statuses.{OK, PENDING}
 use Rattle.scope.specs.Lists.{has}
 use Rattle.scope.specs.Replies.{Wake}
 use Rattle.laws.proofs.Branches.{true-false, true-or-false, not-of-false, picked-yes, picked-no}
@@ -44,7 +44,7 @@ module _ (p : ℕ) (h : p ≤ 15) (xs : List Event) (x : Event) (id t : ℕ) (wa
   spared : leavesUngranted past y t ≡ false → isAnswerOf 9 id OK y ≡ false → wakesAs OK (y .reply .wakes) t ≡ false → endsWait past y t ≡ false
   unfolding leavesUngranted endsWait
   spared e lives none =
-      let b = or-false (wakesAs TIME-OUT (y .reply .wakes) t) (doneTo 2 past t y) e in
+      let b = or-false _ _ e in
       or-second (wakes (y .reply .wakes) t) (doneTo 2 past t y)
       (⊎-elim granting (λ r. woken-timed-out p h xs x id t waits r lives ∙ b .0) (true-or-false (isAnswerOf 12 id OK y)))
       ∙ b .1
@@ -59,7 +59,7 @@ module _ (p : ℕ) (h : p ≤ 15) (xs : List Event) (x : Event) (id t : ℕ) (wa
   pub waits-on : endsClaim past y id t ≡ false → wakesAs OK (y .reply .wakes) t ≡ false → has (waiting (y ∷ past) id) t ≡ true
   unfolding endsClaim
   waits-on e none =
-      let b = or-false (leavesUngranted past y t) (isAnswerOf 9 id OK y) e in
+      let b = or-false _ _ e in
       ⊎-elim
       (λ claim. subst (λ (l : List ℕ). has l t ≡ true) (sym (waiting-more y past id (b .1) claim)) (has-before (waiting past id) (runningIn past) t waits))
       (λ mute. subst (λ (l : List ℕ). has l t ≡ true) (sym (waiting-less y past id (b .1) mute))

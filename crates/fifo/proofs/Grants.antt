@@ -2,7 +2,7 @@
 -- departures ahead it is granted by release p + 1 − d, by no other turn, and by then unless its claim was ended. By the equation of
 -- places: a release grants it exactly if nobody is ahead.
 -- Assumes nothing.
-use Prim.Native.Nat.{ℕ, _+_, _-_, _≤_, _<_}
+use Prim.Native.Nat.{ℕ, _+_, _≤_, _<_}
 use native.Mathlib.Omega.{arith}
 use mathlib.Core.Path.{_≡_, refl, sym, subst, ap, _∙_}
 use mathlib.Core.Logic.{⊎-elim}
@@ -19,14 +19,14 @@ use Rattle.scope.specs.Fresh.{freshState}
 use Rattle.laws.proofs.Branches.{true-false, true-or-false, eq-or-not, first-fails, second-fails, second-decides, picked-no}
 use Rattle.histories.specs.History.{Event, after}
 use Rattle.books.specs.Past.{Turn, pastOf, isAnswerOf}
-use Rattle.books.specs.Waiting.{isFifo, arrivedAt, wakes, waiting, Ahead}
+use Rattle.books.specs.Waiting.{arrivedAt, wakes, waiting, Ahead}
 use Rattle.books.specs.Times.{wakesAs}
 use Rattle.books.specs.Told.{GrantTold, NoGrant}
 use Rattle.books.proofs.Agreeing.{not-call, not-of}
 use Rattle.books.proofs.Members.{has-kept}
 use Rattle.books.proofs.Granting.{only-releases-grant}
-use Rattle.fifo.specs.Places.{foundAhead, ahead, releasesSince, departed, isItsRelease}
-use Rattle.fifo.specs.Claims.{FewerReleases, FewerByDepartures, GrantedExactly}
+use Rattle.fifo.specs.Places.{foundAhead, ahead, releasesSince, departed, itsRelease, isItsRelease}
+use Rattle.fifo.specs.Claims.{Fifo, FewerReleases, FewerByDepartures, GrantedExactly}
 use Rattle.fifo.proofs.Grown.{turnAfter}
 use Rattle.fifo.proofs.Counting.{keep-none}
 use Rattle.fifo.proofs.Leaving.{not-woken, one-woken, other-spared, grant-there, release-spares}
@@ -46,11 +46,11 @@ some-long (x ∷ xs) u b = omega arith
 module _ (past : List Turn) (id t n : ℕ) (count : n + releasesSince past id t + departed past id t ≡ foundAhead past t) where
   own : n ≡ 0 → isItsRelease past id t ≡ true
   unfolding isItsRelease
-  own e = eq-eqb (releasesSince past id t + 1) (foundAhead past t + 1 - departed past id t) (omega (arith, count, e))
+  own e = eq-eqb (releasesSince past id t + 1) (itsRelease past id t) (omega (arith, count, e))
 
   not-own : 0 < n → isItsRelease past id t ≡ false
   unfolding isItsRelease
-  not-own more = ne-eqb (releasesSince past id t + 1) (foundAhead past t + 1 - departed past id t) (λ e. omega (arith, count, more, e))
+  not-own more = ne-eqb (releasesSince past id t + 1) (itsRelease past id t) (λ e. omega (arith, count, more, e))
 
 -- "For any history from a fresh state"
 module _ (p : ℕ) (h : p ≤ 15) (xs : List Event) where
@@ -75,7 +75,7 @@ module _ (p : ℕ) (h : p ≤ 15) (xs : List Event) where
     abbrev ws : List Wake
     ws = y .reply .wakes
 
-    module _ (id t : ℕ) (waits : has (waiting past id) t ≡ true) (fifo : isFifo past id ≡ true) where
+    module _ (id t : ℕ) (waits : has (waiting past id) t ≡ true) (fifo : Fifo past id) where
       -- a release there grants one who joined before all others
       module _ (release : isAnswerOf 12 id OK y ≡ true) where
         grant : GrantTold p past id ws

@@ -18,7 +18,7 @@ use Rattle.scope.specs.Replies.{Wake}
 use Rattle.laws.proofs.Branches.{true-false, true-or-false, both-true, picked-yes, picked-no}
 use Rattle.histories.specs.History.{Event}
 use Rattle.books.specs.Past.{Turn, pastOf, isAnswer, isAnswerOf, runningIn}
-use Rattle.books.specs.Waiting.{isFifo, doneTo, pends, claimed, arrivedAt, wakes, endsWait, waiting, Ahead}
+use Rattle.books.specs.Waiting.{doneTo, pends, claimed, arrivedAt, wakes, endsWait, waiting, Ahead}
 use Rattle.books.specs.Times.{wakesAs}
 use Rattle.books.specs.Told.{Once, GrantTold}
 use Rattle.books.proofs.Agreeing.{not-call, not-of, is-of, of-is, not-done, pends-other, is-pending, waiting-shut, waiting-more, waiting-less}
@@ -26,8 +26,8 @@ use Rattle.books.proofs.Members.{has-not, has-last, has-grown, has-kept, kept-h
 use Rattle.books.proofs.Steps.{or-second, ends-woken}
 use Rattle.books.proofs.Clocks.{answer-is, answer-of}
 use Rattle.books.proofs.Told.{seats-told}
-use Rattle.fifo.specs.Places.{foundAhead, ahead, releasesSince, leavesUngranted, departed}
-use Rattle.fifo.specs.Claims.{Counted}
+use Rattle.fifo.specs.Places.{foundAhead, ahead, releasesSince, leavesUngranted, departing, departed}
+use Rattle.fifo.specs.Claims.{Fifo, Counted}
 use Rattle.fifo.proofs.Grown.{turnAfter, by-turns, at-next}
 use Rattle.fifo.proofs.Counting.{kept-and-left, keep-same, keep-all, keep-none, keep-grown, keep-one}
 use Rattle.fifo.proofs.Leaving.{one-woken, other-spared, grant-no-time-out, claimed-there, waited-not-made, grant-there, quiet-wakes, woken-timed-out}
@@ -106,7 +106,7 @@ module _ (p : ℕ) (h : p ≤ 15) (xs : List Event) (x : Event) where
     one = pick (isAnswerOf 12 id OK y) 1 0
 
     abbrev left : ℕ
-    left = length (keep (leavesUngranted past y) (ahead past id t))
+    left = length (departing past y id t)
 
     same-arrival : (u : ℕ) → pends past u y ≡ false → arrivedAt later u ≡ arrivedAt past u
     same-arrival u e = picked-no (pends past u y) (suc (length past)) (arrivedAt past u) e
@@ -160,7 +160,7 @@ module _ (p : ℕ) (h : p ≤ 15) (xs : List Event) (x : Event) where
           ∙ keep-grown is here (runningIn past)
           (le-ltb (arrivedAt later (runningIn past)) (arrivedAt later t) (omega (arith, last, same-arrival t e, arrived-le past t)))
           ∙ keep-same is was here (λ u b. same-test u (others-stay u b) e) in
-          let none : keep (leavesUngranted past y) (ahead past id t) ≡ [] = keep-none _ (ahead past id t) (λ u b. quiet u) in
+          let none : departing past y id t ≡ [] = keep-none (leavesUngranted past y) (ahead past id t) (λ u b. quiet u) in
           omega (
             arith,
             ap (λ (l : List ℕ). length l) same,
@@ -190,7 +190,7 @@ module _ (p : ℕ) (h : p ≤ 15) (xs : List Event) (x : Event) where
           omega (arith, kept-and-left (endsWait past y) was here, ap (λ (l : List ℕ). length l) same)
 
       -- a release takes the first, who is ahead
-      module _ (fifo : isFifo past id ≡ true) (release : isAnswerOf 12 id OK y ≡ true) where
+      module _ (fifo : Fifo past id) (release : isAnswerOf 12 id OK y ≡ true) where
         freed : x .call ≡ 12
         freed = answer-is y 12 OK (answer-of y 12 id OK release) .0
 
@@ -215,7 +215,7 @@ module _ (p : ℕ) (h : p ≤ 15) (xs : List Event) (x : Event) where
             keep-one (endsWait past y) (ahead past id t) (once-kept was here (seats-told p h xs .once id)) (grant .task) is-ahead
             (ends-as (grant .task) ∙ one-woken (grant .task) (grant .task) refl .0)
             (λ u b ne. ends-as u ∙ other-spared (grant .task) u (λ e. ne (sym e))) in
-            let none : keep (leavesUngranted past y) (ahead past id t) ≡ [] =
+            let none : departing past y id t ≡ [] =
             keep-none (leavesUngranted past y) (ahead past id t)
             (λ u b. ungranted-deleted past y u (ap (λ (l : List Wake). wakesAs TIME-OUT l u) (grant .only) ∙ grant-no-time-out (grant .task) u)
             ∙ nobody-deleted 12 freed u refl) in
@@ -224,12 +224,12 @@ module _ (p : ℕ) (h : p ≤ 15) (xs : List Event) (x : Event) where
       -- at any other turn who leaves is departed
       others-leave : isAnswerOf 12 id OK y ≡ false → length (keep (endsWait past y) (ahead past id t)) ≡ one + left
       others-leave e =
-          let same : keep (endsWait past y) (ahead past id t) ≡ keep (leavesUngranted past y) (ahead past id t) =
+          let same : keep (endsWait past y) (ahead past id t) ≡ departing past y id t =
           keep-same (endsWait past y) (leavesUngranted past y) (ahead past id t)
           (λ u b. ends-ungranted past y u (woken-timed-out p h xs x id u (kept-has was here u b .0) e lives)) in
           omega (arith, ap (λ (l : List ℕ). length l) same, picked-no {A = ℕ} (isAnswerOf 12 id OK y) 1 0 e)
 
-      stays : isFifo past id ≡ true → length (ahead past id t) ≡ length (ahead later id t) + one + left
+      stays : Fifo past id → length (ahead past id t) ≡ length (ahead later id t) + one + left
       stays fifo =
           ⊎-elim (λ e. omega (arith, parts, released fifo e)) (λ e. omega (arith, parts, others-leave e)) (true-or-false (isAnswerOf 12 id OK y))
 
@@ -247,10 +247,10 @@ module _ (p : ℕ) (h : p ≤ 15) (xs : List Event) (x : Event) where
         (true-or-false (isAnswerOf 11 id PENDING y)))
         (true-or-false (isAnswerOf 9 id OK y))
 
-    same-fifo : has here t ≡ true → isFifo later id ≡ true → isFifo past id ≡ true
+    same-fifo : has here t ≡ true → Fifo later id → Fifo past id
     same-fifo b fifo = sym (picked-no _ _ _ (waited-not-made p h xs x id t b)) ∙ fifo
 
-    moved : has (waiting later id) t ≡ true → isFifo past id ≡ true → pends past t y ≡ false
+    moved : has (waiting later id) t ≡ true → Fifo past id → pends past t y ≡ false
         → length (ahead past id t) ≡ length (ahead later id t) + one + left
     moved on fifo e =
         ⊎-elim
@@ -258,7 +258,7 @@ module _ (p : ℕ) (h : p ≤ 15) (xs : List Event) (x : Event) where
         (λ lives. ⊎-elim (λ claim. joins-behind claim e) (λ mute. stays mute lives on fifo) (true-or-false (isAnswerOf 11 id PENDING y)))
         (true-or-false (isAnswerOf 9 id OK y))
 
-    step : Counted past → has (waiting later id) t ≡ true → isFifo later id ≡ true
+    step : Counted past → has (waiting later id) t ≡ true → Fifo later id
         → length (ahead later id t) + releasesSince later id t + departed later id t ≡ foundAhead later t
     step so on fifo =
         ⊎-elim
@@ -267,7 +267,7 @@ module _ (p : ℕ) (h : p ≤ 15) (xs : List Event) (x : Event) where
         (λ mute. absurd (true-false e (stayed id t on mute)))
         (true-or-false (isAnswerOf 11 id PENDING y)))
         (λ e. let b : has here t ≡ true = waited on e in
-        let f : isFifo past id ≡ true = same-fifo b fifo in
+        let f : Fifo past id = same-fifo b fifo in
         omega (
           arith,
           so id t b f,

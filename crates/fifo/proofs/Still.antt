@@ -20,7 +20,7 @@ use Rattle.books.specs.Waiting.{pends, arrivedAt, endsWait, waiting}
 use Rattle.books.specs.Times.{wakesAs}
 use Rattle.books.proofs.Agreeing.{not-call, not-of, not-done, not-pends, waiting-less}
 use Rattle.books.proofs.Steps.{ends-deleted}
-use Rattle.fifo.specs.Places.{foundAhead, ahead, releasesSince, leavesUngranted, departed}
+use Rattle.fifo.specs.Places.{foundAhead, ahead, releasesSince, leavesUngranted, departing, departed}
 use Rattle.fifo.specs.Claims.{movesWaiters, SamePlace}
 use Rattle.fifo.proofs.Grown.{turnAfter}
 use Rattle.fifo.proofs.Counting.{keep-same, keep-all, keep-none}
@@ -78,7 +78,7 @@ module _ (p : ℕ) (h : p ≤ 15) (xs : List Event) (x : Event) (other : movesWa
           );
           left = omega (
             arith,
-            picked-no (pends past t y) 0 (length (keep (leavesUngranted past y) (ahead past id t)) + departed past id t) (nobody-joins t),
+            picked-no (pends past t y) 0 (length (departing past y id t) + departed past id t) (nobody-joins t),
             ap (λ (l : List ℕ). length l) (keep-none (leavesUngranted past y) (ahead past id t) (λ u b. nobody-departs u)),
           );
         }

@@ -37,14 +37,22 @@ releasesSince (x ∷ past) id t = pick (pends past t x) 0 (pick (isAnswerOf 12 i
 unfoldable pub leavesUngranted : List Turn → Turn → ℕ → Bool
 leavesUngranted past x u = wakesAs TIME-OUT (x .reply .wakes) u || doneTo 2 past u x
 
+-- those ahead of task t who do, at turn x
+abbrev pub departing : List Turn → Turn → ℕ → ℕ → List ℕ
+departing past x id t = keep (leavesUngranted past x) (ahead past id t)
+
 -- "d of those ahead left ungranted": this d, since its joining
 abbrev pub departed : List Turn → ℕ → ℕ → ℕ
 departed [] id t = 0
-departed (x ∷ past) id t = pick (pends past t x) 0 (length (keep (leavesUngranted past x) (ahead past id t)) + departed past id t)
+departed (x ∷ past) id t = pick (pends past t x) 0 (length (departing past x id t) + departed past id t)
 
--- the next release there is "release p + 1 − d counted from its joining"
+-- "release p + 1 − d counted from its joining"
+abbrev pub itsRelease : List Turn → ℕ → ℕ → ℕ
+itsRelease past id t = foundAhead past t + 1 - departed past id t
+
+-- the next release there is that one
 unfoldable pub isItsRelease : List Turn → ℕ → ℕ → Bool
-isItsRelease past id t = eqb (releasesSince past id t + 1) (foundAhead past t + 1 - departed past id t)
+isItsRelease past id t = eqb (releasesSince past id t + 1) (itsRelease past id t)
 
 -- since its joining "it is granted": woken with 0
 abbrev pub granted : List Turn → ℕ → Bool
