@@ -7,7 +7,9 @@ books.py --program build/second --seeds FIRST LAST [--records M]
 While a semaphore lives, its count is the initial count, plus releases
 answered OK, less claims granted, less tasks waiting. Tasks wait only when
 the count is negative, and then its size is their number. A release answered
-OK that finds waiters grants exactly one, whom none precedes. While a pool
+OK that finds waiters grants exactly one, whom none precedes. Who waits in a
+FIFO queue has as many ahead as it found, less releases there since, less
+those ahead that left ungranted; release p + 1 - d grants it. While a pool
 lives, buffers out are gets less returns, and no two of live pools share a
 byte.
 """
@@ -33,11 +35,22 @@ def must(holds, words):
         raise Wrong(words)
 
 
+class Place:
+    """A waiter's: tasks found ahead, releases since, those ahead that left."""
+
+    def __init__(self, found):
+        self.found, self.since, self.departed = found, 0, 0
+
+    def ahead(self):
+        return self.found - self.since - self.departed
+
+
 class Semaphore:
     def __init__(self, initial, options):
         self.initial, self.options = initial, options
         self.released = self.granted = 0
         self.queue = []  # (task, joining priority) by arrival
+        self.places = {}
 
     def count(self):
         return (self.initial + self.released - self.granted
@@ -47,6 +60,10 @@ class Semaphore:
         """Tasks wait only when the count is negative."""
         must(len(self.queue) == max(0, -self.count()),
              "count %d with %d waiting" % (self.count(), len(self.queue)))
+        if self.options == 1:
+            for ahead, (task, _) in enumerate(self.queue):
+                must(self.places[task].ahead() == ahead,
+                     "%d has %d ahead" % (task, ahead))
 
     def by_the_rule(self):
         """FIFO by arrival; else by joining priority, equals by arrival."""
@@ -62,8 +79,32 @@ class Semaphore:
         # max() gives the earliest of equals
         return max(self.queue, key=lambda waiter: waiter[1])[0]
 
+    def join(self, task, priority):
+        self.places[task] = Place(len(self.queue))
+        self.queue.append((task, priority))
+
     def leave(self, task):
         self.queue = [waiter for waiter in self.queue if waiter[0] != task]
+        return self.places.pop(task)
+
+    def leave_ungranted(self, task):
+        names = [waiter[0] for waiter in self.queue]
+        for behind in names[names.index(task) + 1:]:
+            self.places[behind].departed += 1
+        self.leave(task)
+
+    def release(self):
+        self.released += 1
+        for place in self.places.values():
+            place.since += 1
+
+    def grant(self, task):
+        """The release is already counted: it is number p + 1 - d."""
+        place = self.leave(task)
+        must(self.options != 1
+             or place.since == place.found + 1 - place.departed,
+             "%d is granted by another release than its own" % task)
+        self.granted += 1
 
 
 class Pool:
@@ -112,7 +153,7 @@ class Books:
 
     def leave_ungranted(self, task):
         semaphore = self.semaphores[self.waits_on.pop(task)]
-        semaphore.leave(task)
+        semaphore.leave_ungranted(task)
         semaphore.balance()
 
     # Tasks and ticks.
@@ -163,19 +204,17 @@ class Books:
             semaphore.granted += 1
         else:
             must(args[1] == 0, "NOWAIT never waits")
-            semaphore.queue.append(
-                (self.running, self.priorities[self.running]))
+            semaphore.join(self.running, self.priorities[self.running])
             self.waits_on[self.running] = args[0]
         semaphore.balance()
 
     def call_12(self, args, answer):
         semaphore = self.live(self.semaphores, args[0])
-        semaphore.released += 1
+        semaphore.release()
         if semaphore.queue:
             first = semaphore.first()
             must(answer.wakes == [(first, 0)], "%d is first" % first)
-            semaphore.leave(first)
-            semaphore.granted += 1
+            semaphore.grant(first)
             del self.waits_on[first]
         else:
             must(not answer.wakes, "nobody waits")

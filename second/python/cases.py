@@ -423,6 +423,49 @@ case("fifo-queue", 1, """
     sem_info 64 -> 0 1 1 0
 """)
 
+case("fifo-place-after-departures", 1, """
+    sem_create 7 0 FIFO -> 0 64
+    task_create 1 8 -> 0 65
+    task_create 2 8 -> 0 66
+    task_create 3 8 -> 0 67
+    task_create 4 8 -> 0 68
+    task_create 5 8 -> 0 69
+    task_start 65 -> 0; runs 65
+    sem_claim 64 0 FOREVER -> 1; runs 64
+    task_start 66 -> 0; runs 66
+    sem_claim 64 0 2 -> 1; runs 64
+    task_start 67 -> 0; runs 67
+    sem_claim 64 0 FOREVER -> 1; runs 64
+    task_start 68 -> 0; runs 68
+    sem_claim 64 0 FOREVER -> 1; runs 64        # three ahead: release 4 - d
+    task_start 69 -> 0; runs 69
+    sem_claim 64 0 2 -> 1; runs 64              # behind it
+    mark 1 sem_release 64 -> 0; runs 65; wakes 65:0
+    task_set_priority 68 15 -> 0 8              # moves nobody in a queue
+    task_suspend 67 -> 0; runs 65               # keeps its place
+    tick -> 0
+    tick -> 0; runs 65; wakes 66:13 69:13       # d is 1: 69 was behind it
+    sem_info 64 -> 0 1 -2 2
+    sem_release 64 -> 0; runs 65; wakes 67:0
+    sem_release 64 -> 0; runs 68; wakes 68:0    # release 3
+    sem_info 64 -> 0 1 0 0
+""")
+
+case("priority-queue-waits-longer", 5, """
+    sem_create 7 0 0 -> 0 64
+    task_create 9 8 -> 0 65
+    task_start 65 -> 0; runs 65
+    sem_claim 64 0 FOREVER -> 1; runs 64
+    sem_claim 64 0 FOREVER -> 1; runs 0         # one ahead
+    mark 1 sem_release 64 -> 0; runs 65; wakes 65:0
+    sem_claim 64 0 FOREVER -> 1; runs 0         # ahead of 64 again
+    mark 1 sem_release 64 -> 0; runs 65; wakes 65:0
+    sem_claim 64 0 FOREVER -> 1; runs 0
+    mark 1 sem_release 64 -> 0; runs 65; wakes 65:0
+    sem_info 64 -> 0 0 -1 1                     # after three, 64 waits on
+    sem_release 64 -> 0; runs 65; wakes 64:0
+""")
+
 case("slot-used-again", 1, """
     task_create 1 5 -> 0 65
     task_start 65 -> 0; runs 65
