@@ -51,15 +51,16 @@ afterOne = pastOf 5 (oneRound 1)
 abbrev afterTwo : List Turn
 afterTwo = pastOf 5 (oneRound 1 ++ (release ∷ []))
 
--- Four wait in a FIFO queue, tasks 65 to 68, in this order. After the first release task 67 is suspended, task 68 gets the highest
--- priority, and task 66 times out at the second tick: task 68, which found three ahead, is granted by the third release.
-abbrev fourWait : List Event
-fourWait =
-    makes 1 ∷ creates 9 ∷ creates 8 ∷ creates 7 ∷ creates 6
-    ∷ starts 65 ∷ claims FOREVER ∷ starts 66 ∷ claims 2 ∷ starts 67 ∷ claims FOREVER ∷ starts 68 ∷ claims FOREVER ∷ []
+-- Five wait in a FIFO queue, tasks 65 to 69, in this order. After the first release task 67 is suspended, task 68 gets the highest
+-- priority, and tasks 66 and 69 time out at the second tick: task 68, which found three ahead, is granted by the third release. Task 69
+-- was behind it, and does not count.
+abbrev fiveWait : List Event
+fiveWait =
+    makes 1 ∷ creates 10 ∷ creates 9 ∷ creates 8 ∷ creates 7 ∷ creates 6
+    ∷ starts 65 ∷ claims FOREVER ∷ starts 66 ∷ claims 2 ∷ starts 67 ∷ claims FOREVER ∷ starts 68 ∷ claims FOREVER ∷ starts 69 ∷ claims 2 ∷ []
 
 abbrev oneLeft : List Event
-oneLeft = fourWait ++ (release ∷ calls 5 67 0 0 ∷ calls 7 68 15 0 ∷ tick ∷ tick ∷ release ∷ [])
+oneLeft = fiveWait ++ (release ∷ calls 5 67 0 0 ∷ calls 7 68 15 0 ∷ tick ∷ tick ∷ release ∷ [])
 
 abbrev beforeThird : List Turn
 beforeThird = pastOf 5 oneLeft
