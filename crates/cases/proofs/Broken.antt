@@ -10,22 +10,22 @@ use Rattle.scope.specs.Areas.{isArea, isSize, buffersOf, shareByte}
 use Rattle.scope.specs.Waiting.{wokenSeats, wake, wakeNext, isTimeOut}
 use Rattle.scope.specs.Ticks.{timeLeft, timesLeft, isDue, wakeDue, tick}
 use Rattle.scope.specs.Objects.{objects}
-use Rattle.scope.specs.Rules.{seatRight, seatsRight, readyRight, readyOrderRight, waitRight, waitsRight, joinedRight, queuesSorted, countRight, countsRight, startRight, startsRight, taskRight, tasksRight, semRight, semsRight, admitted, poolRight, poolsRight, pairShares, poolsApart, runningRight, sound}
+use Rattle.scope.specs.Rules.{seatRight, seatsRight, readyRight, readyOrderRight, waitRight, waitsRight, joinedRight, queuesSorted, countRight, countsRight, startRight, startsRight, taskRight, tasksRight, semRight, semsRight, admitted, poolRight, poolsRight, pairShares, poolsApart, runningRight, keeps, sound}
 use Rattle.scope.specs.Calls.{mayCall}
 use Rattle.scope.specs.Step.{callerRefusal, answered, stepped}
 use Rattle.cases.specs.Broken.{good, broken, allBroken, allCalls, accepted, oneBroken}
 
 -- the good state is accepted
 pub good-accepted : T (accepted good)
-unfolding pick least every number waitsOn onSeat standsIn standing lower leaves raise laterOf aheadOf joins greater topOf runnerOf readyWith less runningTask answer plain badState wakesWith isArea isSize buffersOf shareByte wokenSeats wake wakeNext isTimeOut timeLeft timesLeft isDue wakeDue tick seatRight seatsRight readyRight readyOrderRight objects waitRight waitsRight joinedRight queuesSorted countRight countsRight startRight startsRight taskRight tasksRight semRight semsRight admitted poolRight poolsRight pairShares poolsApart runningRight sound mayCall callerRefusal answered stepped
+unfolding pick least every number waitsOn onSeat standsIn standing lower leaves raise laterOf aheadOf joins greater topOf runnerOf readyWith less runningTask answer plain badState wakesWith isArea isSize buffersOf shareByte wokenSeats wake wakeNext isTimeOut timeLeft timesLeft isDue wakeDue tick seatRight seatsRight readyRight readyOrderRight objects waitRight waitsRight joinedRight queuesSorted countRight countsRight startRight startsRight taskRight tasksRight semRight semsRight admitted poolRight poolsRight pairShares poolsApart runningRight keeps sound mayCall callerRefusal answered stepped
 good-accepted = tt
 
 -- each broken state is refused
 pub every-broken : T (allBroken broken)
-unfolding pick least every number waitsOn onSeat standsIn standing greater topOf runnerOf readyWith less badState isArea isSize buffersOf shareByte isTimeOut seatRight seatsRight readyRight readyOrderRight objects waitRight waitsRight joinedRight queuesSorted countRight countsRight startRight startsRight taskRight tasksRight semRight semsRight admitted poolRight poolsRight pairShares poolsApart runningRight sound stepped
+unfolding pick least every number waitsOn onSeat standsIn standing greater topOf runnerOf readyWith less badState isArea isSize buffersOf shareByte isTimeOut seatRight seatsRight readyRight readyOrderRight objects waitRight waitsRight joinedRight queuesSorted countRight countsRight startRight startsRight taskRight tasksRight semRight semsRight admitted poolRight poolsRight pairShares poolsApart runningRight keeps sound stepped
 every-broken = tt
 
 -- the twenty calls and an unknown one, by either caller, on one broken state
 pub every-call : T (allCalls 21 oneBroken)
-unfolding pick least every number waitsOn onSeat standsIn standing greater topOf runnerOf readyWith less badState isArea isSize buffersOf shareByte isTimeOut seatRight seatsRight readyRight readyOrderRight objects waitRight waitsRight joinedRight queuesSorted countRight countsRight startRight startsRight taskRight tasksRight semRight semsRight admitted poolRight poolsRight pairShares poolsApart runningRight sound stepped
+unfolding pick least every number waitsOn onSeat standsIn standing greater topOf runnerOf readyWith less badState isArea isSize buffersOf shareByte isTimeOut seatRight seatsRight readyRight readyOrderRight objects waitRight waitsRight joinedRight queuesSorted countRight countsRight startRight startsRight taskRight tasksRight semRight semsRight admitted poolRight poolsRight pairShares poolsApart runningRight keeps sound stepped
 every-call = tt

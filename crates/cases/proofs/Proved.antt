@@ -13,7 +13,7 @@ use Rattle.scope.specs.Semaphores.{semCreateAt, semCreate, semDeleteAt, semIden
 use Rattle.scope.specs.Pools.{overlaps, overlapped, poolCreateAt, poolCreate, poolDeleteAt, poolIdentAt, poolIdent, poolGetBuffer, poolGetBuffAt, poolRetBuffer, poolRetBuffAt, poolInfoAt}
 use Rattle.scope.specs.Ticks.{timeLeft, timesLeft, isDue, wakeDue, tick}
 use Rattle.scope.specs.Objects.{objects}
-use Rattle.scope.specs.Rules.{seatRight, seatsRight, readyRight, readyOrderRight, waitRight, waitsRight, joinedRight, queuesSorted, countRight, countsRight, startRight, startsRight, taskRight, tasksRight, semRight, semsRight, admitted, poolRight, poolsRight, pairShares, poolsApart, runningRight, sound}
+use Rattle.scope.specs.Rules.{seatRight, seatsRight, readyRight, readyOrderRight, waitRight, waitsRight, joinedRight, queuesSorted, countRight, countsRight, startRight, startsRight, taskRight, tasksRight, semRight, semsRight, admitted, poolRight, poolsRight, pairShares, poolsApart, runningRight, keeps, sound}
 use Rattle.scope.specs.Fresh.{freshState}
 use Rattle.scope.specs.Calls.{mayCall}
 use Rattle.scope.specs.Step.{callerRefusal, answered, stepped}
@@ -22,5 +22,5 @@ use Rattle.scope.specs.Listing.{decimal, signed, wakeFields, lineOf, linesFrom,
 use Rattle.cases.specs.Cases.{cases, allPass}
 
 pub every-case : T (allPass cases)
-unfolding pick least every number found usable lowestUsable named byName waitsOn onSeat standsIn standing lower leaves raise laterOf aheadOf joins greater topOf runnerOf readyWith less runningTask answer plain gives badState wakesWith onFound isArea isSize buffersOf shareByte isOut isFree lowestFree freeOf bufferAddress bufferAt taskFound taskCreateAt taskCreate taskDeleteAt taskIdentAt taskIdent taskStartAt taskSuspendAt taskResumeAt taskSetPriorityAt bitOf semCreateAt semCreate wokenSeats wake wakeNext wakeAll semDeleteAt semIdentAt semIdent isTimeOut queueKey waits semWaitAt semClaimAt semReleaseAt semInfoAt overlaps overlapped poolCreateAt poolCreate poolDeleteAt poolIdentAt poolIdent poolGetBuffer poolGetBuffAt poolRetBuffer poolRetBuffAt poolInfoAt timeLeft timesLeft isDue wakeDue tick seatRight seatsRight readyRight readyOrderRight objects waitRight waitsRight joinedRight queuesSorted countRight countsRight startRight startsRight taskRight tasksRight semRight semsRight admitted poolRight poolsRight pairShares poolsApart runningRight sound freshState mayCall callerRefusal answered stepped number32 isScript stepAt decimal signed wakeFields lineOf linesFrom refusedLine listing
+unfolding pick least every number found usable lowestUsable named byName waitsOn onSeat standsIn standing lower leaves raise laterOf aheadOf joins greater topOf runnerOf readyWith less runningTask answer plain gives badState wakesWith onFound isArea isSize buffersOf shareByte isOut isFree lowestFree freeOf bufferAddress bufferAt taskFound taskCreateAt taskCreate taskDeleteAt taskIdentAt taskIdent taskStartAt taskSuspendAt taskResumeAt taskSetPriorityAt bitOf semCreateAt semCreate wokenSeats wake wakeNext wakeAll semDeleteAt semIdentAt semIdent isTimeOut queueKey waits semWaitAt semClaimAt semReleaseAt semInfoAt overlaps overlapped poolCreateAt poolCreate poolDeleteAt poolIdentAt poolIdent poolGetBuffer poolGetBuffAt poolRetBuffer poolRetBuffAt poolInfoAt timeLeft timesLeft isDue wakeDue tick seatRight seatsRight readyRight readyOrderRight objects waitRight waitsRight joinedRight queuesSorted countRight countsRight startRight startsRight taskRight tasksRight semRight semsRight admitted poolRight poolsRight pairShares poolsApart runningRight keeps sound freshState mayCall callerRefusal answered stepped number32 isScript stepAt decimal signed wakeFields lineOf linesFrom refusedLine listing
 every-case = tt

@@ -12,7 +12,7 @@ use Rattle.scope.specs.Seats.{waitsOn, onSeat, standsIn, standing, greater, top
 use Rattle.scope.specs.Views.{readyWith, less}
 use Rattle.scope.specs.Areas.{isArea, isSize, buffersOf, shareByte}
 use Rattle.scope.specs.Waiting.{isTimeOut}
-use Rattle.scope.specs.Rules.{seatRight, seatsRight, readyRight, readyOrderRight, waitRight, waitsRight, joinedRight, queuesSorted, countRight, countsRight, startRight, startsRight, taskRight, tasksRight, semRight, semsRight, admitted, poolRight, poolsRight, pairShares, poolsApart, runningRight, sound}
+use Rattle.scope.specs.Rules.{seatRight, seatsRight, readyRight, readyOrderRight, waitRight, waitsRight, joinedRight, queuesSorted, countRight, countsRight, startRight, startsRight, taskRight, tasksRight, semRight, semsRight, admitted, poolRight, poolsRight, pairShares, poolsApart, runningRight, keeps, sound}
 use Rattle.scope.specs.Fresh.{freshState, fresh}
 use Rattle.laws.proofs.Searches.{every-at}
 use Rattle.histories.specs.Sound.{Sized, Sound}
@@ -20,7 +20,7 @@ use Rattle.histories.proofs.Refused.{by-choice}
 use Rattle.histories.proofs.Meaning.{sound-says}
 
 fresh-passes : every (λ p. sound (freshState p)) 16 ≡ true
-unfolding pick least every number waitsOn onSeat standsIn standing greater topOf runnerOf readyWith less isArea isSize buffersOf shareByte isTimeOut seatRight seatsRight readyRight readyOrderRight waitRight waitsRight joinedRight queuesSorted countRight countsRight startRight startsRight taskRight tasksRight semRight semsRight admitted poolRight poolsRight pairShares poolsApart runningRight sound freshState
+unfolding pick least every number waitsOn onSeat standsIn standing greater topOf runnerOf readyWith less isArea isSize buffersOf shareByte isTimeOut seatRight seatsRight readyRight readyOrderRight waitRight waitsRight joinedRight queuesSorted countRight countsRight startRight startsRight taskRight tasksRight semRight semsRight admitted poolRight poolsRight pairShares poolsApart runningRight keeps sound freshState
 fresh-passes = refl
 
 fresh-sized : (p : ℕ) → Sized (freshState p)

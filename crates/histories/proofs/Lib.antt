@@ -1,5 +1,6 @@
 pub mod Refused
 pub mod Tests
+pub mod Ruled
 pub mod Parts
 pub mod Objects
 pub mod Moves

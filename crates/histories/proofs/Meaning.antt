@@ -15,7 +15,7 @@ use Rattle.scope.specs.declared.Semaphores.{Semaphores}
 use Rattle.scope.specs.Seats.{queueSeats, waitsOn, queueOf, standing}
 use Rattle.scope.specs.Views.{readyWith, waitersOf, count}
 use Rattle.scope.specs.Objects.{objectsEnd, Objects, objectsOf}
-use Rattle.scope.specs.Rules.{seatsRight, readyRight, readyOrderRight, waitRight, waitsRight, joinedRight, queuesSorted, countRight, countsRight, startRight, startsRight, taskRight, tasksRight, semRight, semsRight, poolRight, poolsRight, poolsApart, runningRight, sound}
+use Rattle.scope.specs.Rules.{seatsRight, readyRight, readyOrderRight, waitRight, waitsRight, joinedRight, queuesSorted, countRight, countsRight, startRight, startsRight, taskRight, tasksRight, semRight, semsRight, poolRight, poolsRight, poolsApart, runningRight, orderRules, tableRules, keeps, sound}
 use Rattle.scope.proofs.Counts.{right-says, says-right}
 use Rattle.laws.proofs.Branches.{both, both-true, first-fails, second-fails, not-of-true, not-of-false, true-false, true-or-false, lt-or-le}
 use Rattle.laws.proofs.Searches.{every-yes, every-at}
@@ -25,6 +25,7 @@ use Rattle.seats.proofs.Rule.{queues-from-rule, rule-from-queues}
 use Rattle.seats.proofs.Sorting.{steps-from-sorted, sorted-from-steps}
 use Rattle.histories.specs.Sound.{Waits, Ready, Stands, LineSound, TaskSound, TasksSound, SemSound, SemsSound, PoolsSound, Sound, Sized}
 use Rattle.histories.proofs.Tests.{chosen-yes, chosen-no, choose, waits-is, waits-says, ready-says, idle-says, ready-right, start-says, start-right, wait-says, rest-says, wait-right, joined-says, joined-right}
+use Rattle.histories.proofs.Ruled.{Row, rows, row-holds, none, more, each-keeps, sound-keeps, keeps-sound}
 use Rattle.histories.proofs.Objects.{sem-stock, no-stock, no-units}
 
 -- a seat that nobody waits on
@@ -251,86 +252,37 @@ module _ (m : Semaphores) (i : ℕ) where
       choose (getD (m .live) i false) (λ a. le-leb _ _ (h .alive a))
       (λ a. both _ _ (eq-eqb _ _ (h .name a)) (both _ _ (not-of-false _ (h .fifo a)) (eq-eqb _ _ (h .none a))))
 
--- the parts of the test
-record Held (s : State) : Type 0 where
-  seats : seatsRight (s .line .seat) ≡ true
-  order : readyOrderRight (s .line) (s .tasks) ≡ true
-  waits : waitsRight (s .line) (objectsOf s .live) ≡ true
-  sorted : queuesSorted (s .line) (objectsOf s .fifo) ≡ true
-  counts : countsRight (s .line) (s .semaphores) ≡ true
-  starts : startsRight (s .line) (s .tasks) ≡ true
-  tasks : tasksRight (s .tasks) ≡ true
-  sems : semsRight (s .semaphores) ≡ true
-  pools : poolsRight (s .pools) ≡ true
-  apart : poolsApart (s .pools) ≡ true
-  running : runningRight s ≡ true
-
-sound-held : (s : State) → sound s ≡ true → Held s
-unfolding sound
-sound-held s e =
-    let a = both-true (seatsRight (s .line .seat)) _ e in
-    let b = both-true (readyOrderRight (s .line) (s .tasks)) _ (a .1) in
-    let c = both-true (waitsRight (s .line) (objectsOf s .live)) _ (b .1) in
-    let d = both-true (queuesSorted (s .line) (objectsOf s .fifo)) _ (c .1) in
-    let f = both-true (countsRight (s .line) (s .semaphores)) _ (d .1) in
-    let g = both-true (startsRight (s .line) (s .tasks)) _ (f .1) in
-    let h = both-true (tasksRight (s .tasks)) _ (g .1) in
-    let i = both-true (semsRight (s .semaphores)) _ (h .1) in
-    let j = both-true (poolsRight (s .pools)) _ (i .1) in
-    let k = both-true (poolsApart (s .pools)) _ (j .1) in
-    record {
-      seats = a .0;
-      order = b .0;
-      waits = c .0;
-      sorted = d .0;
-      counts = f .0;
-      starts = g .0;
-      tasks = h .0;
-      sems = i .0;
-      pools = j .0;
-      apart = k .0;
-      running = k .1;
-    }
-
-held-sound : (s : State) → Held s → sound s ≡ true
-unfolding sound
-held-sound s h =
-    both _ _ (h .seats)
-    (both _ _ (h .order)
-    (both _ _ (h .waits)
-    (both _ _ (h .sorted)
-    (both _ _ (h .counts)
-    (both _ _ (h .starts)
-    (both _ _ (h .tasks)
-    (both _ _ (h .sems)
-    (both _ _ (h .pools)
-    (both _ _ (h .apart) (h .running))))))))))
-
 -- what the test says of a state whose arrays have their sizes
-module _ (s : State) (sized : Sized s) (held : Held s) where
+module _ (s : State) (sized : Sized s) (orders : keeps orderRules s ≡ true) (tables : keeps tableRules s ≡ true) where
+  order-rule : (rule : State → Bool) → Row rule orderRules → rule s ≡ true
+  order-rule rule row = row-holds orderRules s orders rule row
+
+  table-rule : (rule : State → Bool) → Row rule tableRules → rule s ≡ true
+  table-rule rule row = row-holds tableRules s tables rule row
+
   says-queues : Queues (s .line .seat)
-  says-queues = queues-from-rule (s .line .seat) (sized .seat) (held .seats)
+  says-queues = queues-from-rule (s .line .seat) (sized .seat) (order-rule (λ x. seatsRight (x .line .seat)) (search rows depth 12))
 
   start-at : (t : ℕ) → t < 32 → StartRight (s .line) (s .tasks) (objectsOf s) t
   unfolding startsRight
   start-at t h =
       every-at
       (λ u. startRight (getD (s .tasks .started) u false) (getD (s .tasks .suspended) u false) (getD (s .line .seat) u 0))
-      32 (held .starts) t h
+      32 (order-rule (λ x. startsRight (x .line) (x .tasks)) (search rows depth 12)) t h
 
   ready-at : (t : ℕ) → t < 32 → ReadyRight (s .line) (s .tasks) (objectsOf s) t
   unfolding readyOrderRight
   ready-at t h =
       every-at
       (λ u. readyRight (getD (s .tasks .started) u false) (getD (s .tasks .suspended) u false) (getD (s .tasks .priority) u 0) (getD (s .line .seat) u 0))
-      32 (held .order) t h
+      32 (order-rule (λ x. readyOrderRight (x .line) (x .tasks)) (search rows depth 12)) t h
 
   wait-at : (t : ℕ) → t < 32 → WaitRight (s .line) (s .tasks) (objectsOf s) t
   unfolding waitsRight
   wait-at t h =
       every-at
       (λ u. waitRight (objectsOf s .live) (getD (s .line .seat) u 0) (getD (s .line .left) u 0) (getD (s .line .joined) u 0))
-      32 (held .waits) t h
+      32 (order-rule (λ x. waitsRight (x .line) (objectsOf x .live)) (search rows depth 12)) t h
 
   count-at : (i : ℕ) → i < 16
       → (getD (s .semaphores .units) i 0 ≤ 32767)
@@ -338,7 +290,7 @@ module _ (s : State) (sized : Sized s) (held : Held s) where
   unfolding countsRight
   count-at i h =
       right-says (waitersOf (s .line) i) (getD (s .semaphores .units) i 0)
-      (every-at (λ j. countRight (waitersOf (s .line) j) (count (s .line) (s .semaphores) j)) 16 (held .counts) i h)
+      (every-at (λ j. countRight (waitersOf (s .line) j) (count (s .line) (s .semaphores) j)) 16 (order-rule (λ x. countsRight (x .line) (x .semaphores)) (search rows depth 12)) i h)
 
   -- an object that tasks wait for has no stock
   stock-at : (i : ℕ) → i < objectsEnd → 0 < standing (s .line .seat) (queueSeats i) → objectsOf s .stock i ≡ 0
@@ -353,7 +305,7 @@ module _ (s : State) (sized : Sized s) (held : Held s) where
         queues = says-queues;
         stands = λ t h.
             stands-says (s .line) (s .tasks) (objectsOf s) t (says-queues .places t) (ready-at t h) (wait-at t h) (start-at t h);
-        sorted = sorted-says (s .line) (s .tasks) (objectsOf s) says-queues (held .sorted);
+        sorted = sorted-says (s .line) (s .tasks) (objectsOf s) says-queues (order-rule (λ x. queuesSorted (x .line) (objectsOf x .fifo)) (search rows depth 12));
         counts = stock-at;
       }
 
@@ -368,7 +320,7 @@ module _ (s : State) (sized : Sized s) (held : Held s) where
         suspendeds = sized .suspended;
         priorities = sized .priority;
         each = λ t h.
-            task-says (s .tasks) t (every-at (taskRight (s .tasks)) 32 (held .tasks) t h)
+            task-says (s .tasks) t (every-at (taskRight (s .tasks)) 32 (table-rule (λ x. tasksRight (x .tasks)) (search rows depth 12)) t h)
             (λ a. start-says _ _ _ (start-at t h) a .1);
       }
 
@@ -381,7 +333,7 @@ module _ (s : State) (sized : Sized s) (held : Held s) where
         unitss = sized .units;
         lives = sized .slive;
         fifos = sized .fifo;
-        each = λ i h. sem-says (s .semaphores) i (every-at (semRight (s .semaphores)) 16 (held .sems) i h) (count-at i h .0);
+        each = λ i h. sem-says (s .semaphores) i (every-at (semRight (s .semaphores)) 16 (table-rule (λ x. semsRight (x .semaphores)) (search rows depth 12)) i h) (count-at i h .0);
       }
 
   says-pools : PoolsSound (s .pools)
@@ -396,8 +348,8 @@ module _ (s : State) (sized : Sized s) (held : Held s) where
         serials = sized .pserial;
         lives = sized .plive;
         forceds = sized .forced;
-        each = every-at (poolRight (s .pools)) 8 (held .pools);
-        apart = held .apart;
+        each = every-at (poolRight (s .pools)) 8 (table-rule (λ x. poolsRight (x .pools)) (search rows depth 12));
+        apart = table-rule (λ x. poolsApart (x .pools)) (search rows depth 12);
       }
 
   held-says : Sound s
@@ -408,29 +360,36 @@ module _ (s : State) (sized : Sized s) (held : Held s) where
         tasks = says-tasks;
         semaphores = says-sems;
         pools = says-pools;
-        running = eqb-true _ _ (held .running);
+        running = eqb-true _ _ (order-rule (λ x. runningRight x) (search rows depth 12));
       }
 
 pub sound-says : (s : State) → Sized s → sound s ≡ true → Sound s
-sound-says s sized e = held-says s sized (sound-held s e)
+sound-says s sized e = let h = sound-keeps s e in held-says s sized (h .0) (h .1)
 
--- and back
-pub sound-right : (s : State) → Sound s → sound s ≡ true
-unfolding readyOrderRight waitsRight queuesSorted countsRight startsRight tasksRight semsRight poolsRight runningRight
-sound-right s h =
-    held-sound s
-    (record {
-      seats = rule-from-queues (s .line .seat) (h .line .queues);
-      order = every-yes _ 32 (λ t l. stands-ready (s .line) (s .tasks) (objectsOf s) t (h .line .stands t l));
-      waits = every-yes _ 32 (λ t l. stands-wait (s .line) (s .tasks) (objectsOf s) t (h .line .stands t l));
-      sorted = every-yes _ 32 (λ t l. sorted-right (s .line) (s .tasks) (objectsOf s) (h .line .queues) t (h .line .stands t l) (h .line .sorted));
-      counts = every-yes _ 16 (λ i l. says-right (waitersOf (s .line) i) _ (h .semaphores .each i l .units)
-          (no-units (s .line) (s .tasks) (s .semaphores) (h .line) i l));
-      starts = every-yes _ 32
-          (λ t l. stands-start (s .line) (s .tasks) (objectsOf s) t (h .tasks .each t l .suspended) (h .line .stands t l));
-      tasks = every-yes _ 32 (λ t l. task-right (s .tasks) t (h .tasks .each t l));
-      sems = every-yes _ 16 (λ i l. sem-right (s .semaphores) i (h .semaphores .each i l));
-      pools = every-yes _ 8 (h .pools .each);
-      apart = h .pools .apart;
-      running = eq-eqb _ _ (h .running);
-    })
+-- and back, a row each
+module _ (s : State) (h : Sound s) where
+  orders-right : keeps orderRules s ≡ true
+  unfolding readyOrderRight waitsRight queuesSorted countsRight startsRight runningRight
+  orders-right =
+      each-keeps orderRules s
+      (more (rule-from-queues (s .line .seat) (h .line .queues))
+      (more (every-yes _ 32 (λ t l. stands-ready (s .line) (s .tasks) (objectsOf s) t (h .line .stands t l)))
+      (more (every-yes _ 32 (λ t l. stands-wait (s .line) (s .tasks) (objectsOf s) t (h .line .stands t l)))
+      (more (every-yes _ 32 (λ t l. sorted-right (s .line) (s .tasks) (objectsOf s) (h .line .queues) t (h .line .stands t l) (h .line .sorted)))
+      (more (every-yes _ 16 (λ i l. says-right (waitersOf (s .line) i) _ (h .semaphores .each i l .units) (no-units (s .line) (s .tasks) (s .semaphores) (h .line) i l)))
+      (more (every-yes _ 32 (λ t l. stands-start (s .line) (s .tasks) (objectsOf s) t (h .tasks .each t l .suspended) (h .line .stands t l)))
+      (more (eq-eqb _ _ (h .running))
+      none)))))))
+
+  tables-right : keeps tableRules s ≡ true
+  unfolding tasksRight semsRight poolsRight
+  tables-right =
+      each-keeps tableRules s
+      (more (every-yes _ 32 (λ t l. task-right (s .tasks) t (h .tasks .each t l)))
+      (more (every-yes _ 16 (λ i l. sem-right (s .semaphores) i (h .semaphores .each i l)))
+      (more (every-yes _ 8 (h .pools .each))
+      (more (h .pools .apart)
+      none))))
+
+  pub sound-right : sound s ≡ true
+  sound-right = keeps-sound s orders-right tables-right

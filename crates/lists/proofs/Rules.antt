@@ -5,7 +5,7 @@ use Prim.Native.Nat.{ℕ, _≤_, _<_}
 use native.Mathlib.Omega.{arith}
 use mathlib.Core.Path.{_≡_, sym, ap, _∙_}
 use mathlib.Core.Logic.{⊎-elim, _↔_}
-use mathlib.Core.Bool.{true, false}
+use mathlib.Core.Bool.{Bool, true, false}
 use mathlib.Core.List.{List}
 use lib.ListN.{length, getD}
 use borrow.Author.Tests.{eq-eqb, eqb-true}
@@ -16,7 +16,7 @@ use Rattle.scope.specs.Objects.{objectsOf}
 use Rattle.scope.specs.Views.{Signed, less, isReady, waitersOf, count}
 use Rattle.scope.specs.Waiting.{isTimeOut}
 use Rattle.scope.specs.Semaphores.{lastCount}
-use Rattle.scope.specs.Rules.{seatsRight, readyRight, readyOrderRight, waitRight, waitsRight, joinedRight, queuesSorted, countRight, countsRight, startRight, startsRight, taskRight, tasksRight, runningRight}
+use Rattle.scope.specs.Rules.{seatsRight, readyRight, readyOrderRight, waitRight, waitsRight, joinedRight, queuesSorted, countRight, countsRight, startRight, startsRight, taskRight, tasksRight, runningRight, orderRules, keeps}
 use Rattle.scope.proofs.Counts.{minus, natural, less-below, less-above, less-negative, less-not-negative, right-says, says-right}
 use Rattle.laws.proofs.Branches.{true-false, true-or-false, lt-or-le}
 use Rattle.laws.proofs.Searches.{every-yes, every-at}
@@ -25,9 +25,10 @@ use Rattle.seats.specs.Rule.{In, Sorted, Queues}
 use Rattle.seats.proofs.Rule.{queues-from-rule}
 use Rattle.seats.proofs.Sorting.{steps-from-sorted, sorted-from-steps}
 use Rattle.histories.specs.Sound.{Sized}
+use Rattle.histories.proofs.Ruled.{Row, rows, row-holds, none, more, each-keeps}
 use Rattle.histories.proofs.Tests.{waits-is, waits-says, ready-says, idle-says, ready-right, ready-started, start-says, start-right, wait-says, rest-says, wait-right, joined-says, joined-right, task-range}
 use Rattle.lists.specs.Along.{Once, NeverRising, queueAbove, firstIn}
-use Rattle.lists.specs.Rules.{readyOf, queueIn, waiting, HoldsTheReady, PrioritiesFall, FirstRuns, StandsInOne, NoOther, JoinedFall, CountBelow, CountEmpty, Ordered, OwnRing, PrioritiesInRange, Tested}
+use Rattle.lists.specs.Rules.{readyOf, queueIn, waiting, HoldsTheReady, PrioritiesFall, FirstRuns, StandsInOne, NoOther, JoinedFall, CountBelow, CountEmpty, Ordered, OwnRing, PrioritiesInRange}
 use Rattle.lists.proofs.Plain.{same-test, along-turn, along-at}
 use Rattle.lists.proofs.Members.{queue-rising, queue-once, queue-says, queue-has, queue-length}
 use Rattle.lists.proofs.Ready.{order-says, order-once, order-falls, order-has, order-first}
@@ -109,33 +110,36 @@ module _ (s : State) (sized : Sized s) (seats : seatsRight (s .line .seat) ≡ t
   on-order t h = let r = order-says q t h in omega (arith, r .2)
 
   -- the tests pass: so the rules hold
-  module _ (passed : Tested s) where
+  module _ (passed : keeps orderRules s ≡ true) where
+    kept : (rule : State → Bool) → Row rule orderRules → rule s ≡ true
+    kept rule row = row-holds orderRules s passed rule row
+
     ready-at : (t : ℕ) → t < 32
         → readyRight (getD (s .tasks .started) t false) (getD (s .tasks .suspended) t false) (priority t) (seat t) ≡ true
     unfolding readyOrderRight
     ready-at t h =
-        every-at (λ u. readyRight (getD (s .tasks .started) u false) (getD (s .tasks .suspended) u false) (priority u) (seat u)) 32 (passed .order) t h
+        every-at (λ u. readyRight (getD (s .tasks .started) u false) (getD (s .tasks .suspended) u false) (priority u) (seat u)) 32 (kept (λ x. readyOrderRight (x .line) (x .tasks)) (search rows depth 12)) t h
 
     wait-at : (t : ℕ) → t < 32 → waitRight (objectsOf s .live) (seat t) (getD (s .line .left) t 0) (getD (s .line .joined) t 0) ≡ true
     unfolding waitsRight
     wait-at t h =
-        every-at (λ u. waitRight (objectsOf s .live) (seat u) (getD (s .line .left) u 0) (getD (s .line .joined) u 0)) 32 (passed .waits) t h
+        every-at (λ u. waitRight (objectsOf s .live) (seat u) (getD (s .line .left) u 0) (getD (s .line .joined) u 0)) 32 (kept (λ x. waitsRight (x .line) (objectsOf x .live)) (search rows depth 12)) t h
 
     joined-at : (t : ℕ) → t < 32 → joinedRight q (s .line .joined) (objectsOf s .fifo) (seat t) (getD (s .line .joined) t 0) ≡ true
     unfolding queuesSorted
     joined-at t h =
-        every-at (λ u. joinedRight q (s .line .joined) (objectsOf s .fifo) (seat u) (getD (s .line .joined) u 0)) 32 (passed .sorted) t h
+        every-at (λ u. joinedRight q (s .line .joined) (objectsOf s .fifo) (seat u) (getD (s .line .joined) u 0)) 32 (kept (λ x. queuesSorted (x .line) (objectsOf x .fifo)) (search rows depth 12)) t h
 
     count-at : (i : ℕ) → i < 16 → (units i ≤ lastCount) × (0 < waitersOf (s .line) i → units i ≡ 0)
     unfolding countsRight
     count-at i h =
         right-says (waitersOf (s .line) i) (units i)
-        (every-at (λ j. countRight (waitersOf (s .line) j) (count (s .line) (s .semaphores) j)) 16 (passed .counts) i h)
+        (every-at (λ j. countRight (waitersOf (s .line) j) (count (s .line) (s .semaphores) j)) 16 (kept (λ x. countsRight (x .line) (x .semaphores)) (search rows depth 12)) i h)
 
     start-at : (t : ℕ) → t < 32 → startRight (getD (s .tasks .started) t false) (getD (s .tasks .suspended) t false) (seat t) ≡ true
     unfolding startsRight
     start-at t h =
-        every-at (λ u. startRight (getD (s .tasks .started) u false) (getD (s .tasks .suspended) u false) (seat u)) 32 (passed .starts) t h
+        every-at (λ u. startRight (getD (s .tasks .started) u false) (getD (s .tasks .suspended) u false) (seat u)) 32 (kept (λ x. startsRight (x .line) (x .tasks)) (search rows depth 12)) t h
 
     is-ready : (t : ℕ) → firstRing ≤ seat t → isReady (s .line) (s .tasks) t ≡ true
     is-ready t h =
@@ -167,7 +171,7 @@ module _ (s : State) (sized : Sized s) (seats : seatsRight (s .line .seat) ≡ t
 
     runs : FirstRuns s
     unfolding runningRight
-    runs = eqb-true _ _ (passed .running) ∙ sym (first-runs own-ring)
+    runs = eqb-true _ _ (kept (λ x. runningRight x) (search rows depth 12)) ∙ sym (first-runs own-ring)
 
     -- what the test of one who waits says
     waits : (t : ℕ) → waiting s t ≡ true
@@ -307,18 +311,19 @@ module _ (s : State) (sized : Sized s) (seats : seatsRight (s .line .seat) ≡ t
         every-yes (λ t. startRight (getD (s .tasks .started) t false) (getD (s .tasks .suspended) t false) (seat t)) 32
         (λ t l. start-right _ _ (seat t) (λ e. rules .idle t l e))
 
-    pub rules-right : Tested s
+    pub rules-right : keeps orderRules s ≡ true
     unfolding runningRight
     rules-right =
-        record {
-          order = order-right;
-          waits = waits-right;
-          sorted = sorted-right;
-          counts = counts-right;
-          starts = starts-right;
-          running = eq-eqb _ _ (rules .running ∙ first-runs own);
-        }
+        each-keeps orderRules s
+        (more seats
+        (more order-right
+        (more waits-right
+        (more sorted-right
+        (more counts-right
+        (more starts-right
+        (more (eq-eqb _ _ (rules .running ∙ first-runs own))
+        none)))))))
 
   -- the tests pass just if the rules hold
-  pub tests-are-rules : Tested s ↔ (OwnRing s × Ordered s)
+  pub tests-are-rules : (keeps orderRules s ≡ true) ↔ (OwnRing s × Ordered s)
   tests-are-rules = ((λ p. (own-ring p, tests-say p)), (λ r. rules-right (r .0) (r .1)))

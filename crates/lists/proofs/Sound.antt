@@ -9,14 +9,13 @@ use lib.ListN.{length}
 use Rattle.scope.specs.declared.State.{State}
 use Rattle.scope.specs.Lists.{has}
 use Rattle.scope.specs.Seats.{queueSeats, standing, queue}
-use Rattle.scope.specs.Objects.{objectsOf}
 use Rattle.scope.specs.Views.{isReady, waitersOf}
-use Rattle.scope.specs.Rules.{seatsRight, readyOrderRight, waitsRight, queuesSorted, countsRight, startsRight, tasksRight, semsRight, poolsRight, poolsApart, sound}
-use Rattle.laws.proofs.Branches.{both, both-true}
+use Rattle.scope.specs.Rules.{seatsRight, tasksRight, orderRules, tableRules, keeps, sound}
 use Rattle.histories.specs.Sound.{Sound, Sized}
+use Rattle.histories.proofs.Ruled.{rows, row-holds, sound-keeps, keeps-sound}
 use Rattle.histories.proofs.Meaning.{sound-right}
 use Rattle.lists.specs.Along.{Once, NeverRising, firstIn}
-use Rattle.lists.specs.Rules.{readyOf, queueIn, Ordered, OwnRing, Tested, Others}
+use Rattle.lists.specs.Rules.{readyOf, queueIn, Ordered, OwnRing, PrioritiesInRange}
 use Rattle.lists.proofs.Members.{queue-length}
 use Rattle.lists.proofs.Rules.{priorities-in-range, own-ring, tests-say, rules-right}
 
@@ -48,60 +47,20 @@ sound-sized s h =
       forced = h .pools .forceds;
     }
 
--- the parts of the test
-record Parts (s : State) : Type 0 where
-  seats : seatsRight (s .line .seat) ≡ true
-  tested : Tested s
-  others : Others s
-
-sound-parts : (s : State) → sound s ≡ true → Parts s
-unfolding sound
-sound-parts s e =
-    let a = both-true (seatsRight (s .line .seat)) _ e in
-    let b = both-true (readyOrderRight (s .line) (s .tasks)) _ (a .1) in
-    let c = both-true (waitsRight (s .line) (objectsOf s .live)) _ (b .1) in
-    let d = both-true (queuesSorted (s .line) (objectsOf s .fifo)) _ (c .1) in
-    let f = both-true (countsRight (s .line) (s .semaphores)) _ (d .1) in
-    let g = both-true (startsRight (s .line) (s .tasks)) _ (f .1) in
-    let h = both-true (tasksRight (s .tasks)) _ (g .1) in
-    let i = both-true (semsRight (s .semaphores)) _ (h .1) in
-    let j = both-true (poolsRight (s .pools)) _ (i .1) in
-    let k = both-true (poolsApart (s .pools)) _ (j .1) in
-    record {
-      seats = a .0;
-      tested = record { order = b .0; waits = c .0; sorted = d .0; counts = f .0; starts = g .0; running = k .1 };
-      others = record { tasks = h .0; semaphores = i .0; pools = j .0; apart = k .0 };
-    }
-
-parts-sound : (s : State) → Parts s → sound s ≡ true
-unfolding sound
-parts-sound s h =
-    both _ _ (h .seats)
-    (both _ _ (h .tested .order)
-    (both _ _ (h .tested .waits)
-    (both _ _ (h .tested .sorted)
-    (both _ _ (h .tested .counts)
-    (both _ _ (h .tested .starts)
-    (both _ _ (h .others .tasks)
-    (both _ _ (h .others .semaphores)
-    (both _ _ (h .others .pools)
-    (both _ _ (h .others .apart) (h .tested .running))))))))))
-
 -- the test `sound` passes just if the seats say queues, each ready task's in the ring of its priority, and the rules hold: those of
 -- orders and queues over the paper's lists, and the others as they are
 module _ (s : State) (sized : Sized s) where
-  pub sound-lists : sound s ≡ true → (seatsRight (s .line .seat) ≡ true) × OwnRing s × Ordered s × Others s
-  sound-lists e =
-      let p = sound-parts s e in (
-        p .seats,
-        own-ring s sized (p .seats) (priorities-in-range s (p .others .tasks)) (p .tested),
-        tests-say s sized (p .seats) (priorities-in-range s (p .others .tasks)) (p .tested),
-        p .others,
-      )
+  in-range : keeps tableRules s ≡ true → PrioritiesInRange s
+  in-range e = priorities-in-range s (row-holds tableRules s e (λ x. tasksRight (x .tasks)) (search rows depth 12))
 
-  pub lists-sound : (seatsRight (s .line .seat) ≡ true) × OwnRing s × Ordered s × Others s → sound s ≡ true
-  lists-sound h =
-      parts-sound s (record { seats = h .0; tested = rules-right s sized (h .0) (priorities-in-range s (h .3 .tasks)) (h .1) (h .2); others = h .3 })
+  pub sound-lists : sound s ≡ true → (seatsRight (s .line .seat) ≡ true) × OwnRing s × Ordered s × (keeps tableRules s ≡ true)
+  sound-lists e =
+      let k = sound-keeps s e in
+      let seats : seatsRight (s .line .seat) ≡ true = row-holds orderRules s (k .0) (λ x. seatsRight (x .line .seat)) (search rows depth 12) in
+      (seats, own-ring s sized seats (in-range (k .1)) (k .0), tests-say s sized seats (in-range (k .1)) (k .0), k .1)
+
+  pub lists-sound : (seatsRight (s .line .seat) ≡ true) × OwnRing s × Ordered s × (keeps tableRules s ≡ true) → sound s ≡ true
+  lists-sound h = keeps-sound s (rules-right s sized (h .0) (in-range (h .3)) (h .1) (h .2)) (h .3)
 
 -- on a sound state
 module _ (s : State) (h : Sound s) where

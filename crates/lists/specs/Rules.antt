@@ -13,7 +13,6 @@ use Rattle.scope.specs.Views.{isReady, count}
 use Rattle.scope.specs.Tasks.{lastPriority}
 use Rattle.scope.specs.Waiting.{isTimeOut}
 use Rattle.scope.specs.Semaphores.{lastCount}
-use Rattle.scope.specs.Rules.{readyOrderRight, waitsRight, queuesSorted, countsRight, startsRight, tasksRight, semsRight, poolsRight, poolsApart, runningRight}
 use Rattle.seats.specs.Rule.{In}
 use Rattle.lists.specs.Along.{Once, NeverRising, firstIn}
 
@@ -106,19 +105,3 @@ OwnRing s = (t : ℕ) → firstRing ≤ getD (s .line .seat) t 0 → In (s .line
 -- "Serials, priorities and options are in range.": of priorities
 abbrev pub PrioritiesInRange : State → Type 0
 PrioritiesInRange s = (t : ℕ) → t < 32 → getD (s .tasks .priority) t 0 ≤ lastPriority
-
--- the tests that run
-pub record Tested (s : State) : Type 0 where
-  pub order : readyOrderRight (s .line) (s .tasks) ≡ true
-  pub waits : waitsRight (s .line) (objectsOf s .live) ≡ true
-  pub sorted : queuesSorted (s .line) (objectsOf s .fifo) ≡ true
-  pub counts : countsRight (s .line) (s .semaphores) ≡ true
-  pub starts : startsRight (s .line) (s .tasks) ≡ true
-  pub running : runningRight s ≡ true
-
--- and those of the other rules: tables, pools
-pub record Others (s : State) : Type 0 where
-  pub tasks : tasksRight (s .tasks) ≡ true
-  pub semaphores : semsRight (s .semaphores) ≡ true
-  pub pools : poolsRight (s .pools) ≡ true
-  pub apart : poolsApart (s .pools) ≡ true

@@ -420,9 +420,9 @@ pub fn is_sound(s: State) -> bool
         & queues_sorted(l, fifo)
         & counts_right(l, m)
         & starts_right(l, k)
+        & running_right(s)
         & tasks_right(k)
         & sems_right(m)
         & pools_right(p)
         & areas::pools_apart(p)
-        & running_right(s)
 }

@@ -1,8 +1,8 @@
--- "Rules of a state", each a definition of its own, and their conjunction.
+-- "Rules of a state", each a definition of its own; the list of them, a rule a row; and the test that none is broken.
 -- Assumes nothing.
 use Prim.Native.Nat.{ℕ, _+_, _-_, _%_, _^_}
 use mathlib.Core.Bool.{Bool, true, false, not, _&&_}
-use mathlib.Core.List.{List}
+use mathlib.Core.List.{List, [], _∷_}
 use lib.ListN.{getD}
 use lib.Dec.{ltb, leb, eqb}
 use Rattle.scope.specs.declared.State.{State}
@@ -129,10 +129,32 @@ poolsApart p = every (λ i. every (λ j. pick (ltb i j) (not (pairShares p i j))
 unfoldable pub runningRight : State → Bool
 runningRight s = eqb (s .running) (runnerOf (s .line .seat))
 
+-- The rules, a row each: those of orders and queues,
+abbrev pub orderRules : List (State → Bool)
+orderRules =
+    (λ s. seatsRight (s .line .seat))
+    ∷ (λ s. readyOrderRight (s .line) (s .tasks))
+    ∷ (λ s. waitsRight (s .line) (objectsOf s .live))
+    ∷ (λ s. queuesSorted (s .line) (objectsOf s .fifo))
+    ∷ (λ s. countsRight (s .line) (s .semaphores))
+    ∷ (λ s. startsRight (s .line) (s .tasks))
+    ∷ (λ s. runningRight s)
+    ∷ []
+
+-- and those of the tables
+abbrev pub tableRules : List (State → Bool)
+tableRules =
+    (λ s. tasksRight (s .tasks))
+    ∷ (λ s. semsRight (s .semaphores))
+    ∷ (λ s. poolsRight (s .pools))
+    ∷ (λ s. poolsApart (s .pools))
+    ∷ []
+
+-- the state keeps each rule of a list
+unfoldable pub keeps : List (State → Bool) → State → Bool
+keeps [] s = true
+keeps (rule ∷ rules) s = rule s && keeps rules s
+
 -- no rule is broken
 unfoldable pub sound : State → Bool
-sound s =
-    seatsRight (s .line .seat) && (readyOrderRight (s .line) (s .tasks) && (waitsRight (s .line) (objectsOf s .live)
-    && (queuesSorted (s .line) (objectsOf s .fifo) && (countsRight (s .line) (s .semaphores)
-    && (startsRight (s .line) (s .tasks) && (tasksRight (s .tasks) && (semsRight (s .semaphores)
-    && (poolsRight (s .pools) && (poolsApart (s .pools) && runningRight s)))))))))
+sound s = keeps orderRules s && keeps tableRules s

@@ -1,9 +1,9 @@
 -- `rules::is_sound`: each rule is asked by its function.
 -- Assumes nothing.
-use mathlib.Core.Bool.{and-assoc}
+use mathlib.Core.Bool.{and-assoc, and-true}
 use borrow.Author.Needs.{needs}
 use Rattle.scope.specs.Objects.{objects}
-use Rattle.scope.specs.Rules.{sound}
+use Rattle.scope.specs.Rules.{keeps, sound}
 use Rattle.rules.proofs.is_sound.Statement.{statement}
 use Rattle.rules.proofs.is_sound.Tie as tie
 
@@ -25,6 +25,9 @@ counts-right-requires c κs = search needs
 starts-right-requires : tie.Need-starts-right-requires
 starts-right-requires c κs = search needs
 
+running-right-requires : tie.Need-running-right-requires
+running-right-requires c κs = search needs
+
 tasks-right-requires : tie.Need-tasks-right-requires
 tasks-right-requires c κs = search needs
 
@@ -37,25 +40,21 @@ pools-right-requires c κs = search needs
 pools-apart-requires : tie.Need-pools-apart-requires
 pools-apart-requires c κs = search needs
 
-running-right-requires : tie.Need-running-right-requires
-running-right-requires c κs = search needs
-
 returns : tie.Need-returns
-unfolding sound objects
+unfolding sound keeps objects
 returns c =
-    let d = c .before .before .before .before .before in
-    simp and-assoc (rw (
-      d .before .before .before .before .before .seats-right .ensures,
-      d .before .before .before .before .ready-order-right .ensures,
-      d .before .before .before .waits-right .ensures,
-      d .before .before .queues-sorted .ensures,
-      d .before .counts-right .ensures,
-      d .starts-right .ensures,
-      c .before .before .before .before .tasks-right .ensures,
-      c .before .before .before .sems-right .ensures,
-      c .before .before .pools-right .ensures,
-      c .before .pools-apart .ensures,
-      c .running-right .ensures,
+    simp (and-assoc, and-true) (rw (
+      c .before .before .before .before .before .before .before .before .before .before .seats-right .ensures,
+      c .before .before .before .before .before .before .before .before .before .ready-order-right .ensures,
+      c .before .before .before .before .before .before .before .before .waits-right .ensures,
+      c .before .before .before .before .before .before .before .queues-sorted .ensures,
+      c .before .before .before .before .before .before .counts-right .ensures,
+      c .before .before .before .before .before .starts-right .ensures,
+      c .before .before .before .before .running-right .ensures,
+      c .before .before .before .tasks-right .ensures,
+      c .before .before .sems-right .ensures,
+      c .before .pools-right .ensures,
+      c .pools-apart .ensures,
     ))
 
 pub is-sound-spec : {M : Type 1} → statement M
@@ -68,9 +67,9 @@ is-sound-spec =
     queues-sorted-requires
     counts-right-requires
     starts-right-requires
+    running-right-requires
     tasks-right-requires
     sems-right-requires
     pools-right-requires
     pools-apart-requires
-    running-right-requires
     returns)
