@@ -68,7 +68,7 @@ module _ (s : State) (ok : Sound s) (past : List Turn) (agrees : Agrees (s .pool
 
   -- the slot that an identifier names
   slot : (id i : ℕ) → NamedAt p id i → i < 8
-  slot id i e = omega (arith, found-names (p .serial) (p .live) id e .below, ok .pools .serials)
+  slot id i e = omega (arith, found-names (p .serial) (p .live) id e .below, ok .pools .sized .serials)
 
   -- slot i, where none lived, holds a new pool
   module _ (at : x .call ≡ 14) (i : ℕ) (room : i < 8) (free : getD (p .live) i false ≡ false) where
@@ -82,7 +82,7 @@ module _ (s : State) (ok : Sound s) (past : List Turn) (agrees : Agrees (s .pool
     creation = turnOf x (gives (withPools s born) new)
 
     new-named : NamedAt born new i
-    new-named = born-found (p .serial) (p .live) i (omega (arith, ok .pools .serials)) (omega (arith, ok .pools .lives)) (omega arith)
+    new-named = born-found (p .serial) (p .live) i (omega (arith, ok .pools .sized .serials)) (omega (arith, ok .pools .sized .lives)) (omega arith)
 
     -- another slot's
     elsewhere : (id j : ℕ) → NamedAt p id j → j ≡ i → ⊥
@@ -98,13 +98,13 @@ module _ (s : State) (ok : Sound s) (past : List Turn) (agrees : Agrees (s .pool
         let m = makes 14 id creation (is-answer 14 x a at refl) e in
         record {
           lives = picked-yes _ _ _ m;
-          address = picked-yes _ _ _ m ∙ sym (getD-set-same (p .address) i (x .b) 0 (omega (arith, ok .pools .addresses)));
-          long = picked-yes _ _ _ m ∙ sym (getD-set-same (p .length) i (x .c) 0 (omega (arith, ok .pools .lengths)));
-          size = picked-yes _ _ _ m ∙ sym (getD-set-same (p .size) i (x .d) 0 (omega (arith, ok .pools .sizes)));
-          forced = picked-yes _ _ _ m ∙ sym (getD-set-same (p .forced) i (eqb (x .e) 1) false (omega (arith, ok .pools .forceds)));
+          address = picked-yes _ _ _ m ∙ sym (getD-set-same (p .address) i (x .b) 0 (omega (arith, ok .pools .sized .addresses)));
+          long = picked-yes _ _ _ m ∙ sym (getD-set-same (p .length) i (x .c) 0 (omega (arith, ok .pools .sized .lengths)));
+          size = picked-yes _ _ _ m ∙ sym (getD-set-same (p .size) i (x .d) 0 (omega (arith, ok .pools .sized .sizes)));
+          forced = picked-yes _ _ _ m ∙ sym (getD-set-same (p .forced) i (eqb (x .e) 1) false (omega (arith, ok .pools .sized .forceds)));
           listed =
               listed-at _ _ _ _ _ _ _ _ _ [] refl refl refl
-              (getD-set-same (p .out) i 0 0 (omega (arith, ok .pools .outs)))
+              (getD-set-same (p .out) i 0 0 (omega (arith, ok .pools .sized .outs)))
               (picked-no _ _ _ (not-answer 15 id creation (not-call 15 x a (λ d. omega arith)))
               ∙ picked-no _ _ _ (not-answer 17 id creation (not-call 17 x a (λ d. omega arith)))
               ∙ picked-no _ _ _ (not-answer 18 id creation (not-call 18 x a (λ d. omega arith)))
@@ -144,7 +144,7 @@ module _ (s : State) (ok : Sound s) (past : List Turn) (agrees : Agrees (s .pool
               (λ d. old-holds id j d)
               (λ d. let k : i ≡ j = omega (arith, found-slot (born .serial) (born .live) id e) in
               subst (λ (n : ℕ). Holds born (creation ∷ past) id n) k (new-holds id d))
-              (came-born (p .serial) (p .live) i (omega (arith, ok .pools .serials)) id j e);
+              (came-born (p .serial) (p .live) i (omega (arith, ok .pools .sized .serials)) id j e);
           dead = λ id d.
               nothing-same p born past creation id (quiet-new id (λ e. d i (subst (λ (y : ℕ). NamedAt born y i) e new-named)))
               (agrees .dead id (λ j e. d j (old-named id j e)));
@@ -180,13 +180,13 @@ module _ (s : State) (ok : Sound s) (past : List Turn) (agrees : Agrees (s .pool
 
       was-named : (id j : ℕ) → NamedAt gone id j → NamedAt p id j
       was-named id j e =
-          came-kept (p .serial) (p .live) (later-gone (p .serial) (p .live) i (omega (arith, slot (x .a) i names, ok .pools .lives))) id j e
+          came-kept (p .serial) (p .live) (later-gone (p .serial) (p .live) i (omega (arith, slot (x .a) i names, ok .pools .sized .lives))) id j e
 
       not-own : (id j : ℕ) → NamedAt gone id j → x .a ≡ id → ⊥
       not-own id j e d =
           true-false
           (ap (λ (k : ℕ). getD (gone .live) k false) (own-slot id j (was-named id j e) d) ∙ found-live (gone .serial) (gone .live) id e)
-          (getD-set-same (p .live) i false false (omega (arith, slot (x .a) i names, ok .pools .lives)))
+          (getD-set-same (p .live) i false false (omega (arith, slot (x .a) i names, ok .pools .sized .lives)))
 
       gone-agrees : Agrees gone (deletion ∷ past)
       gone-agrees =
@@ -236,7 +236,7 @@ module _ (s : State) (ok : Sound s) (past : List Turn) (agrees : Agrees (s .pool
             forced = forced-same (x .a) t past made ∙ h .forced;
             listed =
                 listed-at _ _ _ _ _ _ _ _ _ _ refl refl refl
-                (getD-set-same (p .out) i marks 0 (omega (arith, slot (x .a) i names, ok .pools .outs)))
+                (getD-set-same (p .out) i marks 0 (omega (arith, slot (x .a) i names, ok .pools .sized .outs)))
                 refl listed;
           }
 
@@ -343,7 +343,7 @@ module _ (s : State) (ok : Sound s) (past : List Turn) (agrees : Agrees (s .pool
         returned-agrees at at-address (f .0) (b .1) (f .1))
 
   lowest-free : lowestUsable (p .serial) (p .live) < 8 → getD (p .live) (lowestUsable (p .serial) (p .live)) false ≡ false
-  lowest-free h = usable-free (p .serial) (p .live) _ (usable-at (p .serial) (p .live) (omega (arith, h, ok .pools .serials)))
+  lowest-free h = usable-free (p .serial) (p .live) _ (usable-at (p .serial) (p .live) (omega (arith, h, ok .pools .sized .serials)))
 
   born-fair : (at : x .call ≡ 14) (i : ℕ) (room : i < 8) → getD (p .live) i false ≡ false
       → Fair (gives (withPools s (poolBorn p i (x .a) (x .b) (x .c) (x .d) (eqb (x .e) 1))) (identifier (getD (p .serial) i 0 + 1) i))

@@ -92,7 +92,7 @@ module _ (s : State) (ok : Sound s) (past : List Turn) (agrees : Agrees (s .pool
     row : (isArea (getD (p .address) i 0) (getD (p .length) i 0) ≡ true) × (isSize (getD (p .length) i 0) (getD (p .size) i 0) ≡ true)
         × (getD (p .out) i 0 < 2 ^ poolBuffers p i)
     row =
-        row-says p (ok .pools) i (omega (arith, found-below (p .serial) (p .live) id names, ok .pools .serials))
+        row-says p (ok .pools) i (omega (arith, found-below (p .serial) (p .live) id names, ok .pools .sized .serials))
         (found-live (p .serial) (p .live) id names)
 
     buffers-told : poolBuffers p i ≡ buffersIn past id

@@ -61,7 +61,7 @@ module _ (p : ℕ) (h : p ≤ 15) (xs : List Event) where
   slot-told : (id i : ℕ) → SemaphoreAt now id i → SemInfoTold past id (replyOf (semInfoAt now i))
   unfolding semInfoAt answer
   slot-told id i names =
-      let hi : i < 16 = omega (arith, found-below (now .semaphores .serial) (now .semaphores .live) id names, end-sound p h xs .semaphores .serials) in
+      let hi : i < 16 = omega (arith, found-below (now .semaphores .serial) (now .semaphores .live) id names, end-sound p h xs .semaphores .sized .serials) in
       let all : SeatsTold p now past = seats-told p h xs in
       let e : id ≡ semId now i = found-identifier (now .semaphores .serial) (now .semaphores .live) id names in
       let number : length (waiting past id) ≡ waitersOf (now .line) i = ap (λ (v : ℕ). length (waiting past v)) e ∙ all .number i hi in

@@ -51,9 +51,9 @@ slot-named : (q : Pools) → PoolsSound q → (i : ℕ) → getD (q .live) i fal
 unfolding poolRight
 slot-named q sound i alive =
     let room : i < 8 =
-    ⊎-elim (λ l. l) (λ l. absurd (true-false alive (List·getD-eq-default (q .live) false (omega (arith, sound .lives))))) (lt-or-le i 8) in
+    ⊎-elim (λ l. l) (λ l. absurd (true-false alive (List·getD-eq-default (q .live) false (omega (arith, sound .sized .lives))))) (lt-or-le i 8) in
     let r = sym (picked-yes (getD (q .live) i false) _ _ alive) ∙ sound .each i room in
-    identifier-found (q .serial) (q .live) i (omega (arith, sound .serials)) (omega arith) alive
+    identifier-found (q .serial) (q .live) i (omega (arith, sound .sized .serials)) (omega arith) alive
     (leb-true 1 (getD (q .serial) i 0) (both-true (leb 1 (getD (q .serial) i 0)) _ r .0))
 
 -- What is told of the pools of a state: an identifier that lives by the past names a pool of it, whose columns and marks are told;

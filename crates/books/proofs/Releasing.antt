@@ -108,7 +108,7 @@ module _ (p : ℕ) (h : p ≤ 15) (xs : List Event) (x : Event) (at : x .call �
       (history-grants p xs x i at)
 
   slot-room : (i : ℕ) → SemaphoreAt now (x .a) i → i < 16
-  slot-room i names = omega (arith, found-below (now .semaphores .serial) (now .semaphores .live) (x .a) names, end-sound p h xs .semaphores .serials)
+  slot-room i names = omega (arith, found-below (now .semaphores .serial) (now .semaphores .live) (x .a) names, end-sound p h xs .semaphores .sized .serials)
 
   grant-told : (i : ℕ) → (names : SemaphoreAt now (x .a) i) → Grant now (arrivals (freshState p) xs) i (answerTo now x)
       → GrantTold p past (x .a) (replyOf (answerTo now x) .wakes)

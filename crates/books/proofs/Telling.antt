@@ -119,8 +119,8 @@ module _ (s : State) (ok : Sound s) (x : Event) where
   task-create-at at t room free =
       create-steps s x _ refl refl at refl t room
       (getD (k .serial) t 0 + 1) refl
-      (getD-set-same (k .serial) t (getD (k .serial) t 0 + 1) 0 (omega (arith, ok .tasks .serials)))
-      (getD-set-same (k .priority) t (x .b) 0 (omega (arith, ok .tasks .priorities)))
+      (getD-set-same (k .serial) t (getD (k .serial) t 0 + 1) 0 (omega (arith, ok .tasks .sized .serials)))
+      (getD-set-same (k .priority) t (x .b) 0 (omega (arith, ok .tasks .sized .priorities)))
       (λ u ne. (
         ap (λ (v : ℕ). identifier v u) (getD-set-other (k .serial) t u (getD (k .serial) t 0 + 1) 0 ne),
         getD-set-other (k .live) t u true false ne,
@@ -135,7 +135,7 @@ module _ (s : State) (ok : Sound s) (x : Event) where
   unfolding answer
   change-steps (task-created at e f) =
       let h = leb-false (length (k .serial)) (newTask s) f in
-      task-create-at at (newTask s) (omega (arith, h, ok .tasks .serials)) (usable-free (k .serial) (k .live) _ (usable-at (k .serial) (k .live) h))
+      task-create-at at (newTask s) (omega (arith, h, ok .tasks .sized .serials)) (usable-free (k .serial) (k .live) _ (usable-at (k .serial) (k .live) h))
   change-steps (waiter-suspended at t e f g h) =
       call-steps s x _ refl refl 5 at refl refl refl refl refl
       (record { serial = refl; live = refl; priority = refl }) (record { serial = refl; live = refl; fifo = refl }) (line-moves s x _ refl refl)
@@ -144,7 +144,7 @@ module _ (s : State) (ok : Sound s) (x : Event) where
       (record { serial = refl; live = refl; priority = refl }) (record { serial = refl; live = refl; fifo = refl }) (line-moves s x _ refl refl)
   change-steps (priority-noted at t e f g) =
       let room : t < 32 = task-room s ok (x .a) t e in
-      set-steps s x _ refl refl at refl t room e (getD-set-same (k .priority) t (x .b) 0 (omega (arith, ok .tasks .priorities))) refl refl
+      set-steps s x _ refl refl at refl t room e (getD-set-same (k .priority) t (x .b) 0 (omega (arith, ok .tasks .sized .priorities))) refl refl
       (λ u ne. getD-set-other (k .priority) t u (x .b) 0 ne)
       (record { serial = refl; live = refl; fifo = refl }) (line-moves s x _ refl refl)
 
@@ -169,7 +169,7 @@ module _ (s : State) (ok : Sound s) (x : Event) where
       delete-steps s x _ refl refl ok at refl refl t room e refl
       (λ u alive. ⊎-elim
       (λ d. absurd (true-false alive (ap (λ (v : ℕ). getD (set (k .live) t false) v false) d
-      ∙ getD-set-same (k .live) t false false (omega (arith, ok .tasks .lives)))))
+      ∙ getD-set-same (k .live) t false false (omega (arith, ok .tasks .sized .lives)))))
       (λ ne. (sym (getD-set-other (k .live) t u false false ne) ∙ alive, getD-set-other (k .priority) t u 0 0 ne))
       (eq-or-not u t))
       (left-fewer l whole t 0 0 (leaves (l .seat) t) (stays-same (leaves (l .seat) t)))
@@ -192,7 +192,7 @@ module _ (s : State) (ok : Sound s) (x : Event) where
       (readied-moves _ t (getD (k .priority) t 0) room (off-nowhere l k (objectsOf s) (ok .line) t room h (not-false (getD (k .suspended) t false) g) .seat) refl refl)
   move-steps (priority-set at t e f g) =
       let room : t < 32 = task-room s ok (x .a) t e in
-      set-steps s x _ refl refl at refl t room e (getD-set-same (k .priority) t (x .b) 0 (omega (arith, ok .tasks .priorities))) refl refl
+      set-steps s x _ refl refl at refl t room e (getD-set-same (k .priority) t (x .b) 0 (omega (arith, ok .tasks .sized .priorities))) refl refl
       (λ u ne. getD-set-other (k .priority) t u (x .b) 0 ne)
       (record { serial = refl; live = refl; fifo = refl })
       (moves-none s _
@@ -210,8 +210,8 @@ module _ (s : State) (ok : Sound s) (x : Event) where
   sem-create-at at i room free =
       born-steps s x _ refl refl at refl i room
       (getD (m .serial) i 0 + 1) refl
-      (getD-set-same (m .serial) i (getD (m .serial) i 0 + 1) 0 (omega (arith, ok .semaphores .serials)))
-      (getD-set-same (m .fifo) i (eqb (x .c) 1) false (omega (arith, ok .semaphores .fifos)))
+      (getD-set-same (m .serial) i (getD (m .serial) i 0 + 1) 0 (omega (arith, ok .semaphores .sized .serials)))
+      (getD-set-same (m .fifo) i (eqb (x .c) 1) false (omega (arith, ok .semaphores .sized .fifos)))
       (λ j ne. (
         ap (λ (v : ℕ). identifier v j) (getD-set-other (m .serial) i j (getD (m .serial) i 0 + 1) 0 ne),
         getD-set-other (m .live) i j true false ne,
@@ -225,7 +225,7 @@ module _ (s : State) (ok : Sound s) (x : Event) where
   unfolding semDeleteAt wakesWith
   sem-delete-steps at i e =
       let hi : i < 16 = slot-room s ok (x .a) i e in
-      let dead : getD (set (m .live) i false) i false ≡ false = getD-set-same (m .live) i false false (omega (arith, ok .semaphores .lives)) in
+      let dead : getD (set (m .live) i false) i false ≡ false = getD-set-same (m .live) i false false (omega (arith, ok .semaphores .sized .lives)) in
       gone-steps s x (semDeleteAt s i) refl refl at i hi (found-identifier (m .serial) (m .live) (x .a) e) refl
       (λ j alive. ⊎-elim
       (λ d. absurd (true-false alive (ap (λ (v : ℕ). getD (set (m .live) i false) v false) d ∙ dead)))
@@ -307,7 +307,7 @@ module _ (s : State) (ok : Sound s) (x : Event) where
   unfolding plain
   sem-steps (sem-created at e f g) =
       let h = leb-false (length (m .serial)) (newSemaphore s) g in
-      sem-create-at at (newSemaphore s) (omega (arith, h, ok .semaphores .serials)) (usable-free (m .serial) (m .live) _ (usable-at (m .serial) (m .live) h))
+      sem-create-at at (newSemaphore s) (omega (arith, h, ok .semaphores .sized .serials)) (usable-free (m .serial) (m .live) _ (usable-at (m .serial) (m .live) h))
   sem-steps (unit-claimed at i e f) = units-steps 11 at i _ refl refl refl refl refl
   sem-steps (unit-released at i e f g) = units-steps 12 at i _ refl refl refl refl refl
 

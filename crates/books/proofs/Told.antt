@@ -104,7 +104,7 @@ module _ (p : ℕ) (s : State) (ok : Sound s) (past : List Turn) (told : Arrival
 
   live-names : (i : ℕ) → i < 16 → getD (s .semaphores .live) i false ≡ true → SemaphoreAt s (semId s i) i
   live-names i h live =
-      identifier-found (s .semaphores .serial) (s .semaphores .live) i (omega (arith, ok .semaphores .serials)) (omega arith) live
+      identifier-found (s .semaphores .serial) (s .semaphores .live) i (omega (arith, ok .semaphores .sized .serials)) (omega arith) live
       (ok .semaphores .each i h .alive live)
 
   stands-at : (id y : ℕ) → has (waiting past id) y ≡ true → StandsAt s id y

@@ -87,7 +87,7 @@ module _ (p : ℕ) (s : State) (ok : Sound s) (past : List Turn) (told : Arrival
   released-one at done r =
       ⊎-elim
       (λ z. ap (grantedTo past id) (nobody (a .woken) z (a .wakes) (a .why)) ∙ nothing z)
-      (λ z. let hi : r .slot < 16 = omega (arith, found-below (s .semaphores .serial) (s .semaphores .live) (x .a) (r .names), ok .semaphores .serials) in
+      (λ z. let hi : r .slot < 16 = omega (arith, found-below (s .semaphores .serial) (s .semaphores .live) (x .a) (r .names), ok .semaphores .sized .serials) in
       let c : claimed past (taskId s (z .0)) ≡ x .a =
       ag .waiters .claim (r .slot) hi (z .0) (z .1) ∙ sym (found-identifier (s .semaphores .serial) (s .semaphores .live) (x .a) (r .names)) in
       ap (grantedTo past id) (wakes-one (a .woken) (a .wakes) (a .why) (taskId s (z .0)) (z .2) (r .why) (z .3))
@@ -183,7 +183,7 @@ module _ (s : State) (ok : Sound s) where
       (λ e. by-choice Unissued _ (λ f. not-given _ refl)
       (λ f. by-choice Unissued _ (λ g. not-given _ refl)
       (λ g d. new-later (lowestUsable (s .semaphores .serial) (s .semaphores .live))
-      (omega (arith, leb-false (length (s .semaphores .serial)) (lowestUsable (s .semaphores .serial) (s .semaphores .live)) g, ok .semaphores .serials)))))
+      (omega (arith, leb-false (length (s .semaphores .serial)) (lowestUsable (s .semaphores .serial) (s .semaphores .live)) g, ok .semaphores .sized .serials)))))
 
   issued-once : (x : Event) (id : ℕ) → id / 64 ≤ getD (s .semaphores .serial) (id % 64) 0 → creates 8 id (turnOf x (answerTo s x)) ≡ false
   unfolding creates isAnswer badState

@@ -75,7 +75,7 @@ timed-out-count k m w i t ok hi h at due = waiters.timed-out-gives-back k m w i 
 
 module _ (s : State) (ok : Sound s) (i : ℕ) (hi : i < 16) where
   fits : i < length (s .semaphores .units)
-  fits = omega (arith, ok .semaphores .unitss)
+  fits = omega (arith, ok .semaphores .sized .unitss)
 
   -- "deleted"
   pub deleted-count : (t : ℕ) → t < 32 → In (s .line .seat) (queueSeats i) t → countIn (taskDeleteAt s t .state) i ≡ plusOne (countIn s i)

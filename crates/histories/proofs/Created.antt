@@ -47,8 +47,8 @@ module _ (s : State) (ok : Sound s) where
     unfolding gives answer
     done name fifo i h d = (
       i,
-      born-found (s .semaphores .serial) (s .semaphores .live) i h (omega (arith, h, ok .semaphores .serials, ok .semaphores .lives)) (omega (arith, h, ok .semaphores .serials)),
-      getD-set-same (s .semaphores .units) i count 0 (omega (arith, h, ok .semaphores .serials, ok .semaphores .unitss)),
+      born-found (s .semaphores .serial) (s .semaphores .live) i h (omega (arith, h, ok .semaphores .sized .serials, ok .semaphores .sized .lives)) (omega (arith, h, ok .semaphores .sized .serials)),
+      getD-set-same (s .semaphores .units) i count 0 (omega (arith, h, ok .semaphores .sized .serials, ok .semaphores .sized .unitss)),
     )
 
     create-at : (name options i : ℕ) → NewSemaphore (semCreateAt s name count options i)
@@ -86,7 +86,7 @@ module _ (s : State) (ok : Sound s) where
     unfolding buffersOut
     nothing-out forced i h =
         let p : Pools = poolBorn (s .pools) i name address n size forced in
-        ap (λ (out : ℕ). number (isOut out) (poolBuffers p i)) (getD-set-same (s .pools .out) i 0 0 (omega (arith, ok .pools .outs)))
+        ap (λ (out : ℕ). number (isOut out) (poolBuffers p i)) (getD-set-same (s .pools .out) i 0 0 (omega (arith, ok .pools .sized .outs)))
         ∙ none-out (poolBuffers p i)
 
     pool-done : (forced : Bool) (i : ℕ) → i < 8
@@ -94,7 +94,7 @@ module _ (s : State) (ok : Sound s) where
     unfolding gives answer
     pool-done forced i h d = (
       i,
-      born-found (s .pools .serial) (s .pools .live) i (omega (arith, ok .pools .serials)) (omega (arith, ok .pools .lives)) (omega arith),
+      born-found (s .pools .serial) (s .pools .live) i (omega (arith, ok .pools .sized .serials)) (omega (arith, ok .pools .sized .lives)) (omega arith),
       nothing-out forced i h,
     )
 

@@ -27,28 +27,19 @@ fresh-sized : (p : ℕ) → Sized (freshState p)
 unfolding freshState
 fresh-sized p =
     record {
-      left = refl;
-      seat = refl;
-      joined = refl;
-      tname = refl;
-      tserial = refl;
-      tlive = refl;
-      started = refl;
-      suspended = refl;
-      priority = refl;
-      sname = refl;
-      sserial = refl;
-      units = refl;
-      slive = refl;
-      fifo = refl;
-      out = refl;
-      pname = refl;
-      address = refl;
-      length = refl;
-      size = refl;
-      pserial = refl;
-      plive = refl;
-      forced = refl;
+      line = record { lefts = refl; seats = refl; joineds = refl };
+      tasks = record { names = refl; serials = refl; lives = refl; starteds = refl; suspendeds = refl; priorities = refl };
+      semaphores = record { names = refl; serials = refl; unitss = refl; lives = refl; fifos = refl };
+      pools = record {
+        outs = refl;
+        names = refl;
+        addresses = refl;
+        lengths = refl;
+        sizes = refl;
+        serials = refl;
+        lives = refl;
+        forceds = refl;
+      };
     }
 
 pub fresh-sound : (p : ℕ) → p ≤ 15 → Sound (freshState p)

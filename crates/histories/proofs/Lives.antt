@@ -43,7 +43,7 @@ module _ (s : State) where
     changed (priority-noted at t e f g) = same
 
     moved : {k : Tasks} {l : Line} {v : ℕ} → TaskMove s x k l v → OnFrom k
-    moved (task-deleted at t e) = later-gone (s .tasks .serial) (s .tasks .live) t (omega (arith, named-task s ok (x .a) t e .0, ok .tasks .lives))
+    moved (task-deleted at t e) = later-gone (s .tasks .serial) (s .tasks .live) t (omega (arith, named-task s ok (x .a) t e .0, ok .tasks .sized .lives))
     moved (task-started at t e f) = same
     moved (task-suspended at t e f g h) = same
     moved (task-resumed at t e f g h) = same

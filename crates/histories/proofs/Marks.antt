@@ -112,14 +112,14 @@ module _ (s : State) (ok : Sound s) (x : Event) where
 
   lowest-free : lowestUsable (s .pools .serial) (s .pools .live) < 8
       → getD (s .pools .live) (lowestUsable (s .pools .serial) (s .pools .live)) false ≡ false
-  lowest-free h = usable-free (s .pools .serial) (s .pools .live) _ (usable-at (s .pools .serial) (s .pools .live) (omega (arith, h, ok .pools .serials)))
+  lowest-free h = usable-free (s .pools .serial) (s .pools .live) _ (usable-at (s .pools .serial) (s .pools .live) (omega (arith, h, ok .pools .sized .serials)))
 
   module _ (at : x .call ≡ 14) (name address n size : ℕ) where
     born : (forced : Bool) (i : ℕ) → i < 8 → getD (s .pools .live) i false ≡ false
         → Fair (gives (withPools s (poolBorn (s .pools) i name address n size forced)) (identifier (getD (s .pools .serial) i 0 + 1) i))
     unfolding gives answer
     born forced i room free =
-        let h : i < length (s .pools .serial) = omega (arith, room, ok .pools .serials) in
+        let h : i < length (s .pools .serial) = omega (arith, room, ok .pools .sized .serials) in
         booked-none (later-born (s .pools .serial) (s .pools .live) i h)
         (no-books (λ e. omega arith) (λ e. omega arith)
         (gives (withPools s (poolBorn (s .pools) i name address n size forced)) (identifier (getD (s .pools .serial) i 0 + 1) i)))
@@ -147,13 +147,13 @@ module _ (s : State) (ok : Sound s) (x : Event) where
 
   -- the slot that an identifier names
   slot : (id i : ℕ) → poolFound s id ≡ At i → i < 8
-  slot id i e = omega (arith, found-names (s .pools .serial) (s .pools .live) id e .below, ok .pools .serials)
+  slot id i e = omega (arith, found-names (s .pools .serial) (s .pools .live) id e .below, ok .pools .sized .serials)
 
   module _ (at : x .call ≡ 15) (i : ℕ) (h : i < 8) where
     gone : Fair (plain (withPools s (poolGone (s .pools) i)) OK)
     unfolding plain answer
     gone =
-        let l : i < length (s .pools .live) = omega (arith, ok .pools .lives) in
+        let l : i < length (s .pools .live) = omega (arith, ok .pools .sized .lives) in
         booked-none (later-gone (s .pools .serial) (s .pools .live) i l)
         (no-books (λ e. omega arith) (λ e. omega arith) (plain (withPools s (poolGone (s .pools) i)) OK))
         (λ j a b. let ne : j ≡ i → ⊥ = λ d.
@@ -175,7 +175,7 @@ module _ (s : State) (ok : Sound s) (x : Event) where
         → PoolsBooked (s .pools) (withOut (s .pools) i marks) x a
     changed marks a e =
         booked-one (s .pools .serial) (s .pools .live) (x .a) i names
-        (omega (arith, e, marks-here (s .pools) i marks (omega (arith, slot (x .a) i names, ok .pools .outs))))
+        (omega (arith, e, marks-here (s .pools) i marks (omega (arith, slot (x .a) i names, ok .pools .sized .outs))))
         (λ j ne. buffers-same (s .pools) (withOut (s .pools) i marks) j (getD-set-other (s .pools .out) i j marks 0 ne) refl refl)
         (λ id ne. uncounted id x a (by-other 17 id x a (λ d. ne (sym d))) (by-other 18 id x a (λ d. ne (sym d))))
 

@@ -5,7 +5,7 @@ use native.Mathlib.Omega.{arith}
 use mathlib.Core.Path.{_≡_, sym, ap, _∙_}
 use mathlib.Core.Logic.{_⊎_, inl, inr, ⊎-elim}
 use mathlib.Core.Bool.{Bool, true, false, not, _&&_}
-use lib.ListN.{length, getD}
+use lib.ListN.{getD}
 use lib.Dec.{ltb, leb, eqb}
 use borrow.Author.Tests.{le-ltb, le-leb, eq-eqb, leb-true, eqb-true, not-true}
 use Rattle.scope.specs.declared.State.{State}
@@ -261,7 +261,7 @@ module _ (s : State) (sized : Sized s) (orders : keeps orderRules s ≡ true) (t
   table-rule rule row = row-holds tableRules s tables rule row
 
   says-queues : Queues (s .line .seat)
-  says-queues = queues-from-rule (s .line .seat) (sized .seat) (order-rule (λ x. seatsRight (x .line .seat)) (search rows depth 12))
+  says-queues = queues-from-rule (s .line .seat) (sized .line .seats) (order-rule (λ x. seatsRight (x .line .seat)) (search rows depth 12))
 
   start-at : (t : ℕ) → t < 32 → StartRight (s .line) (s .tasks) (objectsOf s) t
   unfolding startsRight
@@ -295,13 +295,13 @@ module _ (s : State) (sized : Sized s) (orders : keeps orderRules s ≡ true) (t
   -- an object that tasks wait for has no stock
   stock-at : (i : ℕ) → i < objectsEnd → 0 < standing (s .line .seat) (queueSeats i) → objectsOf s .stock i ≡ 0
   stock-at i h some =
-      ⊎-elim (λ l. sem-stock (s .semaphores) i l ∙ count-at i l .1 some) (no-stock (s .semaphores) i (sized .units)) (lt-or-le i 16)
+      ⊎-elim (λ l. sem-stock (s .semaphores) i l ∙ count-at i l .1 some) (no-stock (s .semaphores) i (sized .semaphores .unitss)) (lt-or-le i 16)
 
   says-line : LineSound (s .line) (s .tasks) (objectsOf s)
   says-line =
       record {
-        lefts = sized .left;
-        joineds = sized .joined;
+        lefts = sized .line .lefts;
+        joineds = sized .line .joineds;
         queues = says-queues;
         stands = λ t h.
             stands-says (s .line) (s .tasks) (objectsOf s) t (says-queues .places t) (ready-at t h) (wait-at t h) (start-at t h);
@@ -313,12 +313,7 @@ module _ (s : State) (sized : Sized s) (orders : keeps orderRules s ≡ true) (t
   unfolding tasksRight
   says-tasks =
       record {
-        names = sized .tname;
-        serials = sized .tserial;
-        lives = sized .tlive;
-        starteds = sized .started;
-        suspendeds = sized .suspended;
-        priorities = sized .priority;
+        sized = sized .tasks;
         each = λ t h.
             task-says (s .tasks) t (every-at (taskRight (s .tasks)) 32 (table-rule (λ x. tasksRight (x .tasks)) (search rows depth 12)) t h)
             (λ a. start-says _ _ _ (start-at t h) a .1);
@@ -328,11 +323,7 @@ module _ (s : State) (sized : Sized s) (orders : keeps orderRules s ≡ true) (t
   unfolding semsRight
   says-sems =
       record {
-        names = sized .sname;
-        serials = sized .sserial;
-        unitss = sized .units;
-        lives = sized .slive;
-        fifos = sized .fifo;
+        sized = sized .semaphores;
         each = λ i h. sem-says (s .semaphores) i (every-at (semRight (s .semaphores)) 16 (table-rule (λ x. semsRight (x .semaphores)) (search rows depth 12)) i h) (count-at i h .0);
       }
 
@@ -340,14 +331,7 @@ module _ (s : State) (sized : Sized s) (orders : keeps orderRules s ≡ true) (t
   unfolding poolsRight
   says-pools =
       record {
-        outs = sized .out;
-        names = sized .pname;
-        addresses = sized .address;
-        lengths = sized .length;
-        sizes = sized .size;
-        serials = sized .pserial;
-        lives = sized .plive;
-        forceds = sized .forced;
+        sized = sized .pools;
         each = every-at (poolRight (s .pools)) 8 (table-rule (λ x. poolsRight (x .pools)) (search rows depth 12));
         apart = table-rule (λ x. poolsApart (x .pools)) (search rows depth 12);
       }

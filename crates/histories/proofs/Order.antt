@@ -171,5 +171,5 @@ module _ (p : ℕ) (xs : List Event) where
       → Grant now told i (stepped now c (x .mark) (x .a) (x .b) (x .c) (x .d) (x .e)))
       (sym e)
       (release-grants now told _ now-sound (now-ordered .1) i
-      (omega (arith, found-below (now .semaphores .serial) (now .semaphores .live) (x .a) at, now-sound .semaphores .serials))
+      (omega (arith, found-below (now .semaphores .serial) (now .semaphores .live) (x .a) at, now-sound .semaphores .sized .serials))
       some (x .mark) (x .a) (x .b) (x .c) (x .d) (x .e) at)

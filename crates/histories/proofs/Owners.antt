@@ -29,7 +29,7 @@ pub record Out (p : Pools) (i k : ℕ) : Type 0 where
 
 module _ (p : Pools) (sound : PoolsSound p) where
   slot : (i : ℕ) → getD (p .live) i false ≡ true → i < 8
-  slot i a = ⊎-elim (λ h. h) (λ h. absurd (true-false a (List·getD-eq-default (p .live) false (omega (arith, sound .lives))))) (lt-or-le i 8)
+  slot i a = ⊎-elim (λ h. h) (λ h. absurd (true-false a (List·getD-eq-default (p .live) false (omega (arith, sound .sized .lives))))) (lt-or-le i 8)
 
   one-of : (i k : ℕ) → Out p i k → k < poolBuffers p i
   one-of i k o = out-below _ k _ (o .marked) (row-says p sound i (slot i (o .alive)) (o .alive) .2)

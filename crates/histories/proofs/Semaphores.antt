@@ -23,6 +23,7 @@ use Rattle.scope.specs.Views.{withSemaphores}
 use Rattle.scope.specs.Answers.{answer, plain, gives, wakesWith}
 use Rattle.scope.specs.Waiting.{isTimeOut, waits, noneWoken, wakeAll}
 use Rattle.scope.specs.Semaphores.{lastCount, semBorn, semGone, withUnits, semFound, semCreateAt, semCreate, semDeleteAt, semIdentAt, semIdent, semWaitAt, semClaimAt, semReleaseAt, semInfoAt, semDelete, semClaim, semRelease, semInfo}
+use Rattle.laws.proofs.Arrays.{cleared}
 use Rattle.laws.proofs.Branches.{lt-or-le, eq-or-not, true-false, true-or-false, both, first-decides, second-decides, not-of-false}
 use Rattle.tables.proofs.Laws.{found-below, found-live, usable-at, usable-free}
 use Rattle.seats.specs.Rule.{Runs}
@@ -35,113 +36,73 @@ use Rattle.histories.proofs.Waking.{first-in, first-empty, dead-empty, 
 use Rattle.histories.proofs.Parts.{all-sound, line-sound, semaphores-sound}
 use Rattle.histories.proofs.Refused.{by-choice, Kept, plain-kept, found-kept}
 
--- the slot j of two tables
-record Same (m n : Semaphores) (j : ℕ) : Type 0 where
-  name : getD (n .name) j 0 ≡ getD (m .name) j 0
-  serial : getD (n .serial) j 0 ≡ getD (m .serial) j 0
-  units : getD (n .units) j 0 ≡ getD (m .units) j 0
-  live : getD (n .live) j false ≡ getD (m .live) j false
-  fifo : getD (n .fifo) j false ≡ getD (m .fifo) j false
-
-sem-kept : (m n : Semaphores) (j : ℕ) → Same m n j → SemSound m j → SemSound n j
-sem-kept m n j same ok =
-    record {
-      alive = λ e. omega (arith, ok .alive (sym (same .live) ∙ e), same .serial);
-      units = omega (arith, ok .units, same .units);
-      name = λ e. same .name ∙ ok .name (sym (same .live) ∙ e);
-      fifo = λ e. same .fifo ∙ ok .fifo (sym (same .live) ∙ e);
-      none = λ e. same .units ∙ ok .none (sym (same .live) ∙ e);
-    }
-
-slots-sound : (m n : Semaphores) (i : ℕ) → SemsSound m → ((j : ℕ) → (j ≡ i → ⊥) → Same m n j) → SemSound n i → (j : ℕ) → j < 16 → SemSound n j
-slots-sound m n i ok same here j h =
-    ⊎-elim (λ e. subst (SemSound n) (sym e) here) (λ ne. sem-kept m n j (same j ne) (ok .each j h)) (eq-or-not j i)
+-- each slot is sound where slot i is and the others are as they were
+slots-sound : (m n : Semaphores) (i : ℕ) → SemsSound m → ((j : ℕ) → (j ≡ i → ⊥) → SemSound m j → SemSound n j) → SemSound n i
+    → (j : ℕ) → j < 16 → SemSound n j
+slots-sound m n i ok kept here j h = ⊎-elim (λ e. subst (SemSound n) (sym e) here) (λ ne. kept j ne (ok .each j h)) (eq-or-not j i)
 
 module _ (m : Semaphores) (sems : SemsSound m) (i : ℕ) (hi : i < 16) where
   -- a semaphore is born in a free slot
   module _ (name count : ℕ) (fifo : Bool) where
-    born-same : (j : ℕ) → (j ≡ i → ⊥) → Same m (semBorn m i name count fifo) j
-    born-same j ne =
-        record {
-          name = getD-set-other (m .name) i j name 0 ne;
-          serial = getD-set-other (m .serial) i j (getD (m .serial) i 0 + 1) 0 ne;
-          units = getD-set-other (m .units) i j count 0 ne;
-          live = getD-set-other (m .live) i j true false ne;
-          fifo = getD-set-other (m .fifo) i j fifo false ne;
-        }
-
     born-live : getD (semBorn m i name count fifo .live) i false ≡ true
-    born-live = getD-set-same (m .live) i true false (omega (arith, sems .lives))
+    born-live = getD-set-same (m .live) i true false (omega (arith, sems .sized .lives))
 
     born-sems : count ≤ 32767 → SemsSound (semBorn m i name count fifo)
     born-sems fits =
         record {
-          names = length-set (m .name) i name ∙ sems .names;
-          serials = length-set (m .serial) i (getD (m .serial) i 0 + 1) ∙ sems .serials;
-          unitss = length-set (m .units) i count ∙ sems .unitss;
-          lives = length-set (m .live) i true ∙ sems .lives;
-          fifos = length-set (m .fifo) i fifo ∙ sems .fifos;
-          each = slots-sound m (semBorn m i name count fifo) i sems born-same
+          sized = record {
+            names = length-set (m .name) i name ∙ sems .sized .names;
+            serials = length-set (m .serial) i (getD (m .serial) i 0 + 1) ∙ sems .sized .serials;
+            unitss = length-set (m .units) i count ∙ sems .sized .unitss;
+            lives = length-set (m .live) i true ∙ sems .sized .lives;
+            fifos = length-set (m .fifo) i fifo ∙ sems .sized .fifos;
+          };
+          each = slots-sound m (semBorn m i name count fifo) i sems (λ j ne row. simp getD-set-other row)
               (record {
-                alive = λ e. omega (arith, getD-set-same (m .serial) i (getD (m .serial) i 0 + 1) 0 (omega (arith, sems .serials)));
-                units = omega (arith, getD-set-same (m .units) i count 0 (omega (arith, sems .unitss)));
+                alive = λ e. omega (arith, getD-set-same (m .serial) i (getD (m .serial) i 0 + 1) 0 (omega (arith, sems .sized .serials)));
+                units = omega (arith, getD-set-same (m .units) i count 0 (omega (arith, sems .sized .unitss)));
                 name = λ e. absurd (true-false born-live e);
                 fifo = λ e. absurd (true-false born-live e);
                 none = λ e. absurd (true-false born-live e);
               });
         }
 
-  -- a semaphore in whose queue nobody stands goes
-  gone-same : (j : ℕ) → (j ≡ i → ⊥) → Same m (semGone m i) j
-  gone-same j ne =
-      record {
-        name = getD-set-other (m .name) i j 0 0 ne;
-        serial = refl;
-        units = getD-set-other (m .units) i j 0 0 ne;
-        live = getD-set-other (m .live) i j false false ne;
-        fifo = getD-set-other (m .fifo) i j false false ne;
-      }
-
+  -- a semaphore goes
   gone-sems : SemsSound (semGone m i)
   gone-sems =
       record {
-        names = length-set (m .name) i 0 ∙ sems .names;
-        serials = sems .serials;
-        unitss = length-set (m .units) i 0 ∙ sems .unitss;
-        lives = length-set (m .live) i false ∙ sems .lives;
-        fifos = length-set (m .fifo) i false ∙ sems .fifos;
-        each = slots-sound m (semGone m i) i sems gone-same
-            (record {
-              alive = λ e. absurd (true-false e (getD-set-same (m .live) i false false (omega (arith, sems .lives))));
-              units = omega (arith, getD-set-same (m .units) i 0 0 (omega (arith, sems .unitss)));
-              name = λ e. getD-set-same (m .name) i 0 0 (omega (arith, sems .names));
-              fifo = λ e. getD-set-same (m .fifo) i false false (omega (arith, sems .fifos));
-              none = λ e. getD-set-same (m .units) i 0 0 (omega (arith, sems .unitss));
-            });
+        sized = record {
+          names = length-set (m .name) i 0 ∙ sems .sized .names;
+          serials = sems .sized .serials;
+          unitss = length-set (m .units) i 0 ∙ sems .sized .unitss;
+          lives = length-set (m .live) i false ∙ sems .sized .lives;
+          fifos = length-set (m .fifo) i false ∙ sems .sized .fifos;
+        };
+        each = slots-sound m (semGone m i) i sems (λ j ne row. simp getD-set-other row)
+            (simp cleared
+            (record { alive = λ e. absurd (true-false e refl); units = omega arith; name = λ e. refl; fifo = λ e. refl; none = λ e. refl }));
       }
 
-  -- a live semaphore in whose queue nobody stands has other units
-  module _ (n : ℕ) (fits : n ≤ 32767) (alive : getD (m .live) i false ≡ true) where
-    units-same : (j : ℕ) → (j ≡ i → ⊥) → Same m (withUnits m i n) j
-    units-same j ne = record { name = refl; serial = refl; units = getD-set-other (m .units) i j n 0 ne; live = refl; fifo = refl }
-
-    units-sems : SemsSound (withUnits m i n)
-    units-sems =
-        record {
-          names = sems .names;
-          serials = sems .serials;
-          unitss = length-set (m .units) i n ∙ sems .unitss;
-          lives = sems .lives;
-          fifos = sems .fifos;
-          each = slots-sound m (withUnits m i n) i sems units-same
-              (record {
-                alive = sems .each i hi .alive;
-                units = omega (arith, getD-set-same (m .units) i n 0 (omega (arith, sems .unitss)));
-                name = sems .each i hi .name;
-                fifo = sems .each i hi .fifo;
-                none = λ e. absurd (true-false alive e);
-              });
-        }
+  -- a live semaphore has other units
+  units-sems : (n : ℕ) → n ≤ 32767 → getD (m .live) i false ≡ true → SemsSound (withUnits m i n)
+  units-sems n fits alive =
+      record {
+        sized = record {
+          names = sems .sized .names;
+          serials = sems .sized .serials;
+          unitss = length-set (m .units) i n ∙ sems .sized .unitss;
+          lives = sems .sized .lives;
+          fifos = sems .sized .fifos;
+        };
+        each = slots-sound m (withUnits m i n) i sems (λ j ne row. simp getD-set-other row)
+            (record {
+              alive = sems .each i hi .alive;
+              units = omega (arith, getD-set-same (m .units) i n 0 (omega (arith, sems .sized .unitss)));
+              name = sems .each i hi .name;
+              fifo = sems .each i hi .fifo;
+              none = λ e. absurd (true-false alive e);
+            });
+      }
 
 -- a started task has a priority in range
 started-priority : (k : Tasks) (t : ℕ) → TasksSound k → t < 32 → getD (k .started) t false ≡ true → getD (k .priority) t 0 ≤ 15
@@ -161,7 +122,7 @@ module _ (s : State) (ok : Sound s) where
   unfolding semCreateAt gives answer
   create-at name count options i fits free =
       by-choice Kept _ (λ e. plain-kept _ ok)
-      (λ e. let h : i < 16 = omega (arith, leb-false (length (s .semaphores .serial)) i e, ok .semaphores .serials) in
+      (λ e. let h : i < 16 = omega (arith, leb-false (length (s .semaphores .serial)) i e, ok .semaphores .sized .serials) in
       semaphores-sound s ok (semBorn (s .semaphores) i name count (eqb options 1))
       (empty-changes (s .line) (s .tasks) (objectsOf s) (ok .line) i _ (born-elsewhere (s .semaphores) i name count (eqb options 1))
       (dead-empty (s .line) (s .tasks) (objectsOf s) (ok .line) i (omega arith) (sem-live (s .semaphores) i h ∙ free h)))
@@ -175,7 +136,7 @@ module _ (s : State) (ok : Sound s) where
       by-choice Kept _ (λ e. plain-kept _ ok)
       (λ e. by-choice Kept _ (λ f. plain-kept _ ok)
       (λ f. create-at name count options (lowestUsable serial live) (ltb-false lastCount count e)
-      (λ h. usable-free serial live (lowestUsable serial live) (usable-at serial live (omega (arith, h, ok .semaphores .serials))))))
+      (λ h. usable-free serial live (lowestUsable serial live) (usable-at serial live (omega (arith, h, ok .semaphores .sized .serials))))))
 
   pub sem-ident-sound : (name : ℕ) → Sound (semIdent s name .state)
   unfolding semIdent semIdentAt gives answer
@@ -255,7 +216,7 @@ module _ (s : State) (ok : Sound s) where
   -- by identifier
   named-slot : (id i : ℕ) → semFound s id ≡ At i → (i < 16) × (getD (s .semaphores .live) i false ≡ true)
   named-slot id i e = (
-    omega (arith, found-below (s .semaphores .serial) (s .semaphores .live) id e, ok .semaphores .serials),
+    omega (arith, found-below (s .semaphores .serial) (s .semaphores .live) id e, ok .semaphores .sized .serials),
     found-live (s .semaphores .serial) (s .semaphores .live) id e,
   )
 

@@ -23,7 +23,7 @@ use Rattle.scope.specs.Views.{withLine, withTasks, withSeats, withWait, readyWi
 use Rattle.scope.specs.Tasks.{taskFound, taskBorn, taskGone, withStarted, withSuspended, withPriority, taskCreateAt, taskCreate, taskDeleteAt, taskDelete, taskIdentAt, taskIdent, taskStartAt, taskStart, taskSuspendAt, taskSuspend, taskResumeAt, taskResume, taskSetPriorityAt, taskSetPriority}
 use Rattle.laws.proofs.Branches.{eq-or-not, both, both-true, second-fails, not-of-false, true-false, true-or-false}
 use Rattle.tables.proofs.Laws.{found-below, found-live, usable-at, usable-free}
-use Rattle.histories.specs.Sound.{Nowhere, Waits, Ready, LineSound, TaskSound, TasksSound, Sound}
+use Rattle.histories.specs.Sound.{Nowhere, Waits, Ready, LineSound, TaskRow, TaskSound, TasksSound, Sound}
 use Rattle.histories.proofs.Refused.{by-choice, Kept, plain-kept, gives-kept, found-kept}
 use Rattle.histories.proofs.Parts.{all-sound, tasks-sound}
 use Rattle.histories.proofs.Moves.{Agree, Out, stays, retold, nowhere-out, gone, ready-gone, becomes-ready, on-waits, off-ready, off-nowhere, idle-nowhere}
@@ -74,57 +74,37 @@ withFlags k t a b p =
     }
 
 -- what the rules ask of a slot, of its row
-record RowSound (r : Row) : Type 0 where
-  alive : r .live ≡ true → (1 ≤ r .serial) × (r .priority ≤ 15)
-  name : r .live ≡ false → r .name ≡ 0
-  started : r .live ≡ false → r .started ≡ false
-  priority : r .live ≡ false → r .priority ≡ 0
-  suspended : r .started ≡ false → r .suspended ≡ false
-
-row-sound : (k : Tasks) (t : ℕ) → TaskSound k t → RowSound (rowOf k t)
-row-sound k t h = record { alive = h .alive; name = h .name; started = h .started; priority = h .priority; suspended = h .suspended }
-
-slot-sound : (k : Tasks) (t : ℕ) → RowSound (rowOf k t) → TaskSound k t
-slot-sound k t h = record { alive = h .alive; name = h .name; started = h .started; priority = h .priority; suspended = h .suspended }
+abbrev RowSound : Row → Type 0
+RowSound r = TaskRow (r .name) (r .serial) (r .live) (r .started) (r .suspended) (r .priority)
 
 module _ (k : Tasks) (sound : TasksSound k) (t : ℕ) (room : t < 32) (r : Row) where
   row-same : rowOf (withRow k t r) t ≡ r
   row-same =
       rw (
-        getD-set-same (k .name) t (r .name) 0 (omega (arith, sound .names)),
-        getD-set-same (k .serial) t (r .serial) 0 (omega (arith, sound .serials)),
-        getD-set-same (k .live) t (r .live) false (omega (arith, sound .lives)),
-        getD-set-same (k .started) t (r .started) false (omega (arith, sound .starteds)),
-        getD-set-same (k .suspended) t (r .suspended) false (omega (arith, sound .suspendeds)),
-        getD-set-same (k .priority) t (r .priority) 0 (omega (arith, sound .priorities)),
-      )
-
-  row-other : (u : ℕ) → (u ≡ t → ⊥) → rowOf (withRow k t r) u ≡ rowOf k u
-  row-other u ne =
-      rw (
-        getD-set-other (k .name) t u (r .name) 0 ne,
-        getD-set-other (k .serial) t u (r .serial) 0 ne,
-        getD-set-other (k .live) t u (r .live) false ne,
-        getD-set-other (k .started) t u (r .started) false ne,
-        getD-set-other (k .suspended) t u (r .suspended) false ne,
-        getD-set-other (k .priority) t u (r .priority) 0 ne,
+        getD-set-same (k .name) t (r .name) 0 (omega (arith, sound .sized .names)),
+        getD-set-same (k .serial) t (r .serial) 0 (omega (arith, sound .sized .serials)),
+        getD-set-same (k .live) t (r .live) false (omega (arith, sound .sized .lives)),
+        getD-set-same (k .started) t (r .started) false (omega (arith, sound .sized .starteds)),
+        getD-set-same (k .suspended) t (r .suspended) false (omega (arith, sound .sized .suspendeds)),
+        getD-set-same (k .priority) t (r .priority) 0 (omega (arith, sound .sized .priorities)),
       )
 
   table-sound : RowSound r → TasksSound (withRow k t r)
   table-sound right =
       record {
-        names = length-set (k .name) t (r .name) ∙ sound .names;
-        serials = length-set (k .serial) t (r .serial) ∙ sound .serials;
-        lives = length-set (k .live) t (r .live) ∙ sound .lives;
-        starteds = length-set (k .started) t (r .started) ∙ sound .starteds;
-        suspendeds = length-set (k .suspended) t (r .suspended) ∙ sound .suspendeds;
-        priorities = length-set (k .priority) t (r .priority) ∙ sound .priorities;
+        sized = record {
+          names = length-set (k .name) t (r .name) ∙ sound .sized .names;
+          serials = length-set (k .serial) t (r .serial) ∙ sound .sized .serials;
+          lives = length-set (k .live) t (r .live) ∙ sound .sized .lives;
+          starteds = length-set (k .started) t (r .started) ∙ sound .sized .starteds;
+          suspendeds = length-set (k .suspended) t (r .suspended) ∙ sound .sized .suspendeds;
+          priorities = length-set (k .priority) t (r .priority) ∙ sound .sized .priorities;
+        };
         each = λ u h.
-            slot-sound (withRow k t r) u
-            (⊎-elim
-            (λ e. subst (λ (v : ℕ). RowSound (rowOf (withRow k t r) v)) (sym e) (subst RowSound (sym row-same) right))
-            (λ ne. subst RowSound (sym (row-other u ne)) (row-sound k u (sound .each u h)))
-            (eq-or-not u t));
+            ⊎-elim
+            (λ e. subst (TaskSound (withRow k t r)) (sym e) (subst RowSound (sym row-same) right))
+            (λ (ne : u ≡ t → ⊥). simp getD-set-other (sound .each u h))
+            (eq-or-not u t);
       }
 
 -- table j is k but for slot t: there it has these flags and this priority
@@ -279,7 +259,7 @@ module _ (s : State) (ok : Sound s) where
   unfolding taskCreateAt
   taskCreateAt-sound name p t small free =
       by-choice Kept _ (λ e. plain-kept _ ok)
-      (λ e. let room : t < 32 = omega (arith, leb-false (length (s .tasks .serial)) t e, ok .tasks .serials) in
+      (λ e. let room : t < 32 = omega (arith, leb-false (length (s .tasks .serial)) t e, ok .tasks .sized .serials) in
       gives-kept _
       (stays-nowhere s ok t room (writes-born (s .tasks) (ok .tasks) t room name p small)
       (idle-nowhere (s .line) (s .tasks) (objectsOf s) (ok .line) t room (ok .tasks .each t room .started (free room)))
@@ -292,7 +272,7 @@ module _ (s : State) (ok : Sound s) where
       let live : List Bool = s .tasks .live in
       by-choice Kept _ (λ e. plain-kept _ ok)
       (λ e. taskCreateAt-sound name p (lowestUsable serial live) (ltb-false 15 p e)
-      (λ h. usable-free serial live (lowestUsable serial live) (usable-at serial live (omega (arith, h, ok .tasks .serials)))))
+      (λ h. usable-free serial live (lowestUsable serial live) (usable-at serial live (omega (arith, h, ok .tasks .sized .serials)))))
 
   pub taskIdentAt-sound : (t : ℕ) → Kept (taskIdentAt s t)
   unfolding taskIdentAt
@@ -394,7 +374,7 @@ module _ (s : State) (ok : Sound s) where
           (omega arith, subst (λ (v : ℕ). getD (s .tasks .live) v false ≡ true) d (runs l))
       go true false h e = let z : _≡_ {A = ℕ} 0 1 = cc in absurd (omega arith)
       go false c h e = (
-        omega (arith, found-below (s .tasks .serial) (s .tasks .live) id e, ok .tasks .serials),
+        omega (arith, found-below (s .tasks .serial) (s .tasks .live) id e, ok .tasks .sized .serials),
         found-live (s .tasks .serial) (s .tasks .live) id e,
       )
 

@@ -112,14 +112,14 @@ module _ (s : State) (ok : Sound s) where
       go : (b c : Bool) → ltb (s .running) 32 ≡ c → pick b (pick c (At (s .running)) Invalid) (found (k .serial) (k .live) id) ≡ At t → t < 32
       go true true h e = let d : s .running ≡ t = cc in omega (arith, ltb-true (s .running) 32 h)
       go true false h e = let z : _≡_ {A = ℕ} 0 1 = cc in absurd (omega arith)
-      go false c h e = omega (arith, found-below (k .serial) (k .live) id e, ok .tasks .serials)
+      go false c h e = omega (arith, found-below (k .serial) (k .live) id e, ok .tasks .sized .serials)
 
   -- a task that stands nowhere becomes ready
   pub readied-goes : (t p : ℕ) → t < 32 → getD (l .seat) t 0 ≡ 0 → Fewer l (record { left = l .left; seat = becomesReady (l .seat) (l .joined) t p; joined = l .joined })
   readied-goes t p room out = record { seats = ready-stays (l .seat) (l .joined) t p good room out; joined = λ o a b u h. refl }
 
   pub slot-room : (id i : ℕ) → semFound s id ≡ At i → i < 16
-  slot-room id i e = omega (arith, found-below (m .serial) (m .live) id e, ok .semaphores .serials)
+  slot-room id i e = omega (arith, found-below (m .serial) (m .live) id e, ok .semaphores .sized .serials)
 
   -- a slot where nobody stands in the queue changes
   slot-passes : (r : Line) (n : Semaphores) (i : ℕ) → Fewer l r → Elsewhere (objects m) (objects n) i → ((t : ℕ) → In (r .seat) (queueSeats i) t → ⊥)
@@ -156,7 +156,7 @@ module _ (s : State) (ok : Sound s) where
         let h : newSemaphore s < length (m .serial) = leb-false (length (m .serial)) (newSemaphore s) g in
         slot-passes l _ (newSemaphore s) (fewer-same l)
         (born-elsewhere m (newSemaphore s) _ _ _)
-        (no-waiters s ok (newSemaphore s) (omega (arith, h, ok .semaphores .serials))
+        (no-waiters s ok (newSemaphore s) (omega (arith, h, ok .semaphores .sized .serials))
         (usable-free (m .serial) (m .live) (newSemaphore s) (usable-at (m .serial) (m .live) h)))
     sem-passes (unit-claimed at i e f) = subst (λ (f : ℕ → Bool). Passes l (objects m .fifo) l f) (sym (units-fifo m i _)) same
     sem-passes (unit-released at i e f g) = subst (λ (f : ℕ → Bool). Passes l (objects m .fifo) l f) (sym (units-fifo m i _)) same
@@ -184,7 +184,7 @@ module _ (s : State) (ok : Sound s) where
         (slot-passes _ _ i (all-fewer k i 32 (noneWoken l) good)
         (gone-elsewhere m i)
         (no-waiters (semDeleteAt s i .state) (sem-delete-at s ok i hi (found-live (m .serial) (m .live) (x .a) e)) i hi
-        (getD-set-same (m .live) i false false (omega (arith, ok .semaphores .lives)))))
+        (getD-set-same (m .live) i false false (omega (arith, ok .semaphores .sized .lives)))))
     deed-goes (time-passes at) =
         passes refl (moved (fewer-then l (ticked l) _ (ticked-fewer l) (due-fewer k 32 0 (noneWoken (ticked l)) (omega arith) good)))
 

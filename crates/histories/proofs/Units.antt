@@ -123,12 +123,12 @@ module _ (s : State) (ok : Sound s) (x : Event) where
 
   -- the slot that an identifier names
   slot : (id i : ℕ) → semFound s id ≡ At i → i < 16
-  slot id i e = omega (arith, found-names (s .semaphores .serial) (s .semaphores .live) id e .below, ok .semaphores .serials)
+  slot id i e = omega (arith, found-names (s .semaphores .serial) (s .semaphores .live) id e .below, ok .semaphores .sized .serials)
 
   delete-at : x .call ≡ 9 → (i : ℕ) → i < 16 → Fair (semDeleteAt s i)
   unfolding semDeleteAt wakesWith
   delete-at at i room =
-      let h : i < length (s .semaphores .live) = omega (arith, room, ok .semaphores .lives) in
+      let h : i < length (s .semaphores .live) = omega (arith, room, ok .semaphores .sized .lives) in
       booked-none (later-gone (s .semaphores .serial) (s .semaphores .live) i h) (no-books (λ e. omega arith) (λ e. omega arith) (semDeleteAt s i))
       (λ j a b. getD-set-other (s .semaphores .units) i j 0 0
       (λ d. true-false b (ap (λ (v : ℕ). getD (semGone (s .semaphores) i .live) v false) d ∙ getD-set-same (s .semaphores .live) i false false h)))
@@ -142,7 +142,7 @@ module _ (s : State) (ok : Sound s) (x : Event) where
     changed : n + grants (x .a) x a ≡ getD (s .semaphores .units) i 0 + releases (x .a) x a → SemaphoresBooked (s .semaphores) (withUnits (s .semaphores) i n) x a
     changed e =
         booked-one (s .semaphores .serial) (s .semaphores .live) (x .a) i names
-        (omega (arith, e, getD-set-same (s .semaphores .units) i n 0 (omega (arith, slot (x .a) i names, ok .semaphores .unitss))))
+        (omega (arith, e, getD-set-same (s .semaphores .units) i n 0 (omega (arith, slot (x .a) i names, ok .semaphores .sized .unitss))))
         (λ j ne. getD-set-other (s .semaphores .units) i j n 0 ne)
         others
 

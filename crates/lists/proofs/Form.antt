@@ -111,7 +111,7 @@ module _ (s r : State) (ok : Sound s) (fine : Sound r) (same : Alike s r) where
   stands-same : (t : ℕ) → t < 32 → 0 < getD (s .line .seat) t 0 → getD (s .line .seat) t 0 ≡ getD (r .line .seat) t 0
   stands-same t room h =
       ⊎-elim (λ n. absurd (omega (arith, n .seat, h)))
-      (λ w. ⊎-elim (λ x. waiter (x .on) t (live-sem (s .semaphores) (x .on) (ok .semaphores .lives) (x .alive)) (x .stands))
+      (λ w. ⊎-elim (λ x. waiter (x .on) t (live-sem (s .semaphores) (x .on) (ok .semaphores .sized .lives) (x .alive)) (x .stands))
       (λ x. ready (getD (s .tasks .priority) t 0) t (range-below (s .tasks) (ok .tasks) t room) (x .stands))
       w)
       (ok .line .stands t room)

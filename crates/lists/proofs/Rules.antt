@@ -53,14 +53,14 @@ module _ (s : State) (sized : Sized s) (seats : seatsRight (s .line .seat) ≡ t
   units i = getD (s .semaphores .units) i 0
 
   rule : Queues q
-  rule = queues-from-rule q (sized .seat) seats
+  rule = queues-from-rule q (sized .line .seats) seats
 
   range : (t : ℕ) → priority t ≤ 15
   range t =
-      ⊎-elim (inRange t) (λ h. let e : 0 ≡ priority t = past 32 (s .tasks .priority) t 0 (sized .priority) h in omega (arith, e)) (lt-or-le t 32)
+      ⊎-elim (inRange t) (λ h. let e : 0 ≡ priority t = past 32 (s .tasks .priority) t 0 (sized .tasks .priorities) h in omega (arith, e)) (lt-or-le t 32)
 
   here : (t : ℕ) → 0 < seat t → t < 32
-  here t h = inside 32 q t (sized .seat) (λ z. omega arith)
+  here t h = inside 32 q t (sized .line .seats) (λ z. omega arith)
 
   -- the queue's list and its seats
   in-queue : (i t : ℕ) → has (queueIn s i) t ≡ true → In q (queueSeats i) t
@@ -159,7 +159,7 @@ module _ (s : State) (sized : Sized s) (seats : seatsRight (s .line .seat) ≡ t
               (λ r. let l : t < 32 =
               ⊎-elim (λ b. b)
               (λ b. absurd (true-false (ready-started _ _ (priority t) (seat t) r)
-              (sym (past 32 (s .tasks .started) t false (sized .started) b))))
+              (sym (past 32 (s .tasks .started) t false (sized .tasks .starteds) b))))
               (lt-or-le t 32) in
               let a : In q (ringSeats (priority t)) t = ready-says _ _ (priority t) (seat t) (ready-at t l) r in
               in-order own-ring t (omega (arith, a)));

@@ -23,28 +23,10 @@ use Rattle.lists.proofs.Rules.{priorities-in-range, own-ring, tests-say
 pub sound-sized : (s : State) → Sound s → Sized s
 sound-sized s h =
     record {
-      left = h .line .lefts;
-      seat = h .line .queues .tasks;
-      joined = h .line .joineds;
-      tname = h .tasks .names;
-      tserial = h .tasks .serials;
-      tlive = h .tasks .lives;
-      started = h .tasks .starteds;
-      suspended = h .tasks .suspendeds;
-      priority = h .tasks .priorities;
-      sname = h .semaphores .names;
-      sserial = h .semaphores .serials;
-      units = h .semaphores .unitss;
-      slive = h .semaphores .lives;
-      fifo = h .semaphores .fifos;
-      out = h .pools .outs;
-      pname = h .pools .names;
-      address = h .pools .addresses;
-      length = h .pools .lengths;
-      size = h .pools .sizes;
-      pserial = h .pools .serials;
-      plive = h .pools .lives;
-      forced = h .pools .forceds;
+      line = record { lefts = h .line .lefts; seats = h .line .queues .tasks; joineds = h .line .joineds };
+      tasks = h .tasks .sized;
+      semaphores = h .semaphores .sized;
+      pools = h .pools .sized;
     }
 
 -- the test `sound` passes just if the seats say queues, each ready task's in the ring of its priority, and the rules hold: those of
