@@ -70,7 +70,7 @@ module _ (s : State) (ok : Sound s) (id i : ℕ) (names : SemaphoreAt s id i) wh
     where
       free : j < length (s .semaphores .serial) → identifier (getD (s .semaphores .serial) j 0 + 1) j ≡ id → getD (s .semaphores .live) i false ≡ false
       free h f =
-          let same : i ≡ j = omega (arith, found-slot (s .semaphores .serial) (s .semaphores .live) id names, f, h, ok .semaphores .serials) in
+          let same : i ≡ j = omega (arith, found-slot (s .semaphores .serial) (s .semaphores .live) id names, f, h, ok .semaphores .sized .serials) in
           let e : getD (s .semaphores .live) j false ≡ false = subst (λ (v : ℕ). getD (s .semaphores .live) v false ≡ false) (sym at)
           (usable-free (s .semaphores .serial) (s .semaphores .live) _ (usable-at (s .semaphores .serial) (s .semaphores .live) (omega (arith, h, at)))) in
           subst (λ (v : ℕ). getD (s .semaphores .live) v false ≡ false) (sym same) e
@@ -132,7 +132,7 @@ module _ (k : Tasks) (i j : ℕ) (hi : i < 16) (hj : j < 16) (apart : i ≡ j �
           let first : In (w .line .seat) (queueSeats i) t = first-stands (w .line .seat) (queueSeats i) room in
           let ne : u ≡ t → ⊥ = λ d. apart (omega (arith, first .0, first .1, at .0, at .1, ap (λ (v : ℕ). getD (w .line .seat) v 0) d)) in
           let left : Left (w .line .seat) (wakeNext k w t .line .seat) t = next-others k w t room good in
-          rec (wakeNext k w t) (left .good) (left .others j hj u ne at)
+          rec (wakeNext k w t) (left .good) (left .others j (omega (arith, hj)) u ne at)
       go rec false e = at
 
 module _ (s : State) (ok : Sound s) (i j : ℕ) (hi : i < 16) (hj : j < 16) (apart : i ≡ j → ⊥) (t : ℕ) where

@@ -5,6 +5,7 @@ use mathlib.Core.Path.{refl}
 use Rattle.scope.specs.Choice.{pick, least, every, number}
 use Rattle.scope.specs.Identifiers.{found, usable, lowestUsable}
 use Rattle.scope.specs.Seats.{waitsOn, onSeat, standsIn, standing, lower, leaves, raise, laterOf, aheadOf, joins, greater, topOf, runnerOf}
+use Rattle.scope.specs.Objects.{objects}
 use Rattle.scope.specs.Views.{readyWith, less, runningTask}
 use Rattle.scope.specs.Answers.{answer, plain, gives, badState, wakesWith, onFound}
 use Rattle.scope.specs.Areas.{isArea, isSize, buffersOf, shareByte}
@@ -12,7 +13,7 @@ use Rattle.scope.specs.Tasks.{taskFound, taskCreateAt, taskCreate, taskStartAt,
 use Rattle.scope.specs.Waiting.{wokenSeats, wake, wakeNext, isTimeOut, queueKey, waits}
 use Rattle.scope.specs.Semaphores.{semCreateAt, semCreate, semWaitAt, semClaimAt, semReleaseAt}
 use Rattle.scope.specs.Ticks.{timeLeft, timesLeft, isDue, wakeDue, tick}
-use Rattle.scope.specs.Rules.{seatRight, seatsRight, readyRight, readyOrderRight, waitRight, waitsRight, joinedRight, queuesSorted, countRight, countsRight, startRight, startsRight, taskRight, tasksRight, semRight, semsRight, admitted, poolRight, poolsRight, pairShares, poolsApart, runningRight, sound}
+use Rattle.scope.specs.Rules.{seatRight, seatsRight, readyRight, readyOrderRight, waitRight, waitsRight, joinedRight, queuesSorted, countRight, countsRight, startRight, startsRight, taskRight, tasksRight, semRight, semsRight, admitted, poolRight, poolsRight, pairShares, poolsApart, runningRight, keeps, sound}
 use Rattle.scope.specs.Fresh.{freshState}
 use Rattle.scope.specs.Calls.{mayCall}
 use Rattle.scope.specs.Step.{callerRefusal, answered, stepped}
@@ -22,5 +23,5 @@ use Rattle.fifo.specs.Places.{leavesUngranted}
 use Rattle.fifo.specs.Shown.{Shown}
 
 pub all-shown : Shown
-unfolding pick least every number found usable lowestUsable waitsOn onSeat standsIn standing lower leaves raise laterOf aheadOf joins greater topOf runnerOf readyWith less runningTask answer plain gives badState wakesWith onFound isArea isSize buffersOf shareByte taskFound taskCreateAt taskCreate taskStartAt wokenSeats wake wakeNext isTimeOut queueKey waits semCreateAt semCreate semWaitAt semClaimAt semReleaseAt seatRight seatsRight readyRight readyOrderRight waitRight waitsRight joinedRight queuesSorted countRight countsRight startRight startsRight taskRight tasksRight semRight semsRight admitted poolRight poolsRight pairShares poolsApart runningRight sound freshState mayCall callerRefusal answered stepped isAnswer isAnswerOf creates doneTo pends endsWait taskSuspendAt taskSetPriorityAt timeLeft timesLeft isDue wakeDue tick leavesUngranted
+unfolding pick least every number found usable lowestUsable waitsOn onSeat standsIn standing lower leaves raise laterOf aheadOf joins greater topOf runnerOf readyWith less runningTask answer plain gives badState wakesWith onFound isArea isSize buffersOf shareByte taskFound taskCreateAt taskCreate taskStartAt wokenSeats wake wakeNext isTimeOut queueKey waits semCreateAt semCreate semWaitAt semClaimAt semReleaseAt seatRight seatsRight readyRight readyOrderRight objects waitRight waitsRight joinedRight queuesSorted countRight countsRight startRight startsRight taskRight tasksRight semRight semsRight admitted poolRight poolsRight pairShares poolsApart runningRight keeps sound freshState mayCall callerRefusal answered stepped isAnswer isAnswerOf creates doneTo pends endsWait taskSuspendAt taskSetPriorityAt timeLeft timesLeft isDue wakeDue tick leavesUngranted
 all-shown = record { by-priority = refl; one-release = refl; two-releases = refl; before-third = refl; after-third = refl }
