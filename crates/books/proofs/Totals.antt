@@ -28,8 +28,7 @@ use Rattle.histories.specs.Books.{answeredOK, releases as releasesOf, grants as
 use Rattle.histories.proofs.Refused.{by-choice}
 use Rattle.histories.proofs.Answered.{by-name, by-number, by-call, by-other, by-status, counts-as, Creates}
 use Rattle.histories.proofs.Tables.{issued-still, live-issued}
-use Rattle.histories.proofs.Units.{semaphores-booked}
-use Rattle.histories.proofs.Created.{semaphore-created}
+use Rattle.histories.proofs.Units.{semaphores-entered}
 use Rattle.histories.proofs.Ledger.{Creation, event-keeps}
 use Rattle.histories.proofs.Fresh.{fresh-sound}
 use Rattle.books.specs.Past.{Turn, isAnswer, isAnswerOf, value, creates, pastFrom, pastOf}
@@ -203,13 +202,13 @@ initial-after : (id : ℕ) (s : State) → Sound s → (xs : List Event) (past :
     → initialCount (pastFrom past s xs) id ≡ initialCount past id
 initial-after id s ok [] past issued = refl
 initial-after id s ok (x ∷ xs) past issued =
-    initial-after id (answerTo s x .state) (event-keeps s ok x) xs (turnOf x (answerTo s x) ∷ past) (issued-still (semaphores-booked s ok x .later) id issued)
+    initial-after id (answerTo s x .state) (event-keeps s ok x) xs (turnOf x (answerTo s x) ∷ past) (issued-still (semaphores-entered s ok x .booked .later) id issued)
     ∙ picked-no _ _ _ (issued-once s ok x id issued)
 
 initial-from : (id : ℕ) (s : State) → Sound s → (before : List Event) (x : Event) (later : List Event) (past : List Turn)
     → Creates 8 id x (answerTo (after s before) x) → initialCount (pastFrom past s (before ++ (x ∷ later))) id ≡ x .b
 initial-from id s ok [] x later past c =
-    let m : (i : ℕ) × SemaphoreAt (answerTo s x .state) id i × (getD (answerTo s x .state .semaphores .units) i 0 ≡ x .b) = semaphore-created s ok x id c in
+    let m : (i : ℕ) × SemaphoreAt (answerTo s x .state) id i × (getD (answerTo s x .state .semaphores .units) i 0 ≡ x .b) = semaphores-entered s ok x .made id c in
     initial-after id (answerTo s x .state) (event-keeps s ok x) later (turnOf x (answerTo s x) ∷ past)
     (live-issued (answerTo s x .state .semaphores .serial) (answerTo s x .state .semaphores .live) id (m .1))
     ∙ picked-yes _ _ _ (is-new (turnOf x (answerTo s x)) 8 id (is-answer (turnOf x (answerTo s x)) 8 OK (c .called) (c .done)) (c .value))

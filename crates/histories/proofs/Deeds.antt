@@ -2,7 +2,7 @@
 -- leaves the caller waiting, or wakes: each deed has what the call's own tests showed, so no state need be sound. Whatever is to
 -- hold of every answer is shown of the deeds.
 -- Assumes nothing.
-use Prim.Native.Nat.{ℕ, _+_, _-_, _^_, _<_}
+use Prim.Native.Nat.{ℕ, _+_, _-_, _^_, _≤_, _<_}
 use native.Mathlib.Omega.{arith}
 use mathlib.Core.Path.{_≡_, refl, sym, ap, _∙_}
 use mathlib.Core.Bool.{Bool, true, false, not, _&&_}
@@ -139,6 +139,32 @@ pub data Deed (s : State) (x : Event) : Answer → Type 0 where
       → Deed s x (wakesWith s (wakeNext (s .tasks) (noneWoken (s .line)) (firstOf (s .line .seat) (queueSeats i))) OK)
   sem-deleted : x .call ≡ 9 → (i : ℕ) → semFound s (x .a) ≡ At i → Deed s x (semDeleteAt s i)
   time-passes : x .call ≡ 0 → Deed s x (tick s)
+
+-- whose call it is: the tasks' come first, then the semaphores', then the pools'
+module _ {s : State} {x : Event} where
+  pub change-call : {k : Tasks} {v : ℕ} → TaskChange s x k v → x .call < 8
+  change-call (task-created at e f) = omega arith
+  change-call (waiter-suspended at t e f g h) = omega arith
+  change-call (waiter-resumed at t e f g h) = omega arith
+  change-call (priority-noted at t e f g) = omega arith
+
+  pub move-call : {k : Tasks} {l : Line} {v : ℕ} → TaskMove s x k l v → x .call < 8
+  move-call (task-deleted at t e) = omega arith
+  move-call (task-started at t e f) = omega arith
+  move-call (task-suspended at t e f g h) = omega arith
+  move-call (task-resumed at t e f g h) = omega arith
+  move-call (priority-set at t e f g) = omega arith
+
+  pub sem-call : {m : Semaphores} {v : ℕ} → SemChange s x m v → (8 ≤ x .call) × (x .call < 14)
+  sem-call (sem-created at e f g) = (omega arith, omega arith)
+  sem-call (unit-claimed at i e f) = (omega arith, omega arith)
+  sem-call (unit-released at i e f g) = (omega arith, omega arith)
+
+  pub pool-call : {p : Pools} {v : ℕ} → PoolChange s x p v → 14 ≤ x .call
+  pool-call (pool-created at e f g h j) = omega arith
+  pool-call (pool-deleted at i e f) = omega arith
+  pool-call (buffer-got at i e f) = omega arith
+  pool-call (buffer-returned at i e f) = omega arith
 
 -- a call that tells is none that does not
 pub not-asked : (call other : ℕ) → asks call ≡ true → asks other ≡ false → call ≡ other → ⊥

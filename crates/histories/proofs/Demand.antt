@@ -26,10 +26,9 @@ use Rattle.histories.proofs.Objects.{no-units}
 use Rattle.histories.proofs.Fresh.{fresh-sound}
 use Rattle.histories.proofs.Tables.{stays-deleted}
 use Rattle.histories.proofs.Answered.{Creates}
-use Rattle.histories.proofs.Units.{semaphores-booked}
-use Rattle.histories.proofs.Marks.{pools-booked}
+use Rattle.histories.proofs.Units.{semaphoreAccount, semaphores-entered}
+use Rattle.histories.proofs.Marks.{poolAccount, pools-entered}
 use Rattle.histories.proofs.Ledger.{Creation, history-keeps, later-after, books-since, books-whole}
-use Rattle.histories.proofs.Created.{semaphore-created, pool-created}
 use Rattle.histories.proofs.Owners.{Out, InBuffer, buffers-out-apart}
 
 -- the semaphores' table and the pools', as the ledger reads them
@@ -102,11 +101,11 @@ module _ (s : State) (ok : Sound s) where
   -- an identifier whose object is deleted never names one again
   pub semaphore-stays-deleted : (xs : List Event) (id i : ℕ) → found (semSerial s) (semLive s) id ≡ Deleted → SemaphoreAt (after s xs) id i → ⊥
   semaphore-stays-deleted xs id i d e =
-      stays-deleted (later-after semSerial semLive semUnits releases grants 8 semaphores-booked s ok xs) id i d e
+      stays-deleted (later-after semaphoreAccount semaphores-entered s ok xs) id i d e
 
   pub pool-stays-deleted : (xs : List Event) (id i : ℕ) → found (poolSerial s) (poolLive s) id ≡ Deleted → PoolAt (after s xs) id i → ⊥
   pool-stays-deleted xs id i d e =
-      stays-deleted (later-after poolSerial poolLive poolOut gets returns 14 pools-booked s ok xs) id i d e
+      stays-deleted (later-after poolAccount pools-entered s ok xs) id i d e
 
   -- From the answer to its creation on.
   module _ (x : Event) (xs : List Event) (id i : ℕ) where
@@ -118,14 +117,14 @@ module _ (s : State) (ok : Sound s) where
     count-books c e =
         let t : State = answerTo s x .state in
         counted (after t xs) i _ _ _
-        (books-since semSerial semLive semUnits releases grants 8 semaphores-booked (λ y. y .b) semaphore-created s ok x xs id i c e)
+        (books-since semaphoreAccount semaphores-entered s ok x xs id i c e)
 
     -- "In live pools, buffers out = gets - returns answered OK"
     pub pool-books : Creates 14 id x (answerTo s x)
         → (let t : State = answerTo s x .state in
         PoolAt (after t xs) id i → buffersOut (after t xs .pools) i + total (returns id) t xs ≡ total (gets id) t xs)
     pool-books c e =
-        omega (arith, books-since poolSerial poolLive poolOut gets returns 14 pools-booked (λ y. 0) pool-created s ok x xs id i c e)
+        omega (arith, books-since poolAccount pools-entered s ok x xs id i c e)
 
 -- nothing of the two tables lives in a fresh state
 no-semaphore : (p id i : ℕ) → SemaphoreAt (freshState p) id i → ⊥
@@ -152,7 +151,7 @@ module _ (p : ℕ) (h : p ≤ 15) (xs : List Event) where
       × Counted (after (freshState p) xs) i (c .event .b) (total (releases id) (freshState p) xs) (total (grants id) (freshState p) xs)
   count-of-history id i e =
       let s : State = freshState p in
-      let r = books-whole semSerial semLive semUnits releases grants 8 semaphores-booked (λ y. y .b) semaphore-created s (fresh-sound p h) xs id i (no-semaphore p id) e in
+      let r = books-whole semaphoreAccount semaphores-entered s (fresh-sound p h) xs id i (no-semaphore p id) e in
       (r .0, counted (after s xs) i _ _ _ (r .1))
 
   -- "tasks wait only when the count is negative, and then its size is their number"
@@ -164,7 +163,7 @@ module _ (p : ℕ) (h : p ≤ 15) (xs : List Event) where
       → buffersOut (after (freshState p) xs .pools) i + total (returns id) (freshState p) xs ≡ total (gets id) (freshState p) xs
   buffers-of-history id i e =
       let s : State = freshState p in
-      let r = books-whole poolSerial poolLive poolOut gets returns 14 pools-booked (λ y. 0) pool-created s (fresh-sound p h) xs id i (no-pool p id) e in
+      let r = books-whole poolAccount pools-entered s (fresh-sound p h) xs id i (no-pool p id) e in
       omega (arith, r .1)
 
   -- "and no two buffers out share a byte (pools deleted by force aside)"

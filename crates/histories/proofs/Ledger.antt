@@ -17,7 +17,8 @@ use Rattle.histories.specs.Sound.{Sound}
 use Rattle.histories.specs.History.{Event, answerTo, after, total}
 use Rattle.histories.proofs.Stays.{step-keeps}
 use Rattle.histories.proofs.Answered.{Creates}
-use Rattle.histories.proofs.Tables.{Later, later-same, later-on, issued-still, was-live, live-issued, Booked}
+use Rattle.histories.proofs.Tables.{Later, later-same, later-on, issued-still, was-live, live-issued}
+use Rattle.histories.proofs.Accounts.{Account, Entered}
 
 pub event-keeps : (s : State) → Sound s → (x : Event) → Sound (answerTo s x .state)
 event-keeps s ok x = step-keeps s ok (x .call) (x .mark) (x .a) (x .b) (x .c) (x .d) (x .e)
@@ -44,14 +45,26 @@ creation-later x c =
       creates = c .creates;
     }
 
--- a table of the state, a figure of each slot, what an answer adds to an identifier's and takes from it, and the call that creates
-module _ (serial : State → List ℕ) (live : State → List Bool) (figure : State → ℕ → ℕ) (plus minus : ℕ → Event → Answer → ℕ) (call : ℕ)
-    (step : (s : State) → Sound s → (x : Event)
-    → Booked (serial s) (live s) (serial (answerTo s x .state)) (live (answerTo s x .state)) (figure s) (figure (answerTo s x .state))
-    (λ id. plus id x (answerTo s x)) (λ id. minus id x (answerTo s x)) (λ id. Creates call id x (answerTo s x))) where
+-- an account that every answer enters
+module _ (k : Account) (step : (s : State) → Sound s → (x : Event) → Entered k s x (answerTo s x)) where
+  abbrev serial : State → List ℕ
+  serial = k .serial
+
+  abbrev live : State → List Bool
+  live = k .live
+
+  abbrev figure : State → ℕ → ℕ
+  figure = k .figure
+
+  abbrev plus : ℕ → Event → Answer → ℕ
+  plus = k .plus
+
+  abbrev minus : ℕ → Event → Answer → ℕ
+  minus = k .minus
+
   pub later-after : (s : State) → Sound s → (xs : List Event) → Later (serial s) (live s) (serial (after s xs)) (live (after s xs))
   later-after s ok [] = later-same (serial s) (live s)
-  later-after s ok (x ∷ xs) = later-on (step s ok x .later) (later-after (answerTo s x .state) (event-keeps s ok x) xs)
+  later-after s ok (x ∷ xs) = later-on (step s ok x .booked .later) (later-after (answerTo s x .state) (event-keeps s ok x) xs)
 
   -- of an object that lives: what it has, and the books since
   pub books-after : (s : State) → Sound s → (xs : List Event) (id i : ℕ) → found (serial s) (live s) id ≡ At i
@@ -62,62 +75,58 @@ module _ (serial : State → List ℕ) (live : State → List Bool) (figure : St
       let t : State = answerTo s x .state in
       let h : Sound t = event-keeps s ok x in
       let m : found (serial t) (live t) id ≡ At i =
-      was-live (later-after t h xs) id (issued-still (step s ok x .later) id (live-issued (serial s) (live s) id d)) e in
-      omega (arith, step s ok x .books id i d m, books-after t h xs id i m e)
+      was-live (later-after t h xs) id (issued-still (step s ok x .booked .later) id (live-issued (serial s) (live s) id d)) e in
+      omega (arith, step s ok x .booked .books id i d m, books-after t h xs id i m e)
 
-  -- what a creation leaves: its identifier names an object with this figure
-  module _ (start : Event → ℕ)
-      (made : (s : State) → Sound s → (x : Event) (id : ℕ) → Creates call id x (answerTo s x)
-      → (i : ℕ) × (found (serial (answerTo s x .state)) (live (answerTo s x .state)) id ≡ At i) × (figure (answerTo s x .state) i ≡ start x)) where
-    -- the books since then
-    pub books-since : (s : State) → Sound s → (x : Event) (xs : List Event) (id i : ℕ) → Creates call id x (answerTo s x)
-        → (let t : State = answerTo s x .state in
-        found (serial (after t xs)) (live (after t xs)) id ≡ At i
-        → figure (after t xs) i + total (minus id) t xs ≡ start x + total (plus id) t xs)
-    books-since s ok x xs id i c e =
-        let t : State = answerTo s x .state in
-        let m : (j : ℕ) × (found (serial t) (live t) id ≡ At j) × (figure t j ≡ start x) = made s ok x id c in
-        let k : m .0 ≡ i = found-slot (serial t) (live t) id (m .1) ∙ sym (found-slot (serial (after t xs)) (live (after t xs)) id e) in
-        let b = books-after t (event-keeps s ok x) xs id i (m .1 ∙ ap At k) e in
-        omega (arith, b, subst (λ (j : ℕ). figure t j ≡ start x) k (m .2))
+  -- the books since then
+  pub books-since : (s : State) → Sound s → (x : Event) (xs : List Event) (id i : ℕ) → Creates (k .create) id x (answerTo s x)
+      → (let t : State = answerTo s x .state in
+      found (serial (after t xs)) (live (after t xs)) id ≡ At i
+      → figure (after t xs) i + total (minus id) t xs ≡ k .first x + total (plus id) t xs)
+  books-since s ok x xs id i c e =
+      let t : State = answerTo s x .state in
+      let m : (j : ℕ) × (found (serial t) (live t) id ≡ At j) × (figure t j ≡ k .first x) = step s ok x .made id c in
+      let same : m .0 ≡ i = found-slot (serial t) (live t) id (m .1) ∙ sym (found-slot (serial (after t xs)) (live (after t xs)) id e) in
+      let b = books-after t (event-keeps s ok x) xs id i (m .1 ∙ ap At same) e in
+      omega (arith, b, subst (λ (j : ℕ). figure t j ≡ k .first x) same (m .2))
 
-    -- of an object that does not live yet: where it was made, and the books of the whole history
-    abbrev Told : State → List Event → ℕ → ℕ → Type 0
-    Told s xs id i = (c : Creation call s xs id) × (figure (after s xs) i + total (minus id) s xs ≡ start (c .event) + total (plus id) s xs)
+  -- of an object that does not live yet: where it was made, and the books of the whole history
+  abbrev Told : State → List Event → ℕ → ℕ → Type 0
+  Told s xs id i = (c : Creation (k .create) s xs id) × (figure (after s xs) i + total (minus id) s xs ≡ k .first (c .event) + total (plus id) s xs)
 
-    pub books-whole : (s : State) → Sound s → (xs : List Event) (id i : ℕ) → ((j : ℕ) → found (serial s) (live s) id ≡ At j → ⊥)
-        → found (serial (after s xs)) (live (after s xs)) id ≡ At i → Told s xs id i
-    books-whole s ok [] id i dead e = absurd (dead i e)
-    books-whole s ok (x ∷ xs) id i dead e =
-        go (books-whole t h xs id i) (found (serial t) (live t) id) refl
-      where
-        t : State
-        t = answerTo s x .state
+  pub books-whole : (s : State) → Sound s → (xs : List Event) (id i : ℕ) → ((j : ℕ) → found (serial s) (live s) id ≡ At j → ⊥)
+      → found (serial (after s xs)) (live (after s xs)) id ≡ At i → Told s xs id i
+  books-whole s ok [] id i dead e = absurd (dead i e)
+  books-whole s ok (x ∷ xs) id i dead e =
+      go (books-whole t h xs id i) (found (serial t) (live t) id) refl
+    where
+      t : State
+      t = answerTo s x .state
 
-        h : Sound t
-        h = event-keeps s ok x
+      h : Sound t
+      h = event-keeps s ok x
 
-        quiet : (plus id x (answerTo s x) ≡ 0) × (minus id x (answerTo s x) ≡ 0)
-        quiet = step s ok x .silent id dead
+      quiet : (plus id x (answerTo s x) ≡ 0) × (minus id x (answerTo s x) ≡ 0)
+      quiet = step s ok x .booked .silent id dead
 
-        here : found (serial t) (live t) id ≡ At i → Told s (x ∷ xs) id i
-        here d =
-            let c : Creates call id x (answerTo s x) = ⊎-elim (λ b. absurd (dead i b)) (λ c. c) (step s ok x .came id i d) in (
-              record { before = []; event = x; later = xs; whole = refl; creates = c },
-              omega (arith, quiet .0, quiet .1, books-since s ok x xs id i c e),
-            )
+      here : found (serial t) (live t) id ≡ At i → Told s (x ∷ xs) id i
+      here d =
+          let c : Creates (k .create) id x (answerTo s x) = ⊎-elim (λ b. absurd (dead i b)) (λ c. c) (step s ok x .booked .came id i d) in (
+            record { before = []; event = x; later = xs; whole = refl; creates = c },
+            omega (arith, quiet .0, quiet .1, books-since s ok x xs id i c e),
+          )
 
-        further : (((j : ℕ) → found (serial t) (live t) id ≡ At j → ⊥) → found (serial (after t xs)) (live (after t xs)) id ≡ At i → Told t xs id i)
-            → ((j : ℕ) → found (serial t) (live t) id ≡ At j → ⊥) → Told s (x ∷ xs) id i
-        further rec gone =
-            let r : Told t xs id i = rec gone e in
-            (creation-later x (r .0), omega (arith, quiet .0, quiet .1, r .1))
+      further : (((j : ℕ) → found (serial t) (live t) id ≡ At j → ⊥) → found (serial (after t xs)) (live (after t xs)) id ≡ At i → Told t xs id i)
+          → ((j : ℕ) → found (serial t) (live t) id ≡ At j → ⊥) → Told s (x ∷ xs) id i
+      further rec gone =
+          let r : Told t xs id i = rec gone e in
+          (creation-later x (r .0), omega (arith, quiet .0, quiet .1, r .1))
 
-        go : (((j : ℕ) → found (serial t) (live t) id ≡ At j → ⊥) → found (serial (after t xs)) (live (after t xs)) id ≡ At i → Told t xs id i)
-            → (o : Found) → found (serial t) (live t) id ≡ o → Told s (x ∷ xs) id i
-        go rec (At j) d =
-            let k : j ≡ i =
-            found-slot (serial t) (live t) id d ∙ sym (found-slot (serial (after t xs)) (live (after t xs)) id e) in
-            here (d ∙ ap At k)
-        go rec Deleted d = further rec (λ j b. let z : _≡_ {A = ℕ} 0 1 = cc in omega arith)
-        go rec Invalid d = further rec (λ j b. let z : _≡_ {A = ℕ} 0 1 = cc in omega arith)
+      go : (((j : ℕ) → found (serial t) (live t) id ≡ At j → ⊥) → found (serial (after t xs)) (live (after t xs)) id ≡ At i → Told t xs id i)
+          → (o : Found) → found (serial t) (live t) id ≡ o → Told s (x ∷ xs) id i
+      go rec (At j) d =
+          let same : j ≡ i =
+          found-slot (serial t) (live t) id d ∙ sym (found-slot (serial (after t xs)) (live (after t xs)) id e) in
+          here (d ∙ ap At same)
+      go rec Deleted d = further rec (λ j b. let z : _≡_ {A = ℕ} 0 1 = cc in omega arith)
+      go rec Invalid d = further rec (λ j b. let z : _≡_ {A = ℕ} 0 1 = cc in omega arith)

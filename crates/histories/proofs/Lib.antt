@@ -20,10 +20,10 @@ pub mod Rows
 pub mod Answered
 pub mod Alone
 pub mod Tables
+pub mod Accounts
 pub mod Units
 pub mod Marks
 pub mod Ledger
-pub mod Created
 pub mod Owners
 pub mod Demand
 pub mod Staying
