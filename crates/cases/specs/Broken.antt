@@ -12,6 +12,7 @@ use Rattle.scope.specs.declared.Line.{Line}
 use Rattle.scope.specs.declared.Tasks.{Tasks}
 use Rattle.scope.specs.declared.Semaphores.{Semaphores}
 use Rattle.scope.specs.declared.Pools.{Pools}
+use Rattle.scope.specs.Choice.{pick}
 use Rattle.scope.specs.Seats.{queueSeats, ringSeats}
 use Rattle.scope.specs.Answers.{noWakes}
 use Rattle.scope.specs.Waiting.{FOREVER}
@@ -86,110 +87,124 @@ pools p = record { line = goodLine; tasks = goodTasks; semaphores = goodSemaphor
 abbrev runs : ℕ → State
 runs t = record { line = goodLine; tasks = goodTasks; semaphores = goodSemaphores; pools = goodPools; running = t }
 
--- and with one number or one mark of task t changed
+-- Column n of a table, and in its slot i another number or mark if it is the column that is meant.
+abbrev numbers : ℕ → ℕ → ℕ → ℕ → List ℕ → List ℕ
+numbers meant i x n column = pick (eqb n meant) (set column i x) column
+
+abbrev marks : ℕ → ℕ → Bool → ℕ → List Bool → List Bool
+marks meant i b n column = pick (eqb n meant) (set column i b) column
+
+-- the good state with one number x or one mark b changed: of task t,
+abbrev lineWith : ℕ → ℕ → ℕ → State
+lineWith meant t x =
+    aLine
+    (record {
+      left = numbers meant t x 0 (goodLine .left);
+      seat = numbers meant t x 1 (goodLine .seat);
+      joined = numbers meant t x 2 (goodLine .joined);
+    })
+
 abbrev left : ℕ → ℕ → State
-left t x = aLine (record { left = set (goodLine .left) t x; seat = goodLine .seat; joined = goodLine .joined })
+left t x = lineWith 0 t x
 
 abbrev seat : ℕ → ℕ → State
-seat t x = aLine (record { left = goodLine .left; seat = set (goodLine .seat) t x; joined = goodLine .joined })
+seat t x = lineWith 1 t x
 
 abbrev joined : ℕ → ℕ → State
-joined t x = aLine (record { left = goodLine .left; seat = goodLine .seat; joined = set (goodLine .joined) t x })
+joined t x = lineWith 2 t x
 
-abbrev tasksWith : List ℕ → List ℕ → List Bool → List Bool → List Bool → List ℕ → State
-tasksWith name serial live started suspended priority =
-    aTable (record { name = name; serial = serial; live = live; started = started; suspended = suspended; priority = priority })
+abbrev tasksWith : ℕ → ℕ → ℕ → Bool → State
+tasksWith meant t x b =
+    aTable
+    (record {
+      name = numbers meant t x 0 (goodTasks .name);
+      serial = numbers meant t x 1 (goodTasks .serial);
+      live = marks meant t b 2 (goodTasks .live);
+      started = marks meant t b 3 (goodTasks .started);
+      suspended = marks meant t b 4 (goodTasks .suspended);
+      priority = numbers meant t x 5 (goodTasks .priority);
+    })
 
 abbrev taskName : ℕ → ℕ → State
-taskName t x =
-    tasksWith (set (goodTasks .name) t x) (goodTasks .serial) (goodTasks .live) (goodTasks .started) (goodTasks .suspended) (goodTasks .priority)
+taskName t x = tasksWith 0 t x false
 
 abbrev taskSerial : ℕ → ℕ → State
-taskSerial t x =
-    tasksWith (goodTasks .name) (set (goodTasks .serial) t x) (goodTasks .live) (goodTasks .started) (goodTasks .suspended) (goodTasks .priority)
+taskSerial t x = tasksWith 1 t x false
 
 abbrev taskLive : ℕ → Bool → State
-taskLive t b =
-    tasksWith (goodTasks .name) (goodTasks .serial) (set (goodTasks .live) t b) (goodTasks .started) (goodTasks .suspended) (goodTasks .priority)
+taskLive t b = tasksWith 2 t 0 b
 
 abbrev started : ℕ → Bool → State
-started t b =
-    tasksWith (goodTasks .name) (goodTasks .serial) (goodTasks .live) (set (goodTasks .started) t b) (goodTasks .suspended) (goodTasks .priority)
+started t b = tasksWith 3 t 0 b
 
 abbrev suspended : ℕ → Bool → State
-suspended t b =
-    tasksWith (goodTasks .name) (goodTasks .serial) (goodTasks .live) (goodTasks .started) (set (goodTasks .suspended) t b) (goodTasks .priority)
+suspended t b = tasksWith 4 t 0 b
 
 abbrev priority : ℕ → ℕ → State
-priority t x =
-    tasksWith (goodTasks .name) (goodTasks .serial) (goodTasks .live) (goodTasks .started) (goodTasks .suspended) (set (goodTasks .priority) t x)
+priority t x = tasksWith 5 t x false
 
--- of semaphore i
-abbrev semaphoresWith : List ℕ → List ℕ → List ℕ → List Bool → List Bool → State
-semaphoresWith name serial units live fifo = semaphores (record { name = name; serial = serial; units = units; live = live; fifo = fifo })
+-- of semaphore i,
+abbrev semaphoresWith : ℕ → ℕ → ℕ → Bool → State
+semaphoresWith meant i x b =
+    semaphores
+    (record {
+      name = numbers meant i x 0 (goodSemaphores .name);
+      serial = numbers meant i x 1 (goodSemaphores .serial);
+      units = numbers meant i x 2 (goodSemaphores .units);
+      live = marks meant i b 3 (goodSemaphores .live);
+      fifo = marks meant i b 4 (goodSemaphores .fifo);
+    })
 
 abbrev semName : ℕ → ℕ → State
-semName i x =
-    semaphoresWith (set (goodSemaphores .name) i x) (goodSemaphores .serial) (goodSemaphores .units) (goodSemaphores .live) (goodSemaphores .fifo)
+semName i x = semaphoresWith 0 i x false
 
 abbrev semSerial : ℕ → ℕ → State
-semSerial i x =
-    semaphoresWith (goodSemaphores .name) (set (goodSemaphores .serial) i x) (goodSemaphores .units) (goodSemaphores .live) (goodSemaphores .fifo)
+semSerial i x = semaphoresWith 1 i x false
 
 abbrev units : ℕ → ℕ → State
-units i x =
-    semaphoresWith (goodSemaphores .name) (goodSemaphores .serial) (set (goodSemaphores .units) i x) (goodSemaphores .live) (goodSemaphores .fifo)
+units i x = semaphoresWith 2 i x false
 
 abbrev semLive : ℕ → Bool → State
-semLive i b =
-    semaphoresWith (goodSemaphores .name) (goodSemaphores .serial) (goodSemaphores .units) (set (goodSemaphores .live) i b) (goodSemaphores .fifo)
+semLive i b = semaphoresWith 3 i 0 b
 
 abbrev fifo : ℕ → Bool → State
-fifo i b =
-    semaphoresWith (goodSemaphores .name) (goodSemaphores .serial) (goodSemaphores .units) (goodSemaphores .live) (set (goodSemaphores .fifo) i b)
+fifo i b = semaphoresWith 4 i 0 b
 
--- of pool i: its marks and its name; its area and its buffer size; its serial and its option
-abbrev poolsWith : List ℕ → List ℕ → List ℕ → List ℕ → List ℕ → List ℕ → List Bool → State
-poolsWith out name address length size serial forced =
+-- of pool i
+abbrev poolsWith : ℕ → ℕ → ℕ → Bool → State
+poolsWith meant i x b =
     pools
     (record {
-      out = out;
-      name = name;
-      address = address;
-      length = length;
-      size = size;
-      serial = serial;
-      live = goodPools .live;
-      forced = forced;
+      out = numbers meant i x 0 (goodPools .out);
+      name = numbers meant i x 1 (goodPools .name);
+      address = numbers meant i x 2 (goodPools .address);
+      length = numbers meant i x 3 (goodPools .length);
+      size = numbers meant i x 4 (goodPools .size);
+      serial = numbers meant i x 5 (goodPools .serial);
+      live = marks meant i b 6 (goodPools .live);
+      forced = marks meant i b 7 (goodPools .forced);
     })
 
 abbrev marked : ℕ → ℕ → State
-marked i x =
-    poolsWith (set (goodPools .out) i x) (goodPools .name) (goodPools .address) (goodPools .length) (goodPools .size) (goodPools .serial) (goodPools .forced)
+marked i x = poolsWith 0 i x false
 
 abbrev poolName : ℕ → ℕ → State
-poolName i x =
-    poolsWith (goodPools .out) (set (goodPools .name) i x) (goodPools .address) (goodPools .length) (goodPools .size) (goodPools .serial) (goodPools .forced)
+poolName i x = poolsWith 1 i x false
 
 abbrev address : ℕ → ℕ → State
-address i x =
-    poolsWith (goodPools .out) (goodPools .name) (set (goodPools .address) i x) (goodPools .length) (goodPools .size) (goodPools .serial) (goodPools .forced)
+address i x = poolsWith 2 i x false
 
 abbrev long : ℕ → ℕ → State
-long i x =
-    poolsWith (goodPools .out) (goodPools .name) (goodPools .address) (set (goodPools .length) i x) (goodPools .size) (goodPools .serial) (goodPools .forced)
+long i x = poolsWith 3 i x false
 
 abbrev size : ℕ → ℕ → State
-size i x =
-    poolsWith (goodPools .out) (goodPools .name) (goodPools .address) (goodPools .length) (set (goodPools .size) i x) (goodPools .serial) (goodPools .forced)
+size i x = poolsWith 4 i x false
 
 abbrev poolSerial : ℕ → ℕ → State
-poolSerial i x =
-    poolsWith (goodPools .out) (goodPools .name) (goodPools .address) (goodPools .length) (goodPools .size) (set (goodPools .serial) i x) (goodPools .forced)
+poolSerial i x = poolsWith 5 i x false
 
 abbrev forced : ℕ → Bool → State
-forced i b =
-    poolsWith (goodPools .out) (goodPools .name) (goodPools .address) (goodPools .length) (goodPools .size) (goodPools .serial) (set (goodPools .forced) i b)
+forced i b = poolsWith 7 i 0 b
 
 -- a rule, and states that break it
 pub record Broken : Type 0 where
