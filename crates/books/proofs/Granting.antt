@@ -47,7 +47,7 @@ module _ (s : State) where
   by-kind x other (task-moves c) = record { kind = inl refl }
   by-kind x other (sems-change c) = record { kind = inl refl }
   by-kind x other (pools-change c) = record { kind = inl refl }
-  by-kind x other (caller-waits at i e f g) = record { kind = inl refl }
+  by-kind x other (caller-waits at i e f g time) = record { kind = inl refl }
   by-kind x other (first-woken at i e f) = absurd (other at)
   by-kind x other (sem-deleted at i e) = record { kind = inr refl }
   by-kind x other (time-passes at) = record { kind = inr refl }

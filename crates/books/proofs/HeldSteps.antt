@@ -22,13 +22,13 @@ use Rattle.scope.specs.Views.{withPools}
 use Rattle.scope.specs.Answers.{answer, plain, gives, badState, onFound}
 use Rattle.scope.specs.Calls.{callAt}
 use Rattle.scope.specs.Pools.{poolFound, poolBuffers, poolBorn, poolGone, withOut, poolCreateAt, poolCreate, poolDeleteAt, poolGetBuffer, poolGetBuffAt, poolRetBuffer, poolRetBuffAt}
+use Rattle.scope.proofs.Rows.{by-choice}
 use Rattle.laws.proofs.Branches.{both-true, true-false, picked-yes, picked-no, eq-or-not}
 use Rattle.laws.proofs.Searches.{least-true}
 use Rattle.tables.proofs.Laws.{found-names, found-live, found-slot, usable-at, usable-free}
 use Rattle.areas.proofs.Buffers.{found-is}
 use Rattle.histories.specs.Sound.{Sound}
 use Rattle.histories.specs.History.{Event, answerTo}
-use Rattle.histories.proofs.Refused.{by-choice}
 use Rattle.histories.proofs.Pools.{row-says}
 use Rattle.histories.proofs.Tables.{later-gone, came-kept, came-born, born-found}
 use Rattle.histories.proofs.Answered.{by-name, by-number}

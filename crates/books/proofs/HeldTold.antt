@@ -20,6 +20,7 @@ use Rattle.scope.specs.Areas.{isArea, isSize, isOut, isFree, lowestFree, freeOf
 use Rattle.scope.specs.Answers.{answer, plain, gives, badState, onFound}
 use Rattle.scope.specs.Calls.{callAt}
 use Rattle.scope.specs.Pools.{poolFound, poolBuffers, poolInfoAt, poolDeleteAt, poolGetBuffer, poolGetBuffAt, poolRetBuffer, poolRetBuffAt}
+use Rattle.scope.proofs.Rows.{by-choice}
 use Rattle.laws.proofs.Branches.{both-true, second-decides, not-of-false, picked-yes, picked-no, true-false, true-or-false, eq-or-not}
 use Rattle.laws.proofs.Searches.{least-below}
 use Rattle.laws.proofs.Once.{Once, has-here}
@@ -27,7 +28,6 @@ use Rattle.tables.proofs.Laws.{found-below, found-live}
 use Rattle.areas.proofs.Buffers.{count, starts, found-is}
 use Rattle.histories.specs.Sound.{Sound}
 use Rattle.histories.specs.History.{Event, answerTo}
-use Rattle.histories.proofs.Refused.{by-choice}
 use Rattle.histories.proofs.Pools.{row-says}
 use Rattle.histories.proofs.Marks.{free-or-out, none-out}
 use Rattle.histories.proofs.Answered.{by-name, by-number}

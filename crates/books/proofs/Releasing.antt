@@ -22,13 +22,13 @@ use Rattle.scope.specs.Waiting.{wakeNext}
 use Rattle.scope.specs.Semaphores.{semFound, semReleaseAt}
 use Rattle.scope.specs.Replies.{Wake, wakesFrom, replyOf}
 use Rattle.scope.specs.Fresh.{freshState}
+use Rattle.scope.proofs.Rows.{by-choice}
 use Rattle.laws.proofs.Branches.{true-false}
 use Rattle.laws.proofs.Searches.{least-true}
 use Rattle.tables.proofs.Laws.{found-below, found-slot, found-identifier}
 use Rattle.seats.specs.Rule.{In}
 use Rattle.histories.specs.History.{Event, answerTo, after, SemaphoreAt}
 use Rattle.histories.specs.Order.{arrivals, WaitsFor, Grant}
-use Rattle.histories.proofs.Refused.{by-choice}
 use Rattle.histories.proofs.Answered.{by-name, by-number}
 use Rattle.histories.proofs.Order.{history-grants}
 use Rattle.histories.proofs.Demand.{end-sound}

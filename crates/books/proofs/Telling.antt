@@ -343,7 +343,7 @@ module _ (s : State) (ok : Sound s) (x : Event) where
   deed-steps (task-moves c) = move-steps c
   deed-steps (sems-change c) = sem-steps c
   deed-steps (pools-change c) = pools-steps c
-  deed-steps (caller-waits at i e f g) = pending-steps at (x .c) i e (leb-false 32 (s .running) g)
+  deed-steps (caller-waits at i e f g time) = pending-steps at (x .c) i e (leb-false 32 (s .running) g)
   deed-steps (first-woken at i e f) = woken-steps at (firstOf (l .seat) (queueSeats i)) (ltb-true _ 32 f)
   deed-steps (sem-deleted at i e) = sem-delete-steps at i e
   deed-steps (time-passes at) = tick-steps at

@@ -24,11 +24,10 @@ use Rattle.scope.specs.Semaphores.{semCreateAt, semCreate, semDeleteAt, semDele
 use Rattle.scope.specs.Pools.{poolCreateAt, poolCreate, poolDeleteAt, poolDelete, poolIdentAt, poolIdent, poolGetBuffer, poolGetBuffAt, poolGetBuff, poolRetBuffer, poolRetBuffAt, poolRetBuff, poolInfoAt, poolInfo}
 use Rattle.scope.specs.Ticks.{isDue, wakeDue, tick}
 use Rattle.scope.specs.Calls.{calls}
-use Rattle.scope.proofs.Rows.{either}
+use Rattle.scope.proofs.Rows.{either, by-choice}
 use Rattle.laws.proofs.Branches.{true-false, eq-or-not}
 use Rattle.histories.specs.Sound.{Sound}
 use Rattle.histories.specs.History.{Event, answerTo}
-use Rattle.histories.proofs.Refused.{by-choice}
 use Rattle.histories.proofs.Answered.{Rows, none, more, by-name, by-row, Does}
 use Rattle.books.specs.Past.{isAnswer}
 use Rattle.books.proofs.Agreeing.{turnOf, is-answer}

@@ -19,13 +19,13 @@ use Rattle.scope.specs.Answers.{answer, plain, gives, badState, wakesWith}
 use Rattle.scope.specs.Semaphores.{semFound, semCreateAt, semCreate, semReleaseAt}
 use Rattle.scope.specs.Replies.{Wake, wakeList}
 use Rattle.scope.specs.Fresh.{freshState}
+use Rattle.scope.proofs.Rows.{by-choice}
 use Rattle.laws.proofs.Branches.{both, both-true, first-fails, true-or-false, eq-or-not, picked-yes, picked-no}
 use Rattle.tables.proofs.Laws.{found-below, found-identifier}
 use Rattle.histories.specs.Sound.{Sound}
 use Rattle.histories.specs.History.{Event, answerTo, after, total, SemaphoreAt}
 use Rattle.histories.specs.Order.{Arrivals, noArrivals}
 use Rattle.histories.specs.Books.{answeredOK, releases as releasesOf, grants as grantsOf}
-use Rattle.histories.proofs.Refused.{by-choice}
 use Rattle.histories.proofs.Answered.{by-name, by-number, by-call, by-other, by-status, counts-as, Creates}
 use Rattle.histories.proofs.Tables.{issued-still, live-issued}
 use Rattle.histories.proofs.Units.{semaphores-entered}

@@ -13,7 +13,7 @@ use borrow.Author.Tests.{eq-eqb, ne-eqb}
 use Rattle.scope.specs.declared.State.{State}
 use Rattle.scope.specs.declared.Answer.{Answer}
 use Rattle.scope.specs.Answers.{plain}
-use Rattle.scope.specs.Calls.{callAt}
+use Rattle.scope.specs.Calls.{knownCalls, callAt}
 use Rattle.scope.specs.Step.{callerRefusal, answered}
 
 past : (k x : ℕ) → k ≤ x → (x ≡ k → ⊥) → k + 1 ≤ x
@@ -34,12 +34,12 @@ pub last-of-seven : (k x : ℕ) → k ≤ x → x < k + 1 + 6 → (x ≡ k → �
 last-of-seven k x a b e0 e1 e2 e3 e4 e5 = last-of-six (k + 1) x (past k x a e0) b e1 e2 e3 e4 e5
 
 -- a call that no caller's test refuses is one of the table's
-pub known-call : (call mark running : ℕ) → callerRefusal call mark running ≡ 0 → call < 20
+pub known-call : (call mark running : ℕ) → callerRefusal call mark running ≡ 0 → call < knownCalls
 unfolding callerRefusal
 known-call call mark running e =
     ⊎-elim (λ h. h)
-    (λ h. let z : 25 ≡ 0 = sym (picked-yes _ 25 _ (le-leb 20 call h)) ∙ e in absurd (omega arith))
-    (lt-or-le call 20)
+    (λ h. let z : 25 ≡ 0 = sym (picked-yes _ 25 _ (le-leb knownCalls call h)) ∙ e in absurd (omega arith))
+    (lt-or-le call knownCalls)
 
 -- the answer by what the caller's test `r` says
 module _ (s : State) (call mark a b c d e r : ℕ) (is : r ≡ callerRefusal call mark (s .running)) where

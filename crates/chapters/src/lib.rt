@@ -3,7 +3,7 @@
 use answers::Outcome;
 ghost use mathlib.Core.Path.{_≡_};
 ghost use Prim.Native.Nat.{ℕ, _<_, _≤_};
-ghost use Rattle.scope.specs.Calls.{callAt};
+ghost use Rattle.scope.specs.Calls.{knownCalls, callAt};
 ghost use Rattle.scope.specs.Step.{callerRefusal, answered};
 ghost use Rattle.scope.specs.declared.State.{State};
 ghost use Rattle.scope.specs.Answers.{noWakes};
@@ -220,7 +220,7 @@ fn pool_call(
     d: u32,
     e: u32,
 ) -> Outcome
-    requires { ⌜ (14 ≤ call) × (call < 20) ⌝ }
+    requires { ⌜ (14 ≤ call) × (call < knownCalls) ⌝ }
     ensures { λ r. ⌜ ((s : State) → answerOf (lentPools s (now (out .exit)) (now (name .exit)) (now (address .exit)) (now (length .exit))
         (now (size .exit)) (now (serial .exit)) (now (live .exit)) (now (forced .exit)) running) noWakes r
         ≡ callAt call .does (lentPools s (now (out .entry)) (now (name .entry)) (now (address .entry)) (now (length .entry))

@@ -31,7 +31,7 @@ module _ {A : Type 0} (part : State → A) (s : State) (x : Event) (tasks : (r :
   deed-spares (task-moves {k} c) = lines (withTasks s k) _ ∙ tasks s k
   deed-spares (sems-change c) = sems _ _ c
   deed-spares (pools-change c) = pools _ _ c
-  deed-spares (caller-waits at i e f g) = lines s _
+  deed-spares (caller-waits at i e f g time) = lines s _
   deed-spares (first-woken at i e f) = lines s _
   deed-spares (sem-deleted at i e) = lines (withSemaphores s _) _ ∙ gone at _
   deed-spares (time-passes at) = lines s _

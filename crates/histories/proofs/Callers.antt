@@ -13,15 +13,11 @@ use Rattle.scope.specs.declared.Answer.{Answer}
 use Rattle.scope.specs.Choice.{every}
 use Rattle.scope.specs.Statuses.{OK, PENDING, ILLEGAL-USE, NO-CALLER, BAD-CALL, BAD-STATE}
 use Rattle.scope.specs.Answers.{plain}
-use Rattle.scope.specs.Calls.{Call, callAt, mayCall}
+use Rattle.scope.specs.Calls.{Call, knownCalls, callAt, mayCall}
 use Rattle.scope.specs.Step.{callerRefusal, answered}
 use Rattle.scope.proofs.Rows.{by-choice}
 use Rattle.laws.proofs.Branches.{both-true, true-false, picked-yes}
 use Rattle.laws.proofs.Searches.{every-at}
-
--- the table's calls are numbered below this
-abbrev pub known : ℕ
-known = 20
 
 -- the row lists the status
 abbrev pub has : List ℕ → ℕ → Bool
@@ -64,13 +60,13 @@ callers-says c e =
       illegal = λ h. sym (ap (λ (b : Bool). elim b as (λ x. Bool) [ true ↦ true | false ↦ fits (c .statuses) ILLEGAL-USE ]) h) ∙ r .1;
     }
 
-all-call : every (λ n. callers (callAt n)) known ≡ true
+all-call : every (λ n. callers (callAt n)) knownCalls ≡ true
 unfolding every
 all-call = refl
 
-module _ (call : ℕ) (below : call < known) where
+module _ (call : ℕ) (below : call < knownCalls) where
   row-callers : Callers (callAt call)
-  row-callers = callers-says (callAt call) (every-at (λ n. callers (callAt n)) known all-call call below)
+  row-callers = callers-says (callAt call) (every-at (λ n. callers (callAt n)) knownCalls all-call call below)
 
   pub listed-broken : has (callAt call .statuses) BAD-STATE ≡ true
   listed-broken = row-callers .broken
@@ -85,7 +81,7 @@ module _ (call : ℕ) (below : call < known) where
   unfolding callerRefusal mayCall
   refusal-fits mark running =
       let P : ℕ → Type 0 = λ x. eqb x OK ≡ false → fits (callAt call .statuses) x ≡ true in
-      by-choice P (leb known call) (λ e. absurd (omega (arith, leb-true known call e)))
+      by-choice P (leb knownCalls call) (λ e. absurd (omega (arith, leb-true knownCalls call e)))
       (λ e. by-choice P (ltb 1 mark) (λ f z. row-callers .bad)
       (λ f. by-choice P (eqb mark 0)
       (λ g. by-choice P (mayCall call 0) (λ h. by-choice P (ltb running 32) (λ i z. absurd (true-false refl z)) (λ i z. row-callers .nobody h)) (λ h z. row-callers .bad))
@@ -103,8 +99,8 @@ not-pending call mark running =
     (λ g. by-choice P _ (λ h. refl) (λ h. refl))))
 
 -- an unknown call
-pub unknown : (s : State) (call mark a b c d e : ℕ) → 20 ≤ call → answered s call mark a b c d e ≡ plain s BAD-CALL
+pub unknown : (s : State) (call mark a b c d e : ℕ) → knownCalls ≤ call → answered s call mark a b c d e ≡ plain s BAD-CALL
 unfolding answered callerRefusal
 unknown s call mark a b c d e h =
     ap (λ (x : ℕ). elim (eqb x OK) as (λ y. Answer) [ true ↦ callAt call .does s a b c d e | false ↦ plain s x ])
-    (picked-yes (leb known call) BAD-CALL _ (le-leb known call h))
+    (picked-yes (leb knownCalls call) BAD-CALL _ (le-leb knownCalls call h))

@@ -5,10 +5,12 @@
 use Prim.Native.Nat.{ℕ, _+_, _-_, _^_, _≤_, _<_}
 use native.Mathlib.Omega.{arith}
 use mathlib.Core.Path.{_≡_, refl, sym, ap, _∙_}
+use mathlib.Core.Logic.{⊎-elim}
 use mathlib.Core.Bool.{Bool, true, false, not, _&&_}
 use mathlib.Core.List.{[], _∷_}
 use lib.ListN.{length, getD}
 use lib.Dec.{ltb, leb, eqb}
+use borrow.Author.Tests.{ltb-false, eqb-false, eq-eqb}
 use Rattle.scope.specs.declared.State.{State}
 use Rattle.scope.specs.declared.Line.{Line}
 use Rattle.scope.specs.declared.Tasks.{Tasks}
@@ -26,19 +28,19 @@ use Rattle.scope.specs.Views.{withLine, withTasks, withSemaphores, withPools, w
 use Rattle.scope.specs.Answers.{answer, plain, gives, badState, wakesWith, onFound}
 use Rattle.scope.specs.Tasks.{lastPriority, taskFound, taskBorn, taskGone, withStarted, withSuspended, withPriority, readied}
 use Rattle.scope.specs.Tasks.{taskCreateAt, taskCreate, taskDeleteAt, taskDelete, taskIdentAt, taskIdent, taskStartAt, taskStart, taskSuspendAt, taskSuspend, taskResumeAt, taskResume, taskSetPriorityAt, taskSetPriority}
-use Rattle.scope.specs.Waiting.{wakeNext, noneWoken, waits}
+use Rattle.scope.specs.Waiting.{isTimeOut, wakeNext, noneWoken, waits}
 use Rattle.scope.specs.Semaphores.{lastCount, lastOption, semFound, semBorn, withUnits}
 use Rattle.scope.specs.Semaphores.{semCreateAt, semCreate, semDeleteAt, semDelete, semIdentAt, semIdent, semWaitAt, semClaimAt, semClaim, semReleaseAt, semRelease, semInfoAt, semInfo}
 use Rattle.scope.specs.Pools.{poolFound, poolBuffers, overlapped, poolBorn, poolGone, withOut}
 use Rattle.scope.specs.Pools.{poolCreateAt, poolCreate, poolDeleteAt, poolDelete, poolIdentAt, poolIdent, poolGetBuffer, poolGetBuffAt, poolGetBuff, poolRetBuffer, poolRetBuffAt, poolRetBuff, poolInfoAt, poolInfo}
 use Rattle.scope.specs.Ticks.{tick}
-use Rattle.scope.specs.Calls.{Call, calls, callAt}
+use Rattle.scope.specs.Calls.{Call, knownCalls, calls, callAt}
 use Rattle.scope.specs.Rules.{sound}
 use Rattle.scope.specs.Step.{callerRefusal, answered, stepped}
 use Rattle.scope.proofs.Rows.{Rows, none, more, row-at, by-choice}
-use Rattle.laws.proofs.Branches.{both-true, true-false}
+use Rattle.laws.proofs.Branches.{both, both-true, first-decides, not-of-false, true-false, true-or-false}
 use Rattle.histories.specs.History.{Event, answerTo}
-use Rattle.histories.proofs.Callers.{known, has, fits, refusal-fits, not-pending, listed-bad}
+use Rattle.histories.proofs.Callers.{has, fits, refusal-fits, not-pending, listed-bad}
 
 -- the slots that creation takes
 abbrev pub newTask : State → ℕ
@@ -123,7 +125,7 @@ pub data PoolChange (s : State) (x : Event) : Pools → ℕ → Type 0 where
 pub data Deed (s : State) (x : Event) : Answer → Type 0 where
   -- "A refusal (any status but 0 and 1)", which the call's row lists
   refused : (status : ℕ) → eqb status OK ≡ false → eqb status PENDING ≡ false
-      → (x .call < known → fits (callAt (x .call) .statuses) status ≡ true) → Deed s x (plain s status)
+      → (x .call < knownCalls → fits (callAt (x .call) .statuses) status ≡ true) → Deed s x (plain s status)
   tells : (call : ℕ) → x .call ≡ call → asks call ≡ true → (v0 v1 v2 v3 : ℕ) (negative : Bool) → Deed s x (answer s OK v0 v1 v2 v3 negative)
   tasks-change : {k : Tasks} {v : ℕ} → TaskChange s x k v → Deed s x (answer (withTasks s k) OK v 0 0 0 false)
   task-moves : {k : Tasks} {l : Line} {v : ℕ} → TaskMove s x k l v → Deed s x (answer (withLine (withTasks s k) l) OK v 0 0 0 false)
@@ -131,6 +133,7 @@ pub data Deed (s : State) (x : Event) : Answer → Type 0 where
   pools-change : {p : Pools} {v : ℕ} → PoolChange s x p v → Deed s x (answer (withPools s p) OK v 0 0 0 false)
   -- "below 0 the caller joins the queue"
   caller-waits : x .call ≡ 11 → (i : ℕ) → semFound s (x .a) ≡ At i → ltb 0 (getD (s .semaphores .units) i 0) ≡ false → leb 32 (s .running) ≡ false
+      → isTimeOut (x .c) ≡ true
       → Deed s x (answer
       (withLine s (waits (s .line) i (getD (s .semaphores .fifo) i false) (getD (s .tasks .priority) (s .running) 0) (x .c) (s .running)))
       PENDING 0 0 0 0 false)
@@ -177,6 +180,14 @@ own call status = fits (callAt call .statuses) status && (not (eqb status OK) &&
 not-true : (b : Bool) → not b ≡ true → b ≡ false
 not-true true e = absurd (true-false refl (sym e))
 not-true false e = refl
+
+-- who is to wait for a unit asks for a time_out: with NOWAIT it would be refused
+timed : (options ticks : ℕ) (some : Bool) → ltb lastOption options ≡ false → (eqb options 0 && not (isTimeOut ticks)) ≡ false
+    → (eqb options 1 && not some) ≡ false → some ≡ false → isTimeOut ticks ≡ true
+timed options ticks some e f g z =
+    let h : eqb options 1 ≡ false = sym (first-decides (eqb options 1) (not some) (not-of-false some z)) ∙ g in
+    let o : options ≡ 0 = omega (arith, ltb-false lastOption options e, eqb-false options 1 h) in
+    ⊎-elim (λ y. y) (λ n. absurd (true-false (both _ _ (eq-eqb options 0 o) (not-of-false (isTimeOut ticks) n)) f)) (true-or-false (isTimeOut ticks))
 
 module _ (s : State) (x : Event) where
   no : {call : ℕ} → x .call ≡ call → (status : ℕ) → own call status ≡ true → Deed s x (plain s status)
@@ -255,7 +266,7 @@ module _ (s : State) (x : Event) where
       (λ i e. choose _ (λ f. no at _ refl)
       (λ f. choose _ (λ g. no at _ refl)
       (λ g. choose _ (λ h. no at _ refl)
-      (λ h. choose _ (λ j. sems-change (unit-claimed at i e j)) (λ j. choose _ (λ n. no at _ refl) (λ n. caller-waits at i e j n))))))
+      (λ h. choose _ (λ j. sems-change (unit-claimed at i e j)) (λ j. choose _ (λ n. no at _ refl) (λ n. caller-waits at i e j n (timed (x .b) (x .c) _ f g h j)))))))
 
   sem-release : x .call ≡ 12 → Deed s x (semRelease s (x .a))
   unfolding semReleaseAt plain

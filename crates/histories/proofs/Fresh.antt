@@ -14,9 +14,9 @@ use Rattle.scope.specs.Areas.{isArea, isSize, buffersOf, shareByte}
 use Rattle.scope.specs.Waiting.{isTimeOut}
 use Rattle.scope.specs.Rules.{seatRight, seatsRight, readyRight, readyOrderRight, waitRight, waitsRight, joinedRight, queuesSorted, countRight, countsRight, startRight, startsRight, taskRight, tasksRight, semRight, semsRight, admitted, poolRight, poolsRight, pairShares, poolsApart, runningRight, keeps, sound}
 use Rattle.scope.specs.Fresh.{freshState, fresh}
+use Rattle.scope.proofs.Rows.{by-choice}
 use Rattle.laws.proofs.Searches.{every-at}
 use Rattle.histories.specs.Sound.{Sized, Sound}
-use Rattle.histories.proofs.Refused.{by-choice}
 use Rattle.histories.proofs.Meaning.{sound-says}
 
 fresh-passes : every (λ p. sound (freshState p)) 16 ≡ true

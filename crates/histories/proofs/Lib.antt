@@ -1,4 +1,3 @@
-pub mod Refused
 pub mod Tests
 pub mod Ruled
 pub mod Parts

@@ -57,7 +57,7 @@ module _ (s : State) where
     by-kind (task-moves c) = moved c
     by-kind (sems-change c) = same
     by-kind (pools-change c) = same
-    by-kind (caller-waits at i e f g) = same
+    by-kind (caller-waits at i e f g time) = same
     by-kind (first-woken at i e f) = same
     by-kind (sem-deleted at i e) = same
     by-kind (time-passes at) = same

@@ -182,7 +182,7 @@ module _ (s : State) (ok : Sound s) (x : Event) where
   deed-fair (task-moves c) = let h = move-call c in elsewhere _ refl (λ z. omega arith) (λ z. omega arith) (λ z. omega arith)
   deed-fair (sems-change c) = let h = sem-call c .1 in elsewhere _ refl (λ z. omega arith) (λ z. omega arith) (λ z. omega arith)
   deed-fair (pools-change c) = pool-fair c
-  deed-fair (caller-waits at i e f g) = refusal _ refl refl
+  deed-fair (caller-waits at i e f g time) = refusal _ refl refl
   deed-fair (first-woken at i e f) = elsewhere _ refl (λ z. omega arith) (λ z. omega arith) (λ z. omega arith)
   deed-fair (sem-deleted at i e) = elsewhere _ refl (λ z. omega arith) (λ z. omega arith) (λ z. omega arith)
   deed-fair (time-passes at) = elsewhere _ refl (λ z. omega arith) (λ z. omega arith) (λ z. omega arith)

@@ -24,6 +24,7 @@ use Rattle.scope.specs.Waiting.{wakeNext}
 use Rattle.scope.specs.Semaphores.{semReleaseAt, semRelease}
 use Rattle.scope.specs.Step.{callerRefusal, answered, stepped}
 use Rattle.scope.specs.Fresh.{freshState, fresh}
+use Rattle.scope.proofs.Rows.{by-choice}
 use Rattle.laws.proofs.Branches.{lt-or-le, true-false, picked-yes, picked-no, first-fails, not-of-true}
 use Rattle.tables.proofs.Laws.{found-below}
 use Rattle.seats.specs.Rule.{In}
@@ -31,7 +32,6 @@ use Rattle.seats.proofs.First.{first-is}
 use Rattle.histories.specs.Sound.{Sound}
 use Rattle.histories.specs.History.{Event, answerTo, after, SemaphoreAt}
 use Rattle.histories.specs.Order.{Arrivals, arrives, arrivedAfter, noArrivals, arrivals, Ahead, WaitsFor, Precedes, InOrder, Grant}
-use Rattle.histories.proofs.Refused.{by-choice}
 use Rattle.histories.proofs.Refusals.{by-rules}
 use Rattle.histories.proofs.Fresh.{fresh-always}
 use Rattle.histories.proofs.Stays.{step-keeps}

@@ -12,11 +12,11 @@ use Rattle.scope.specs.Statuses.{OK, PENDING}
 use Rattle.scope.specs.Answers.{answer, plain, wakesWith}
 use Rattle.scope.specs.Semaphores.{semDeleteAt}
 use Rattle.scope.specs.Ticks.{tick}
-use Rattle.scope.specs.Calls.{callAt}
+use Rattle.scope.specs.Calls.{knownCalls, callAt}
 use Rattle.scope.specs.Step.{answered}
 use Rattle.histories.specs.History.{Event}
 pub use Rattle.histories.proofs.Callers.{has, fits, listed-broken, unknown}
-use Rattle.histories.proofs.Callers.{known, listed-done}
+use Rattle.histories.proofs.Callers.{listed-done}
 use Rattle.histories.proofs.Deeds.{Deed, refused, tells, tasks-change, task-moves, sems-change, pools-change, caller-waits, first-woken, sem-deleted, time-passes, deed}
 
 -- an answer to a call that was made on state s and whose row lists these statuses
@@ -24,7 +24,7 @@ pub record Outcome (s : State) (row : List ℕ) (a : Answer) : Type 0 where
   pub listed : fits row (a .status) ≡ true
   pub kind : (a .status ≡ OK) ⊎ ((a .status ≡ PENDING) ⊎ (a ≡ plain s (a .status)))
 
-module _ (s : State) (x : Event) (below : x .call < known) where
+module _ (s : State) (x : Event) (below : x .call < knownCalls) where
   abbrev row : List ℕ
   row = callAt (x .call) .statuses
 
@@ -39,13 +39,13 @@ module _ (s : State) (x : Event) (below : x .call < known) where
   outcome (task-moves c) = done refl
   outcome (sems-change c) = done refl
   outcome (pools-change c) = done refl
-  outcome (caller-waits at i e f g) = record { listed = ap (λ (c : ℕ). fits (callAt c .statuses) PENDING) at; kind = inr (inl refl) }
+  outcome (caller-waits at i e f g time) = record { listed = ap (λ (c : ℕ). fits (callAt c .statuses) PENDING) at; kind = inr (inl refl) }
   outcome (first-woken at i e f) = done refl
   outcome (sem-deleted at i e) = done refl
   outcome (time-passes at) = done refl
 
 -- the answer on a state that keeps the rules
-pub answered-outcome : (call : ℕ) → call < 20 → (s : State) (mark a b c d e : ℕ) → Outcome s (callAt call .statuses) (answered s call mark a b c d e)
+pub answered-outcome : (call : ℕ) → call < knownCalls → (s : State) (mark a b c d e : ℕ) → Outcome s (callAt call .statuses) (answered s call mark a b c d e)
 answered-outcome call below s mark a b c d e =
     let x : Event = record { call = call; mark = mark; a = a; b = b; c = c; d = d; e = e } in
     outcome s x below (deed s x)

@@ -13,10 +13,11 @@ use lib.Pow.{pow-pos}
 use borrow.Author.Tests.{lt-ltb, le-leb, ltb-true, ltb-false, leb-true, leb-false, not-false}
 use Rattle.scope.specs.declared.State.{State}
 use Rattle.scope.specs.declared.Pools.{Pools}
+use Rattle.scope.specs.declared.Found.the-variants.{At}
 use Rattle.scope.specs.Choice.{pick}
 use Rattle.scope.specs.Areas.{isArea, isSize, buffersOf, isFree, lowestFree}
 use Rattle.scope.specs.Views.{withPools}
-use Rattle.scope.specs.Pools.{poolFound, poolBuffers, overlaps, overlapped, poolBorn, poolGone, withOut, poolCreateAt, poolCreate, poolDeleteAt, poolDelete, poolIdentAt, poolIdent, poolGetBuffer, poolGetBuffAt, poolGetBuff, poolRetBuffer, poolRetBuffAt, poolRetBuff, poolInfoAt, poolInfo}
+use Rattle.scope.specs.Pools.{poolFound, poolBuffers, overlaps, overlapped, poolBorn, poolGone, withOut}
 use Rattle.scope.specs.Rules.{admitted, poolRight, pairShares}
 use Rattle.laws.proofs.Arrays.{cleared}
 use Rattle.laws.proofs.Branches.{picked-yes, both, both-true, lt-or-le, eq-or-not}
@@ -26,7 +27,8 @@ use Rattle.areas.proofs.Marks.{take-fits, back-below}
 use Rattle.areas.proofs.Bytes.{share-swap, apart-at, apart-all}
 use Rattle.histories.specs.Sound.{PoolsSized, PoolsSound, Sound}
 use Rattle.histories.proofs.Tests.{chosen-yes}
-use Rattle.histories.proofs.Refused.{by-choice, Kept, answer-kept, plain-kept, gives-kept, found-kept}
+use Rattle.histories.specs.History.{Event}
+use Rattle.histories.proofs.Deeds.{newPool, freeBuffer, PoolChange, pool-created, pool-deleted, buffer-got, buffer-returned}
 
 pair-swap : (p : Pools) (i j : ℕ) → pairShares p i j ≡ pairShares p j i
 unfolding pairShares
@@ -185,78 +187,27 @@ pools-kept p sound h =
       running = sound .running;
     }
 
-module _ (s : State) (sound : Sound s) where
-  -- creation in a slot; the area and the buffer size were tested before
-  pub poolCreateAt-sound : (name address n size options i : ℕ) → isArea address n ≡ true → isSize n size ≡ true
-      → Kept (poolCreateAt s name address n size options i)
-  unfolding poolCreateAt
-  poolCreateAt-sound name address n size options i area sized =
-      by-choice Kept _ (λ e. plain-kept _ sound)
-      (λ room. by-choice Kept _ (λ e. plain-kept _ sound)
-      (λ none. gives-kept _ (pools-kept _ sound
-      (born-sound (s .pools) (sound .pools) i (leb-false 8 i room) name address n size (eqb options 1) area sized (ltb-false _ 8 none)))))
+module _ (s : State) (sound : Sound s) (x : Event) where
+  -- what an identifier names is a live pool
+  named-pool : (i : ℕ) → poolFound s (x .a) ≡ At i → (i < 8) × (getD (s .pools .live) i false ≡ true)
+  named-pool i e = let n = found-names _ _ (x .a) e in (omega (arith, n .below, sound .pools .sized .serials), n .alive)
 
-  pub poolCreate-sound : (name address n size options : ℕ) → Kept (poolCreate s name address n size options)
-  unfolding poolCreate
-  poolCreate-sound name address n size options =
-      by-choice Kept _ (λ e. plain-kept _ sound)
-      (λ area. by-choice Kept _ (λ e. plain-kept _ sound)
-      (λ sized. by-choice Kept _ (λ e. plain-kept _ sound)
-      (λ e. poolCreateAt-sound name address n size options _ (not-false (isArea address n) area) (not-false (isSize n size) sized))))
-
-  pub poolIdentAt-sound : (i : ℕ) → Kept (poolIdentAt s i)
-  unfolding poolIdentAt
-  poolIdentAt-sound i = by-choice Kept _ (λ e. plain-kept _ sound) (λ e. gives-kept _ sound)
-
-  pub poolIdent-sound : (name : ℕ) → Kept (poolIdent s name)
-  unfolding poolIdent
-  poolIdent-sound name = poolIdentAt-sound _
-
-  pub poolInfoAt-sound : (i : ℕ) → Kept (poolInfoAt s i)
-  unfolding poolInfoAt
-  poolInfoAt-sound i = answer-kept _ _ _ _ _ _ sound
-
-  module _ (i : ℕ) (room : i < 8) where
-    pub poolDeleteAt-sound : Kept (poolDeleteAt s i)
-    unfolding poolDeleteAt
-    poolDeleteAt-sound =
-        by-choice Kept _ (λ e. plain-kept _ sound) (λ e. plain-kept _ (pools-kept _ sound (gone-sound (s .pools) (sound .pools) i room)))
-
-    module _ (alive : getD (s .pools .live) i false ≡ true) where
-      marks : getD (s .pools .out) i 0 < 2 ^ poolBuffers (s .pools) i
-      marks = row-says (s .pools) (sound .pools) i room alive .2
-
-      other-marks : (out : ℕ) → out < 2 ^ poolBuffers (s .pools) i → Sound (withPools s (withOut (s .pools) i out))
-      other-marks out l = pools-kept _ sound (out-sound (s .pools) (sound .pools) i room alive out l)
-
-      pub poolGetBuffAt-sound : Kept (poolGetBuffAt s i)
-      unfolding poolGetBuffAt poolGetBuffer lowestFree
-      poolGetBuffAt-sound =
-          by-choice Kept _ (λ e. plain-kept _ sound)
-          (λ some. let l = leb-false (poolBuffers (s .pools) i) _ some in
-          gives-kept _ (other-marks _ (take-fits _ _ _ (least-true (isFree (getD (s .pools .out) i 0)) (poolBuffers (s .pools) i) l) l marks)))
-
-      pub poolRetBuffAt-sound : (x : ℕ) → Kept (poolRetBuffAt s x i)
-      unfolding poolRetBuffAt poolRetBuffer
-      poolRetBuffAt-sound x =
-          by-choice Kept _ (λ e. plain-kept _ sound) (λ e. plain-kept _ (other-marks _ (back-below _ _ _ marks)))
-
-  -- the calls with a pool's identifier: it names a live pool of the eight
-  module _ (id : ℕ) where
-    pub poolDelete-sound : Kept (poolDelete s id)
-    poolDelete-sound =
-        found-kept (poolFound s id) (poolDeleteAt s) sound
-        (λ i e. let n = found-names _ _ id e in poolDeleteAt-sound i (omega (arith, n .below, sound .pools .sized .serials)))
-
-    pub poolGetBuff-sound : Kept (poolGetBuff s id)
-    poolGetBuff-sound =
-        found-kept (poolFound s id) (poolGetBuffAt s) sound
-        (λ i e. let n = found-names _ _ id e in poolGetBuffAt-sound i (omega (arith, n .below, sound .pools .sized .serials)) (n .alive))
-
-    pub poolRetBuff-sound : (x : ℕ) → Kept (poolRetBuff s id x)
-    poolRetBuff-sound x =
-        found-kept (poolFound s id) (poolRetBuffAt s x) sound
-        (λ i e. let n = found-names _ _ id e in poolRetBuffAt-sound i (omega (arith, n .below, sound .pools .sized .serials)) (n .alive) x)
-
-    pub poolInfo-sound : Kept (poolInfo s id)
-    poolInfo-sound = found-kept (poolFound s id) (poolInfoAt s) sound (λ i e. poolInfoAt-sound i)
+  -- what the pool calls do, by what their tests showed
+  pub pool-sound : {p : Pools} {v : ℕ} → PoolChange s x p v → Sound (withPools s p)
+  unfolding lowestFree
+  pool-sound (pool-created at e f g h j) =
+      pools-kept _ sound
+      (born-sound (s .pools) (sound .pools) (newPool s) (leb-false 8 (newPool s) h) (x .a) (x .b) (x .c) (x .d) (eqb (x .e) 1)
+      (not-false (isArea (x .b) (x .c)) e) (not-false (isSize (x .c) (x .d)) f) (ltb-false _ 8 j))
+  pool-sound (pool-deleted at i e f) = pools-kept _ sound (gone-sound (s .pools) (sound .pools) i (named-pool i e .0))
+  pool-sound (buffer-got at i e f) =
+      let a = named-pool i e in
+      let n : ℕ = poolBuffers (s .pools) i in
+      let l : freeBuffer s i < n = leb-false n (freeBuffer s i) f in
+      pools-kept _ sound
+      (out-sound (s .pools) (sound .pools) i (a .0) (a .1) _
+      (take-fits _ _ _ (least-true (isFree (getD (s .pools .out) i 0)) n l) l (row-says (s .pools) (sound .pools) i (a .0) (a .1) .2)))
+  pool-sound (buffer-returned at i e f) =
+      let a = named-pool i e in
+      pools-kept _ sound
+      (out-sound (s .pools) (sound .pools) i (a .0) (a .1) _ (back-below _ _ _ (row-says (s .pools) (sound .pools) i (a .0) (a .1) .2)))

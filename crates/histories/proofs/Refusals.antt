@@ -14,7 +14,7 @@ use Rattle.scope.specs.Statuses.{OK, PENDING, BAD-STATE}
 use Rattle.scope.specs.Views.{runningTask}
 use Rattle.scope.specs.Answers.{answer, plain, badState}
 use Rattle.scope.specs.Rules.{sound}
-use Rattle.scope.specs.Calls.{callAt}
+use Rattle.scope.specs.Calls.{knownCalls, callAt}
 use Rattle.scope.specs.Step.{answered, stepped}
 use Rattle.laws.proofs.Branches.{lt-or-le, true-false, both-true, picked-no}
 use Rattle.histories.specs.Refusals.{Refusal}
@@ -46,7 +46,7 @@ answered-kind s call mark a b c d e =
     (λ h. let o : Outcome s (callAt call .statuses) (answered s call mark a b c d e) = answered-outcome call h s mark a b c d e in
     record { good = not-bad _ (both-true (has (callAt call .statuses) (answered s call mark a b c d e .status)) _ (o .listed) .1); kind = o .kind })
     (λ h. subst (Kind s) (sym (unknown s call mark a b c d e h)) (record { good = refl; kind = inr (inr refl) }))
-    (lt-or-le call 20)
+    (lt-or-le call knownCalls)
 
 plain-refusal : (s : State) (x : ℕ) → eqb x BAD-STATE ≡ false → Refusal s (plain s x)
 unfolding plain answer

@@ -12,7 +12,7 @@ use Rattle.scope.specs.declared.Answer.{Answer}
 use Rattle.scope.specs.Choice.{pick}
 use Rattle.scope.specs.Statuses.{BAD-CALL, BAD-STATE}
 use Rattle.scope.specs.Answers.{answer, plain, badState}
-use Rattle.scope.specs.Calls.{callAt}
+use Rattle.scope.specs.Calls.{knownCalls, callAt}
 use Rattle.scope.specs.Step.{stepped}
 use Rattle.rows.specs.Rows.{inStatuses, mayGive}
 use Rattle.laws.proofs.Branches.{both-true}
@@ -30,14 +30,14 @@ has-in (y ∷ row) x e = go (has-in row x) (eqb x y) e
     go rec false f = rec f
 
 module _ (s : State) (call mark a b c d e : ℕ) where
-  pub row-kept : call < 20 → mayGive call (stepped s call mark a b c d e .status) ≡ true
+  pub row-kept : call < knownCalls → mayGive call (stepped s call mark a b c d e .status) ≡ true
   unfolding mayGive badState
   row-kept known =
       by-rules s call mark a b c d e (λ x. inStatuses (x .status) (callAt call .statuses) ≡ true)
       (λ h. has-in (callAt call .statuses) _ (both-true (has (callAt call .statuses) _) _ (answered-outcome call known s mark a b c d e .listed) .0))
       (λ h. has-in (callAt call .statuses) BAD-STATE (listed-broken call known))
 
-  pub unknown-call : 20 ≤ call → (stepped s call mark a b c d e .status ≡ BAD-CALL) ⊎ (stepped s call mark a b c d e .status ≡ BAD-STATE)
+  pub unknown-call : knownCalls ≤ call → (stepped s call mark a b c d e .status ≡ BAD-CALL) ⊎ (stepped s call mark a b c d e .status ≡ BAD-STATE)
   unfolding badState plain answer
   unknown-call h =
       by-rules s call mark a b c d e (λ x. (x .status ≡ BAD-CALL) ⊎ (x .status ≡ BAD-STATE))

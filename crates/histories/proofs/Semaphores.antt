@@ -10,21 +10,20 @@ use mathlib.Core.List.{List}
 use lib.ListN.{length, getD, length-set}
 use lib.Seq.{getD-set-same, getD-set-other}
 use lib.Dec.{ltb, leb, eqb}
-use borrow.Author.Tests.{ltb-true, ltb-false, leb-false, eqb-false, eq-eqb}
+use borrow.Author.Tests.{ltb-true, ltb-false, leb-false}
 use Rattle.scope.specs.declared.State.{State}
 use Rattle.scope.specs.declared.Tasks.{Tasks}
 use Rattle.scope.specs.declared.Semaphores.{Semaphores}
 use Rattle.scope.specs.declared.Waking.{Waking}
 use Rattle.scope.specs.declared.Found.the-variants.{At}
-use Rattle.scope.specs.Identifiers.{lowestUsable}
 use Rattle.scope.specs.Seats.{queueSeats, firstOf, standing, runnerOf}
 use Rattle.scope.specs.Objects.{objectsOf}
-use Rattle.scope.specs.Views.{withSemaphores}
-use Rattle.scope.specs.Answers.{answer, plain, gives, wakesWith}
-use Rattle.scope.specs.Waiting.{isTimeOut, waits, noneWoken, wakeAll}
-use Rattle.scope.specs.Semaphores.{lastCount, semBorn, semGone, withUnits, semFound, semCreateAt, semCreate, semDeleteAt, semIdentAt, semIdent, semWaitAt, semClaimAt, semReleaseAt, semInfoAt, semDelete, semClaim, semRelease, semInfo}
+use Rattle.scope.specs.Views.{withLine, withSemaphores}
+use Rattle.scope.specs.Answers.{wakesWith}
+use Rattle.scope.specs.Waiting.{isTimeOut, waits, wakeNext, noneWoken, wakeAll}
+use Rattle.scope.specs.Semaphores.{lastCount, semBorn, semGone, withUnits, semFound, semDeleteAt}
 use Rattle.laws.proofs.Arrays.{cleared}
-use Rattle.laws.proofs.Branches.{lt-or-le, eq-or-not, true-false, true-or-false, both, first-decides, second-decides, not-of-false}
+use Rattle.laws.proofs.Branches.{lt-or-le, eq-or-not, true-false, true-or-false, second-decides, not-of-false}
 use Rattle.tables.proofs.Laws.{found-below, found-live, usable-at, usable-free}
 use Rattle.seats.specs.Rule.{Runs}
 use Rattle.seats.proofs.Counting.{standing-le}
@@ -34,7 +33,8 @@ use Rattle.histories.proofs.Objects.{sem-live, sem-fifo, sem-stock, no-
 use Rattle.histories.proofs.Moves.{waits-sound, queue-waits, ring-ready}
 use Rattle.histories.proofs.Waking.{first-in, first-empty, dead-empty, empty-changes, next-sound, all-woken}
 use Rattle.histories.proofs.Parts.{all-sound, line-sound, semaphores-sound}
-use Rattle.histories.proofs.Refused.{by-choice, Kept, plain-kept, found-kept}
+use Rattle.histories.specs.History.{Event}
+use Rattle.histories.proofs.Deeds.{newSemaphore, SemChange, sem-created, unit-claimed, unit-released}
 
 -- each slot is sound where slot i is and the others are as they were
 slots-sound : (m n : Semaphores) (i : ℕ) → SemsSound m → ((j : ℕ) → (j ≡ i → ⊥) → SemSound m j → SemSound n j) → SemSound n i
@@ -118,29 +118,12 @@ runs-ready s ok h =
     (omega (arith, r .1 .first, ap (λ (v : ℕ). getD q v 0) (ok .running)))
 
 module _ (s : State) (ok : Sound s) where
-  create-at : (name count options i : ℕ) → count ≤ 32767 → (i < 16 → getD (s .semaphores .live) i false ≡ false) → Sound (semCreateAt s name count options i .state)
-  unfolding semCreateAt gives answer
-  create-at name count options i fits free =
-      by-choice Kept _ (λ e. plain-kept _ ok)
-      (λ e. let h : i < 16 = omega (arith, leb-false (length (s .semaphores .serial)) i e, ok .semaphores .sized .serials) in
-      semaphores-sound s ok (semBorn (s .semaphores) i name count (eqb options 1))
-      (empty-changes (s .line) (s .tasks) (objectsOf s) (ok .line) i _ (born-elsewhere (s .semaphores) i name count (eqb options 1))
-      (dead-empty (s .line) (s .tasks) (objectsOf s) (ok .line) i (omega arith) (sem-live (s .semaphores) i h ∙ free h)))
-      (born-sems (s .semaphores) (ok .semaphores) i h name count (eqb options 1) fits))
-
-  pub sem-create-sound : (name count options : ℕ) → Sound (semCreate s name count options .state)
-  unfolding semCreate
-  sem-create-sound name count options =
-      let serial : List ℕ = s .semaphores .serial in
-      let live : List Bool = s .semaphores .live in
-      by-choice Kept _ (λ e. plain-kept _ ok)
-      (λ e. by-choice Kept _ (λ f. plain-kept _ ok)
-      (λ f. create-at name count options (lowestUsable serial live) (ltb-false lastCount count e)
-      (λ h. usable-free serial live (lowestUsable serial live) (usable-at serial live (omega (arith, h, ok .semaphores .sized .serials))))))
-
-  pub sem-ident-sound : (name : ℕ) → Sound (semIdent s name .state)
-  unfolding semIdent semIdentAt gives answer
-  sem-ident-sound name = by-choice Kept _ (λ e. plain-kept _ ok) (λ e. ok)
+  -- what an identifier names is a live semaphore
+  pub named-slot : (id i : ℕ) → semFound s id ≡ At i → (i < 16) × (getD (s .semaphores .live) i false ≡ true)
+  named-slot id i e = (
+    omega (arith, found-below (s .semaphores .serial) (s .semaphores .live) id e, ok .semaphores .sized .serials),
+    found-live (s .semaphores .serial) (s .semaphores .live) id e,
+  )
 
   module _ (i : ℕ) (hi : i < 16) (alive : getD (s .semaphores .live) i false ≡ true) where
     pub sem-delete-at : Sound (semDeleteAt s i .state)
@@ -160,74 +143,50 @@ module _ (s : State) (ok : Sound s) where
         (empty-changes (s .line) (s .tasks) (objectsOf s) (ok .line) i _ (units-elsewhere (s .semaphores) i n) none)
         (units-sems (s .semaphores) (ok .semaphores) i hi n fits alive)
 
-    sem-wait-at : (ticks : ℕ) → isTimeOut ticks ≡ true → getD (s .semaphores .units) i 0 ≡ 0 → Sound (semWaitAt s ticks i .state)
-    unfolding semWaitAt plain answer
-    sem-wait-at ticks time none =
-        by-choice Kept _ (λ e. ok)
-        (λ e. let h : s .running < 32 = leb-false 32 (s .running) e in
+    -- the running task waits for it, which has no unit
+    pub caller-sound : (ticks : ℕ) → isTimeOut ticks ≡ true → getD (s .semaphores .units) i 0 ≡ 0 → s .running < 32
+        → Sound (withLine s (waits (s .line) i (getD (s .semaphores .fifo) i false) (getD (s .tasks .priority) (s .running) 0) ticks (s .running)))
+    caller-sound ticks time none h =
         let r : Ready (s .line) (s .tasks) (s .running) = runs-ready s ok h in
         line-sound s ok _
         (subst (λ (f : Bool). LineSound (waits (s .line) i f (getD (s .tasks .priority) (s .running) 0) ticks (s .running)) (s .tasks) (objectsOf s))
         (sem-fifo (s .semaphores) i hi)
         (waits-sound (s .line) (s .tasks) (objectsOf s) (ok .line) (s .running) h i (getD (s .tasks .priority) (s .running) 0) ticks r (omega arith)
         (sem-live (s .semaphores) i hi ∙ alive) (sem-stock (s .semaphores) i hi ∙ none) time
-        (started-priority (s .tasks) (s .running) (ok .tasks) h (r .started)))))
+        (started-priority (s .tasks) (s .running) (ok .tasks) h (r .started))))
 
-    pub sem-claim-at : (options ticks : ℕ) → Sound (semClaimAt s options ticks i .state)
-    unfolding semClaimAt plain answer
-    sem-claim-at options ticks =
-        let n : ℕ = getD (s .semaphores .units) i 0 in
-        by-choice Kept _ (λ e. ok)
-        (λ e. by-choice Kept _ (λ f. ok)
-        (λ f. by-choice Kept _ (λ g. ok)
-        (λ g. by-choice Kept _
-        (λ z. let h : 0 < n = ltb-true 0 n z in
-        units-sound (n - 1) (omega (arith, ok .semaphores .each i hi .units))
-        (⊎-elim (λ c. absurd (omega (arith, h, no-units (s .line) (s .tasks) (s .semaphores) (ok .line) i hi c))) (λ c. omega arith) (lt-or-le 0 (standing (s .line .seat) (queueSeats i)))))
-        (λ z. let h : eqb options 1 ≡ false = sym (first-decides (eqb options 1) (not (ltb 0 n)) (not-of-false (ltb 0 n) z)) ∙ g in
-        sem-wait-at ticks
-        (timed options ticks (omega (arith, ltb-false 1 options e, eqb-false options 1 h)) f)
-        (omega (arith, ltb-false 0 n z))))))
-      where
-        timed : (options ticks : ℕ) → options ≡ 0 → (eqb options 0 && not (isTimeOut ticks)) ≡ false → isTimeOut ticks ≡ true
-        timed options ticks z f =
-            ⊎-elim (λ y. y) (λ n. absurd (true-false (both _ _ (eq-eqb options 0 z) (not-of-false (isTimeOut ticks) n)) f)) (true-or-false (isTimeOut ticks))
-
-    pub sem-release-at : Sound (semReleaseAt s i .state)
-    unfolding semReleaseAt wakesWith plain answer
-    sem-release-at =
-        let t : ℕ = firstOf (s .line .seat) (queueSeats i) in
-        let n : ℕ = getD (s .semaphores .units) i 0 in
-        by-choice Kept _ (λ f. ok)
-        (λ f. by-choice Kept _
-        (λ e. let h : t < 32 = ltb-true t 32 e in
+    -- the first who waits for it is woken
+    pub first-sound : firstOf (s .line .seat) (queueSeats i) < 32
+        → Sound (withLine s (wakeNext (s .tasks) (noneWoken (s .line)) (firstOf (s .line .seat) (queueSeats i)) .line))
+    first-sound h =
         line-sound s ok _
-        (next-sound (s .tasks) (objectsOf s) (noneWoken (s .line)) t h (ok .line)
-        (queue-waits (s .line) (s .tasks) (objectsOf s) (ok .line) t h i (omega arith)
-        (first-in (s .line) (s .tasks) (objectsOf s) (ok .line) i h) .0)))
-        (λ e. let g : leb 32767 n ≡ false = sym (second-decides (not (ltb t 32)) (leb 32767 n) (not-of-false (ltb t 32) e)) ∙ f in
-        units-sound (n + 1) (omega (arith, leb-false 32767 n g))
-        (first-empty (s .line) (s .tasks) (objectsOf s) (ok .line) i (ltb-false t 32 e))))
+        (next-sound (s .tasks) (objectsOf s) (noneWoken (s .line)) _ h (ok .line)
+        (queue-waits (s .line) (s .tasks) (objectsOf s) (ok .line) _ h i (omega arith) (first-in (s .line) (s .tasks) (objectsOf s) (ok .line) i h) .0))
 
-    pub sem-info-at : Sound (semInfoAt s i .state)
-    unfolding semInfoAt answer
-    sem-info-at = ok
-
-  -- by identifier
-  named-slot : (id i : ℕ) → semFound s id ≡ At i → (i < 16) × (getD (s .semaphores .live) i false ≡ true)
-  named-slot id i e = (
-    omega (arith, found-below (s .semaphores .serial) (s .semaphores .live) id e, ok .semaphores .sized .serials),
-    found-live (s .semaphores .serial) (s .semaphores .live) id e,
-  )
-
-  pub sem-delete-sound : (id : ℕ) → Sound (semDelete s id .state)
-  sem-delete-sound id = found-kept _ _ ok (λ i e. let a = named-slot id i e in sem-delete-at i (a .0) (a .1))
-
-  pub sem-claim-sound : (id options ticks : ℕ) → Sound (semClaim s id options ticks .state)
-  sem-claim-sound id options ticks = found-kept _ _ ok (λ i e. let a = named-slot id i e in sem-claim-at i (a .0) (a .1) options ticks)
-
-  pub sem-release-sound : (id : ℕ) → Sound (semRelease s id .state)
-  sem-release-sound id = found-kept _ _ ok (λ i e. let a = named-slot id i e in sem-release-at i (a .0) (a .1))
-
-  pub sem-info-sound : (id : ℕ) → Sound (semInfo s id .state)
-  sem-info-sound id = found-kept _ _ ok (λ i e. let a = named-slot id i e in sem-info-at i (a .0) (a .1))
+  -- what the semaphore calls do to the table, by what their tests showed
+  pub sem-sound : (x : Event) {m : Semaphores} {v : ℕ} → SemChange s x m v → Sound (withSemaphores s m)
+  sem-sound x (sem-created at e f g) =
+      let i : ℕ = newSemaphore s in
+      let serial : List ℕ = s .semaphores .serial in
+      let live : List Bool = s .semaphores .live in
+      let l : i < length serial = leb-false (length serial) i g in
+      let h : i < 16 = omega (arith, l, ok .semaphores .sized .serials) in
+      semaphores-sound s ok (semBorn (s .semaphores) i (x .a) (x .b) (eqb (x .c) 1))
+      (empty-changes (s .line) (s .tasks) (objectsOf s) (ok .line) i _ (born-elsewhere (s .semaphores) i (x .a) (x .b) (eqb (x .c) 1))
+      (dead-empty (s .line) (s .tasks) (objectsOf s) (ok .line) i (omega arith)
+      (sem-live (s .semaphores) i h ∙ usable-free serial live i (usable-at serial live l))))
+      (born-sems (s .semaphores) (ok .semaphores) i h (x .a) (x .b) (eqb (x .c) 1) (ltb-false lastCount (x .b) e))
+  sem-sound x (unit-claimed at i e f) =
+      let n : ℕ = getD (s .semaphores .units) i 0 in
+      let a = named-slot (x .a) i e in
+      let some : 0 < n = ltb-true 0 n f in
+      units-sound i (a .0) (a .1) (n - 1) (omega (arith, ok .semaphores .each i (a .0) .units))
+      (⊎-elim (λ c. absurd (omega (arith, some, no-units (s .line) (s .tasks) (s .semaphores) (ok .line) i (a .0) c))) (λ c. omega arith)
+      (lt-or-le 0 (standing (s .line .seat) (queueSeats i))))
+  sem-sound x (unit-released at i e f g) =
+      let t : ℕ = firstOf (s .line .seat) (queueSeats i) in
+      let n : ℕ = getD (s .semaphores .units) i 0 in
+      let a = named-slot (x .a) i e in
+      let h : leb 32767 n ≡ false = sym (second-decides (not (ltb t 32)) (leb 32767 n) (not-of-false (ltb t 32) g)) ∙ f in
+      units-sound i (a .0) (a .1) (n + 1) (omega (arith, leb-false 32767 n h))
+      (first-empty (s .line) (s .tasks) (objectsOf s) (ok .line) i (ltb-false t 32 g))

@@ -1,70 +1,44 @@
--- Sound stays sound: every call by every caller, with whatever arguments, keeps a state sound, and so does a step. The table's
--- twenty rows each do, so a row taken from the table does; a call that is refused gives the state back.
+-- Sound stays sound: every call by every caller, with whatever arguments, keeps a state sound, and so does a step. By deeds: a
+-- refusal gives the state back, and each change of a part keeps it sound.
 -- Assumes nothing.
 use Prim.Native.Nat.{ℕ}
-use mathlib.Core.Bool.{Bool, true, false}
-use lib.Dec.{eqb}
+use native.Mathlib.Omega.{arith}
+use lib.ListN.{getD}
+use borrow.Author.Tests.{ltb-true, ltb-false, leb-false}
 use Rattle.scope.specs.declared.State.{State}
 use Rattle.scope.specs.declared.Answer.{Answer}
-use Rattle.scope.specs.Statuses.{OK}
-use Rattle.scope.specs.Answers.{plain, badState}
-use Rattle.scope.specs.Rules.{sound}
-use Rattle.scope.specs.Calls.{Call, calls, callAt}
-use Rattle.scope.specs.Step.{callerRefusal, answered, stepped}
-use Rattle.scope.proofs.Rows.{Rows, none, more, row-at}
+use Rattle.scope.specs.Answers.{answer, plain, badState, wakesWith}
+use Rattle.scope.specs.Step.{answered, stepped}
 use Rattle.histories.specs.Sound.{Sound}
-use Rattle.histories.proofs.Refused.{Kept, plain-kept}
+use Rattle.histories.specs.History.{Event}
+use Rattle.histories.proofs.Deeds.{Deed, refused, tells, tasks-change, task-moves, sems-change, pools-change, caller-waits, first-woken, sem-deleted, time-passes, deed, by-deed}
 use Rattle.histories.proofs.Ticks.{tick-sound}
-use Rattle.histories.proofs.Tasks.{taskCreate-sound, taskDelete-sound, taskIdent-sound, taskStart-sound, taskSuspend-sound, taskResume-sound, taskSetPriority-sound}
-use Rattle.histories.proofs.Semaphores.{sem-create-sound, sem-delete-sound, sem-ident-sound, sem-claim-sound, sem-release-sound, sem-info-sound}
-use Rattle.histories.proofs.Pools.{poolCreate-sound, poolDelete-sound, poolIdent-sound, poolGetBuff-sound, poolRetBuff-sound, poolInfo-sound}
+use Rattle.histories.proofs.Tasks.{change-sound, move-sound}
+use Rattle.histories.proofs.Semaphores.{named-slot, sem-delete-at, caller-sound, first-sound, sem-sound}
+use Rattle.histories.proofs.Pools.{pool-sound}
 
--- a row whose call keeps every sound state sound
-abbrev pub Keeps : Call → Type 0
-Keeps row = (s : State) → Sound s → (a b c d e : ℕ) → Kept (row .does s a b c d e)
-
--- each row of the table does
-calls-keep : Rows (λ n. Keeps) 0 calls
-calls-keep =
-    more (λ s ok a b c d e. tick-sound s ok)
-    (more (λ s ok a b c d e. taskCreate-sound s ok a b)
-    (more (λ s ok a b c d e. taskDelete-sound s ok a)
-    (more (λ s ok a b c d e. taskIdent-sound s ok a)
-    (more (λ s ok a b c d e. taskStart-sound s ok a)
-    (more (λ s ok a b c d e. taskSuspend-sound s ok a)
-    (more (λ s ok a b c d e. taskResume-sound s ok a)
-    (more (λ s ok a b c d e. taskSetPriority-sound s ok a b)
-    (more (λ s ok a b c d e. sem-create-sound s ok a b c)
-    (more (λ s ok a b c d e. sem-delete-sound s ok a)
-    (more (λ s ok a b c d e. sem-ident-sound s ok a)
-    (more (λ s ok a b c d e. sem-claim-sound s ok a b c)
-    (more (λ s ok a b c d e. sem-release-sound s ok a)
-    (more (λ s ok a b c d e. sem-info-sound s ok a)
-    (more (λ s ok a b c d e. poolCreate-sound s ok a b c d e)
-    (more (λ s ok a b c d e. poolDelete-sound s ok a)
-    (more (λ s ok a b c d e. poolIdent-sound s ok a)
-    (more (λ s ok a b c d e. poolGetBuff-sound s ok a)
-    (more (λ s ok a b c d e. poolRetBuff-sound s ok a b)
-    (more (λ s ok a b c d e. poolInfo-sound s ok a)
-    none)))))))))))))))))))
-
-pub call-keeps : (call : ℕ) → Keeps (callAt call)
-call-keeps call = row-at (λ n. Keeps) 0 calls calls-keep (λ k s ok a b c d e. plain-kept _ ok) call
+deed-sound : (s : State) (ok : Sound s) (x : Event) {a : Answer} → Deed s x a → Sound (a .state)
+unfolding plain answer wakesWith
+deed-sound s ok x (refused status e f listed) = ok
+deed-sound s ok x (tells call at e v0 v1 v2 v3 negative) = ok
+deed-sound s ok x (tasks-change c) = change-sound s ok x c
+deed-sound s ok x (task-moves c) = move-sound s ok x c
+deed-sound s ok x (sems-change c) = sem-sound s ok x c
+deed-sound s ok x (pools-change c) = pool-sound s ok x c
+deed-sound s ok x (caller-waits at i e f g time) =
+    let n = named-slot s ok (x .a) i e in
+    caller-sound s ok i (n .0) (n .1) (x .c) time (omega (arith, ltb-false 0 (getD (s .semaphores .units) i 0) f)) (leb-false 32 (s .running) g)
+deed-sound s ok x (first-woken at i e f) = let n = named-slot s ok (x .a) i e in first-sound s ok i (n .0) (n .1) (ltb-true _ 32 f)
+deed-sound s ok x (sem-deleted at i e) = let n = named-slot s ok (x .a) i e in sem-delete-at s ok i (n .0) (n .1)
+deed-sound s ok x (time-passes at) = tick-sound s ok
 
 module _ (s : State) (ok : Sound s) (call mark a b c d e : ℕ) where
+  abbrev asked : Event
+  asked = record { call = call; mark = mark; a = a; b = b; c = c; d = d; e = e }
+
   pub sound-stays : Sound (answered s call mark a b c d e .state)
-  unfolding answered
-  sound-stays = go (eqb (callerRefusal call mark (s .running)) OK)
-    where
-      go : (x : Bool)
-          → Kept (elim x as (λ y. Answer) [ true ↦ callAt call .does s a b c d e | false ↦ plain s (callerRefusal call mark (s .running)) ])
-      go true = call-keeps call s ok a b c d e
-      go false = plain-kept _ ok
+  sound-stays = deed-sound s ok asked (deed s asked)
 
   pub step-keeps : Sound (stepped s call mark a b c d e .state)
-  unfolding stepped badState
-  step-keeps = go (sound s)
-    where
-      go : (x : Bool) → Kept (elim x as (λ y. Answer) [ true ↦ answered s call mark a b c d e | false ↦ badState s ])
-      go true = sound-stays
-      go false = ok
+  unfolding badState
+  step-keeps = by-deed s asked (λ y. Sound (y .state)) (λ y f. deed-sound s ok asked f) (λ h. ok)

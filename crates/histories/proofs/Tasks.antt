@@ -16,15 +16,17 @@ use Rattle.scope.specs.declared.Line.{Line}
 use Rattle.scope.specs.declared.Tasks.{Tasks}
 use Rattle.scope.specs.declared.Found.the-variants.{At, Invalid}
 use Rattle.scope.specs.Choice.{pick}
-use Rattle.scope.specs.Identifiers.{found, lowestUsable}
+use Rattle.scope.specs.Identifiers.{found}
 use Rattle.scope.specs.Seats.{leaves, becomesReady, waitsOn}
 use Rattle.scope.specs.Objects.{Objects, objectsOf}
 use Rattle.scope.specs.Views.{withLine, withTasks, withSeats, withWait, readyWith, isReady}
-use Rattle.scope.specs.Tasks.{taskFound, taskBorn, taskGone, withStarted, withSuspended, withPriority, taskCreateAt, taskCreate, taskDeleteAt, taskDelete, taskIdentAt, taskIdent, taskStartAt, taskStart, taskSuspendAt, taskSuspend, taskResumeAt, taskResume, taskSetPriorityAt, taskSetPriority}
+use Rattle.scope.specs.Tasks.{taskFound, taskBorn, taskGone, withStarted, withSuspended, withPriority}
 use Rattle.laws.proofs.Branches.{eq-or-not, both, both-true, second-fails, not-of-false, true-false, true-or-false}
 use Rattle.tables.proofs.Laws.{found-below, found-live, usable-at, usable-free}
 use Rattle.histories.specs.Sound.{Nowhere, Waits, Ready, LineSound, TaskRow, TaskSound, TasksSound, Sound}
-use Rattle.histories.proofs.Refused.{by-choice, Kept, plain-kept, gives-kept, found-kept}
+use Rattle.histories.specs.History.{Event}
+use Rattle.histories.proofs.Deeds.{newTask, TaskChange, task-created, waiter-suspended, waiter-resumed, priority-noted}
+use Rattle.histories.proofs.Deeds.{TaskMove, task-deleted, task-started, task-suspended, task-resumed, priority-set}
 use Rattle.histories.proofs.Parts.{all-sound, tasks-sound}
 use Rattle.histories.proofs.Moves.{Agree, Out, stays, retold, nowhere-out, gone, ready-gone, becomes-ready, on-waits, off-ready, off-nowhere, idle-nowhere}
 use Rattle.histories.proofs.Semaphores.{runs-ready}
@@ -254,107 +256,7 @@ is-ready l k m t ok room e =
     off-ready l k m ok t room (not-true _ (d .1)) (c .0) (not-true _ (d .0))
 
 module _ (s : State) (ok : Sound s) where
-  -- creation in a slot that is free; the priority was tested before
-  pub taskCreateAt-sound : (name p t : ℕ) → p ≤ 15 → (t < 32 → getD (s .tasks .live) t false ≡ false) → Kept (taskCreateAt s name p t)
-  unfolding taskCreateAt
-  taskCreateAt-sound name p t small free =
-      by-choice Kept _ (λ e. plain-kept _ ok)
-      (λ e. let room : t < 32 = omega (arith, leb-false (length (s .tasks .serial)) t e, ok .tasks .sized .serials) in
-      gives-kept _
-      (stays-nowhere s ok t room (writes-born (s .tasks) (ok .tasks) t room name p small)
-      (idle-nowhere (s .line) (s .tasks) (objectsOf s) (ok .line) t room (ok .tasks .each t room .started (free room)))
-      (inl refl)))
-
-  pub taskCreate-sound : (name p : ℕ) → Kept (taskCreate s name p)
-  unfolding taskCreate
-  taskCreate-sound name p =
-      let serial : List ℕ = s .tasks .serial in
-      let live : List Bool = s .tasks .live in
-      by-choice Kept _ (λ e. plain-kept _ ok)
-      (λ e. taskCreateAt-sound name p (lowestUsable serial live) (ltb-false 15 p e)
-      (λ h. usable-free serial live (lowestUsable serial live) (usable-at serial live (omega (arith, h, ok .tasks .sized .serials)))))
-
-  pub taskIdentAt-sound : (t : ℕ) → Kept (taskIdentAt s t)
-  unfolding taskIdentAt
-  taskIdentAt-sound t = by-choice Kept _ (λ e. plain-kept _ ok) (λ e. gives-kept _ ok)
-
-  pub taskIdent-sound : (name : ℕ) → Kept (taskIdent s name)
-  unfolding taskIdent
-  taskIdent-sound name = taskIdentAt-sound _
-
-  module _ (t : ℕ) (room : t < 32) where
-    pub taskDeleteAt-sound : Kept (taskDeleteAt s t)
-    unfolding taskDeleteAt
-    taskDeleteAt-sound =
-        let w = writes-gone (s .tasks) (ok .tasks) t room in
-        plain-kept _
-        (leaves-idle s ok t room w (withWait (s .line) t 0 0 (leaves (s .line .seat) t))
-        (gone (s .line) (s .tasks) (objectsOf s) (ok .line) (taskGone (s .tasks) t) t room (w .agree))
-        (inl refl))
-
-    module _ (alive : getD (s .tasks .live) t false ≡ true) where
-      pub taskStartAt-sound : Kept (taskStartAt s t)
-      unfolding taskStartAt
-      taskStartAt-sound =
-          let w = writes-started (s .tasks) (ok .tasks) t room alive in
-          by-choice Kept _ (λ e. plain-kept _ ok)
-          (λ e. plain-kept _
-          (turns-ready s ok t room w (s .line)
-          (nowhere-gone s ok t room w (idle-nowhere (s .line) (s .tasks) (objectsOf s) (ok .line) t room e))
-          (s .line .joined) refl (ok .tasks .each t room .suspended e)))
-
-      pub taskSuspendAt-sound : Kept (taskSuspendAt s t)
-      unfolding taskSuspendAt
-      taskSuspendAt-sound =
-          by-choice Kept _ (λ e. plain-kept _ ok)
-          (λ e. let started = not-false (getD (s .tasks .started) t false) e in
-          let w = writes-suspended (s .tasks) (ok .tasks) t room alive true started in
-          by-choice Kept _ (λ e. plain-kept _ ok)
-          (λ awake. by-choice Kept _
-          (λ e. plain-kept _
-          (stays-waiting s ok t room w (on-waits (s .line) (s .tasks) (objectsOf s) (ok .line) t room e) started))
-          (λ e. plain-kept _
-          (leaves-idle s ok t room w (withSeats (s .line) (leaves (s .line .seat) t))
-          (ready-gone (s .line) (s .tasks) (objectsOf s) (ok .line) (withSuspended (s .tasks) t true) t (w .agree)
-          (off-ready (s .line) (s .tasks) (objectsOf s) (ok .line) t room e started awake))
-          (inr refl)))))
-
-      pub taskResumeAt-sound : Kept (taskResumeAt s t)
-      unfolding taskResumeAt
-      taskResumeAt-sound =
-          by-choice Kept _ (λ e. plain-kept _ ok)
-          (λ e. let started = not-false (getD (s .tasks .started) t false) e in
-          let w = writes-suspended (s .tasks) (ok .tasks) t room alive false started in
-          by-choice Kept _ (λ e. plain-kept _ ok)
-          (λ e. let suspended = not-false (getD (s .tasks .suspended) t false) e in
-          by-choice Kept _
-          (λ e. plain-kept _
-          (stays-waiting s ok t room w (on-waits (s .line) (s .tasks) (objectsOf s) (ok .line) t room e) started))
-          (λ e. plain-kept _
-          (turns-ready s ok t room w (s .line)
-          (nowhere-gone s ok t room w
-          (off-nowhere (s .line) (s .tasks) (objectsOf s) (ok .line) t room e suspended))
-          (s .line .joined) started refl))))
-
-      pub taskSetPriorityAt-sound : (p : ℕ) → Kept (taskSetPriorityAt s p t)
-      unfolding taskSetPriorityAt
-      taskSetPriorityAt-sound p =
-          by-choice Kept _ (λ e. plain-kept _ ok)
-          (λ small. let j : Tasks = withPriority (s .tasks) t p in
-          let w = writes-priority (s .tasks) (ok .tasks) t room alive p (ltb-false 15 p small) in
-          by-choice Kept _
-          (λ e. let here : Ready (s .line) (s .tasks) t = is-ready (s .line) (s .tasks) (objectsOf s) t (ok .line) room e in
-          gives-kept _
-          (turns-ready s ok t room w (withSeats (s .line) (leaves (s .line .seat) t))
-          (ready-gone (s .line) (s .tasks) (objectsOf s) (ok .line) j t (w .agree) here)
-          (s .line .joined) (here .started) (here .awake)))
-          (λ e. gives-kept _
-          (⊎-elim (λ here. stays-nowhere s ok t room w here (here .idle))
-          (⊎-elim (λ here. stays-waiting s ok t room w here (here .started))
-          (λ here. absurd (true-false (ready-is (s .line) (s .tasks) t here) e)))
-          (ok .line .stands t room))))
-
-  -- the calls with a task's identifier: it names a live task, the running one where it is 0
+  -- what an identifier names is a live task, the running one where it is 0
   pub named-task : (id t : ℕ) → taskFound s id ≡ At t → (t < 32) × (getD (s .tasks .live) t false ≡ true)
   unfolding taskFound pick
   named-task id t = go (eqb id 0) (ltb (s .running) 32) refl
@@ -378,18 +280,65 @@ module _ (s : State) (ok : Sound s) where
         found-live (s .tasks .serial) (s .tasks .live) id e,
       )
 
-  module _ (id : ℕ) where
-    pub taskDelete-sound : Kept (taskDelete s id)
-    taskDelete-sound = found-kept _ _ ok (λ t e. let n = named-task id t e in taskDeleteAt-sound t (n .0))
+  -- what the task calls do, by what their tests showed
+  module _ (x : Event) where
+    abbrev l : Line
+    l = s .line
 
-    pub taskStart-sound : Kept (taskStart s id)
-    taskStart-sound = found-kept _ _ ok (λ t e. let n = named-task id t e in taskStartAt-sound t (n .0) (n .1))
+    abbrev k : Tasks
+    k = s .tasks
 
-    pub taskSuspend-sound : Kept (taskSuspend s id)
-    taskSuspend-sound = found-kept _ _ ok (λ t e. let n = named-task id t e in taskSuspendAt-sound t (n .0) (n .1))
+    pub change-sound : {j : Tasks} {v : ℕ} → TaskChange s x j v → Sound (withTasks s j)
+    change-sound (task-created at e f) =
+        let t : ℕ = newTask s in
+        let h : t < length (k .serial) = leb-false (length (k .serial)) t f in
+        let room : t < 32 = omega (arith, h, ok .tasks .sized .serials) in
+        stays-nowhere s ok t room (writes-born k (ok .tasks) t room (x .a) (x .b) (ltb-false 15 (x .b) e))
+        (idle-nowhere l k (objectsOf s) (ok .line) t room
+        (ok .tasks .each t room .started (usable-free (k .serial) (k .live) t (usable-at (k .serial) (k .live) h))))
+        (inl refl)
+    change-sound (waiter-suspended at t e f g h) =
+        let n = named-task (x .a) t e in
+        let started = not-false (getD (k .started) t false) f in
+        stays-waiting s ok t (n .0) (writes-suspended k (ok .tasks) t (n .0) (n .1) true started) (on-waits l k (objectsOf s) (ok .line) t (n .0) h) started
+    change-sound (waiter-resumed at t e f g h) =
+        let n = named-task (x .a) t e in
+        let started = not-false (getD (k .started) t false) f in
+        stays-waiting s ok t (n .0) (writes-suspended k (ok .tasks) t (n .0) (n .1) false started) (on-waits l k (objectsOf s) (ok .line) t (n .0) h) started
+    change-sound (priority-noted at t e f g) =
+        let n = named-task (x .a) t e in
+        let w = writes-priority k (ok .tasks) t (n .0) (n .1) (x .b) (ltb-false 15 (x .b) f) in
+        ⊎-elim (λ here. stays-nowhere s ok t (n .0) w here (here .idle))
+        (⊎-elim (λ here. stays-waiting s ok t (n .0) w here (here .started)) (λ here. absurd (true-false (ready-is l k t here) g)))
+        (ok .line .stands t (n .0))
 
-    pub taskResume-sound : Kept (taskResume s id)
-    taskResume-sound = found-kept _ _ ok (λ t e. let n = named-task id t e in taskResumeAt-sound t (n .0) (n .1))
-
-    pub taskSetPriority-sound : (p : ℕ) → Kept (taskSetPriority s id p)
-    taskSetPriority-sound p = found-kept _ _ ok (λ t e. let n = named-task id t e in taskSetPriorityAt-sound t (n .0) (n .1) p)
+    pub move-sound : {j : Tasks} {r : Line} {v : ℕ} → TaskMove s x j r v → Sound (withLine (withTasks s j) r)
+    move-sound (task-deleted at t e) =
+        let n = named-task (x .a) t e in
+        let w = writes-gone k (ok .tasks) t (n .0) in
+        leaves-idle s ok t (n .0) w (withWait l t 0 0 (leaves (l .seat) t))
+        (gone l k (objectsOf s) (ok .line) (taskGone k t) t (n .0) (w .agree)) (inl refl)
+    move-sound (task-started at t e f) =
+        let n = named-task (x .a) t e in
+        let w = writes-started k (ok .tasks) t (n .0) (n .1) in
+        turns-ready s ok t (n .0) w l (nowhere-gone s ok t (n .0) w (idle-nowhere l k (objectsOf s) (ok .line) t (n .0) f)) (l .joined) refl
+        (ok .tasks .each t (n .0) .suspended f)
+    move-sound (task-suspended at t e f g h) =
+        let n = named-task (x .a) t e in
+        let started = not-false (getD (k .started) t false) f in
+        let w = writes-suspended k (ok .tasks) t (n .0) (n .1) true started in
+        leaves-idle s ok t (n .0) w (withSeats l (leaves (l .seat) t))
+        (ready-gone l k (objectsOf s) (ok .line) (withSuspended k t true) t (w .agree) (off-ready l k (objectsOf s) (ok .line) t (n .0) h started g)) (inr refl)
+    move-sound (task-resumed at t e f g h) =
+        let n = named-task (x .a) t e in
+        let started = not-false (getD (k .started) t false) f in
+        let w = writes-suspended k (ok .tasks) t (n .0) (n .1) false started in
+        turns-ready s ok t (n .0) w l
+        (nowhere-gone s ok t (n .0) w (off-nowhere l k (objectsOf s) (ok .line) t (n .0) h (not-false (getD (k .suspended) t false) g)))
+        (l .joined) started refl
+    move-sound (priority-set at t e f g) =
+        let n = named-task (x .a) t e in
+        let w = writes-priority k (ok .tasks) t (n .0) (n .1) (x .b) (ltb-false 15 (x .b) f) in
+        let here : Ready l k t = is-ready l k (objectsOf s) t (ok .line) (n .0) g in
+        turns-ready s ok t (n .0) w (withSeats l (leaves (l .seat) t))
+        (ready-gone l k (objectsOf s) (ok .line) (withPriority k t (x .b)) t (w .agree) here) (l .joined) (here .started) (here .awake)

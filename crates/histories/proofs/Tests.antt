@@ -15,8 +15,8 @@ use Rattle.scope.specs.Seats.{ringSeats, waitsOn, queueOf, onSeat}
 use Rattle.scope.specs.Views.{readyWith}
 use Rattle.scope.specs.Waiting.{isTimeOut}
 use Rattle.scope.specs.Rules.{readyRight, waitRight, joinedRight, startRight, taskRight}
+use Rattle.scope.proofs.Rows.{by-choice}
 use Rattle.laws.proofs.Branches.{picked-yes, picked-no, both, both-true, not-of-false, true-or-false}
-use Rattle.histories.proofs.Refused.{by-choice}
 
 pub chosen-yes : (b x y : Bool) → pick b x y ≡ true → b ≡ true → x ≡ true
 chosen-yes b x y e h = sym (picked-yes b x y h) ∙ e

@@ -169,7 +169,7 @@ module _ (s : State) (ok : Sound s) where
     deed-goes (task-moves c) = passes refl (moved (move-fewer c))
     deed-goes (sems-change c) = passes refl (sem-passes c)
     deed-goes (pools-change c) = passes refl same
-    deed-goes (caller-waits at i e f g) =
+    deed-goes (caller-waits at i e f g time) =
         let h : s .running < 32 = leb-false 32 (s .running) g in
         let hi : i < 16 = slot-room (x .a) i e in
         let p : ℕ = getD (k .priority) (s .running) 0 in

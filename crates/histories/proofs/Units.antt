@@ -145,7 +145,7 @@ module _ (s : State) (ok : Sound s) (x : Event) where
   deed-fair (task-moves c) = let h = move-call c in elsewhere _ refl (λ z. omega arith) (λ z. omega arith) (λ z. omega arith)
   deed-fair (sems-change c) = sem-fair c
   deed-fair (pools-change c) = let h = pool-call c in elsewhere _ refl (λ z. omega arith) (λ z. omega arith) (λ z. omega arith)
-  deed-fair (caller-waits at i e f g) = refusal _ refl refl
+  deed-fair (caller-waits at i e f g time) = refusal _ refl refl
   deed-fair (first-woken at i e f) =
       -- the first waiter is woken with OK: that is its grant
       let a : Answer = wakesWith s (wakeNext (s .tasks) (noneWoken (s .line)) (firstOf (s .line .seat) (queueSeats i))) OK in

@@ -21,12 +21,12 @@ use Rattle.scope.specs.Answers.{answer, plain, wakesWith}
 use Rattle.scope.specs.Replies.{wakeList}
 use Rattle.scope.specs.Waiting.{isTimeOut, wakeNext, noneWoken, wakeAll, queueKey, waits}
 use Rattle.scope.specs.Semaphores.{semDeleteAt, semWaitAt, semClaimAt, semReleaseAt}
+use Rattle.scope.proofs.Rows.{by-choice}
 use Rattle.laws.proofs.Branches.{eq-or-not, true-or-false, first-fails, not-of-true, picked-yes, picked-no}
 use Rattle.seats.specs.Rule.{In}
 use Rattle.seats.proofs.Counting.{standing-le}
 use Rattle.histories.specs.Sound.{Ready, Sound}
 use Rattle.histories.proofs.Objects.{sem-fifo}
-use Rattle.histories.proofs.Refused.{by-choice}
 use Rattle.histories.proofs.Staying.{Good}
 use Rattle.histories.proofs.Moves.{Out, agree-same, ready-gone}
 use Rattle.histories.proofs.Semaphores.{runs-ready}

@@ -14,7 +14,7 @@ use Rattle.scope.specs.Answers.{answer, plain, gives}
 use Rattle.scope.specs.Tasks.{taskCreateAt, taskCreate, taskIdentAt, taskIdent}
 use Rattle.scope.specs.Semaphores.{semCreateAt, semCreate, semIdentAt, semIdent, semInfoAt}
 use Rattle.scope.specs.Pools.{poolCreateAt, poolCreate, poolDeleteAt, poolIdentAt, poolIdent, poolGetBuffer, poolGetBuffAt, poolRetBuffer, poolRetBuffAt, poolInfoAt}
-use Rattle.histories.proofs.Refused.{by-choice}
+use Rattle.scope.proofs.Rows.{by-choice}
 use Rattle.lists.specs.Rules.{readyOf, queueIn}
 use Rattle.lists.specs.Calls.{ListsAfter}
 

@@ -16,9 +16,9 @@ use Rattle.scope.specs.Objects.{objectsEnd, objectsOf}
 use Rattle.scope.specs.Views.{readyWith, isReady}
 use Rattle.scope.specs.Answers.{answer, plain, gives}
 use Rattle.scope.specs.Tasks.{taskDeleteAt, taskStartAt, taskSuspendAt, taskResumeAt, taskSetPriorityAt}
+use Rattle.scope.proofs.Rows.{by-choice}
 use Rattle.laws.proofs.Branches.{true-false, both-true}
 use Rattle.histories.specs.Sound.{Sound}
-use Rattle.histories.proofs.Refused.{by-choice}
 use Rattle.histories.proofs.Moves.{off-nowhere, idle-nowhere}
 use Rattle.histories.proofs.Staying.{Good}
 use Rattle.lists.specs.Rules.{readyOf, queueIn}

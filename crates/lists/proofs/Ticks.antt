@@ -24,6 +24,7 @@ use Rattle.scope.specs.Answers.{wakesWith}
 use Rattle.scope.specs.Waiting.{wokenSeats, wake, wakeNext, noneWoken}
 use Rattle.scope.specs.Replies.{Wake, wakeList}
 use Rattle.scope.specs.Ticks.{ticked, isDue, wakeDue, tick}
+use Rattle.scope.proofs.Rows.{by-choice}
 use Rattle.scope.proofs.Seats.{ahead-from}
 use Rattle.laws.proofs.Branches.{both-true, not-of-true, not-of-false, true-false, true-or-false, eq-or-not}
 use Rattle.seats.specs.Rule.{In}
@@ -31,7 +32,6 @@ use Rattle.seats.proofs.Leaving.{leaves-is}
 use Rattle.seats.proofs.Joining.{joins-is}
 use Rattle.seats.proofs.Rule.{stands-in}
 use Rattle.histories.specs.Sound.{TasksSound, Sound}
-use Rattle.histories.proofs.Refused.{by-choice}
 use Rattle.histories.proofs.Staying.{Good}
 use Rattle.histories.proofs.Tests.{waits-says}
 use Rattle.lists.specs.Rules.{readyOf, queueIn}

@@ -21,11 +21,11 @@ use Rattle.scope.specs.Seats.{queueSeats, firstRing, firstOf, leaves, becomesRe
 use Rattle.scope.specs.Objects.{objectsEnd}
 use Rattle.scope.specs.Waiting.{wokenSeats, wake, wakeNext, wakeAll}
 use Rattle.scope.specs.Replies.{Wake, wakesFrom}
+use Rattle.scope.proofs.Rows.{by-choice}
 use Rattle.laws.proofs.Branches.{lt-or-le, not-of-true, picked-no}
 use Rattle.seats.specs.Rule.{In}
 use Rattle.seats.proofs.First.{on-seat-le}
 use Rattle.histories.specs.Sound.{TasksSound}
-use Rattle.histories.proofs.Refused.{by-choice}
 use Rattle.histories.proofs.Staying.{Good, leaves-good}
 use Rattle.lists.specs.Along.{Once, firstIn}
 use Rattle.lists.specs.Calls.{madeReady, wokenInto, allWokenInto, wakeOf}

@@ -7,13 +7,13 @@ use mathlib.Core.Bool.{Bool, true, false, not}
 use lib.ListN.{length}
 use lib.Dec.{eqb}
 use Rattle.scope.specs.Choice.{pick, every}
-use Rattle.scope.specs.Calls.{calls}
+use Rattle.scope.specs.Calls.{knownCalls, calls}
 use Rattle.laws.proofs.Branches.{true-false}
 use Rattle.laws.proofs.Searches.{every-at}
 use Rattle.rows.specs.Rows.{setAt, mayGive}
 
 -- "The call table has twenty rows"
-pub twenty-rows : length calls ≡ 20
+pub twenty-rows : length calls ≡ knownCalls
 twenty-rows = refl
 
 -- the two are both true or both false
@@ -36,11 +36,11 @@ agrees call status = same (hasBit call status) (mayGive call status)
 abbrev rowAgrees : ℕ → Bool
 rowAgrees call = every (agrees call) 64
 
-every-row : every rowAgrees 20 ≡ true
+every-row : every rowAgrees knownCalls ≡ true
 unfolding every pick mayGive
 every-row = refl
 
-pub set-right : (call status : ℕ) → call < 20 → status < 64 → hasBit call status ≡ mayGive call status
+pub set-right : (call status : ℕ) → call < knownCalls → status < 64 → hasBit call status ≡ mayGive call status
 set-right call status h l =
     same-is (hasBit call status) (mayGive call status)
-    (every-at (agrees call) 64 (every-at rowAgrees 20 every-row call h) status l)
+    (every-at (agrees call) 64 (every-at rowAgrees knownCalls every-row call h) status l)

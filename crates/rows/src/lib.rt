@@ -2,7 +2,7 @@
 // A constant table, read by call number, in two columns: a step reads the first alone.
 ghost use mathlib.Core.Path.{_≡_};
 ghost use Prim.Native.Nat.{_<_};
-ghost use Rattle.scope.specs.Calls.{callAt, mayCall};
+ghost use Rattle.scope.specs.Calls.{knownCalls, callAt, mayCall};
 ghost use Rattle.rows.specs.Rows.{setAt, mayGive};
 
 pub const CALLS: usize = 20;
@@ -63,7 +63,7 @@ const MAY: [u64; CALLS] = [
 
 // Who may make a call.
 pub fn who_of(call: usize) -> u8
-    requires { ⌜ call < 20 ⌝ }
+    requires { ⌜ call < knownCalls ⌝ }
     ensures { λ r. ⌜ r ≡ callAt call .who ⌝ }
 {
     WHO[call]
@@ -71,7 +71,7 @@ pub fn who_of(call: usize) -> u8
 
 // The set of statuses that a call can answer.
 pub fn may_of(call: usize) -> u64
-    requires { ⌜ call < 20 ⌝ }
+    requires { ⌜ call < knownCalls ⌝ }
     ensures { λ r. ⌜ r ≡ setAt call ⌝ }
 {
     MAY[call]
@@ -79,7 +79,7 @@ pub fn may_of(call: usize) -> u64
 
 // Whether a caller of this mark may make the call.
 pub fn may_call(call: u32, mark: u32) -> bool
-    requires { ⌜ call < 20 ⌝ }
+    requires { ⌜ call < knownCalls ⌝ }
     requires { ⌜ mark < 2 ⌝ }
     ensures { λ r. ⌜ r ≡ mayCall call mark ⌝ }
 {
@@ -88,7 +88,7 @@ pub fn may_call(call: u32, mark: u32) -> bool
 
 // Whether the status stands in the call's row.
 pub fn may_give(call: u32, status: u32) -> bool
-    requires { ⌜ call < 20 ⌝ }
+    requires { ⌜ call < knownCalls ⌝ }
     requires { ⌜ status < 64 ⌝ }
     ensures { λ r. ⌜ r ≡ mayGive call status ⌝ }
 {

@@ -90,6 +90,10 @@ calls =
     ∷ byTask (INVALID-ID ∷ OBJECT-DELETED ∷ []) (λ s a b c d e. poolInfo s a)
     ∷ []
 
+-- "twenty rows": the calls are numbered below this
+abbrev pub knownCalls : ℕ
+knownCalls = 20
+
 abbrev pub callAt : ℕ → Call
 callAt call = getD calls call noCall
 

@@ -9,13 +9,13 @@ use Rattle.scope.specs.Choice.{pick}
 use Rattle.scope.specs.Statuses.{OK, ILLEGAL-USE, NO-CALLER, BAD-CALL}
 use Rattle.scope.specs.Answers.{plain, badState}
 use Rattle.scope.specs.Rules.{sound}
-use Rattle.scope.specs.Calls.{callAt, mayCall}
+use Rattle.scope.specs.Calls.{knownCalls, callAt, mayCall}
 
 -- 25: "unknown call or caller mark, or a tick with mark 0" (no other row denies the running task);
 -- 24: "task caller, nothing runs"; 2: "interrupt caller, call neither sem_release nor tick"; 0: none of these
 unfoldable pub callerRefusal : ℕ → ℕ → ℕ → ℕ
 callerRefusal call mark running =
-    pick (leb 20 call) BAD-CALL
+    pick (leb knownCalls call) BAD-CALL
     (pick (ltb 1 mark) BAD-CALL
     (pick (eqb mark 0)
     (pick (mayCall call 0) (pick (ltb running 32) OK NO-CALLER) BAD-CALL)
