@@ -1,3 +1,4 @@
 pub mod Laws
 pub mod Value
 pub mod Cells
+pub mod Filled

@@ -1,7 +1,7 @@
 -- "A cleared grid can also be filled from a lent list of grant records, one task slot and one semaphore slot each".
 -- Assumes nothing.
-use Prim.Native.Nat.{ℕ}
-use mathlib.Core.Bool.{Bool}
+use Prim.Native.Nat.{ℕ, _+_}
+use mathlib.Core.Bool.{Bool, _&&_}
 use mathlib.Core.List.{List, [], _∷_}
 use lib.Dec.{eqb}
 use Rattle.scope.specs.Choice.{pick}
@@ -36,3 +36,8 @@ counted (r ∷ rs) g = counted rs (countedOne g r)
 -- "the grid left as given"
 unfoldable pub filled : List Grant → Grid → Grid
 filled list g = pick (eqb (fillStatus list) OK) (counted list g) g
+
+-- how many of the records name these two slots
+abbrev pub naming : ℕ → ℕ → List Grant → ℕ
+naming t i [] = 0
+naming t i (r ∷ rs) = pick (eqb (r .task) t && eqb (r .semaphore) i) 1 0 + naming t i rs

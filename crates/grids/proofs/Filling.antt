@@ -142,7 +142,7 @@ module _ (p : ℕ) (h : p ≤ 15) (xs : List Event) where
   past = pastOf p xs
 
   history-fills : Fills (after (freshState p) xs) past
-  history-fills = history-has Fills fills-after p h xs (fresh-fills p)
+  history-fills = history-has Fills (λ s ok x past p told ag d. fills-after s ok x past (ag .running) d) p h xs (fresh-fills p)
 
   -- no record of the list is refused
   pub records-good : (n : ℕ) → fillStatus (recordsOf (grantsSince n past)) ≡ OK

@@ -138,7 +138,7 @@ module _ (p : ℕ) (h : p ≤ 15) (xs : List Event) where
   past = pastOf p xs
 
   history-told : Told (after (freshState p) xs) past
-  history-told = history-has Told told-after p h xs (fresh-told p)
+  history-told = history-has Told (λ s ok x past p told ag d. told-after s ok x past (ag .running) d) p h xs (fresh-told p)
 
   -- the grid that was cleared n turns ago
   pub grid-told : (n t i : ℕ) → t < 32 → i < 16

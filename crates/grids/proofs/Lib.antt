@@ -4,3 +4,4 @@ pub mod Noted
 pub mod Holds
 pub mod Grids
 pub mod Filling
+pub mod Books

@@ -111,15 +111,15 @@ claim-runs s x at = whole (sound s)
 
 -- the grants of a turn that is no claim and no release
 module _ (y : Turn) (past : List Turn) where
-  no-grants : isAnswer 11 OK y ≡ false → isAnswer 12 OK y ≡ false → grantsAt past y ≡ []
+  pub no-grants : isAnswer 11 OK y ≡ false → isAnswer 12 OK y ≡ false → grantsAt past y ≡ []
   unfolding grantsAt
   no-grants d e = picked-no _ _ _ d ∙ picked-no _ _ _ e
 
-  claim-grants : isAnswer 11 OK y ≡ true → grantsAt past y ≡ record { task = runningIn past; semaphore = y .event .a } ∷ []
+  pub claim-grants : isAnswer 11 OK y ≡ true → grantsAt past y ≡ record { task = runningIn past; semaphore = y .event .a } ∷ []
   unfolding grantsAt
   claim-grants d = picked-yes _ _ _ d
 
-  release-grants : isAnswer 11 OK y ≡ false → isAnswer 12 OK y ≡ true → grantsAt past y ≡ wokenBy (y .event .a) (y .reply .wakes)
+  pub release-grants : isAnswer 11 OK y ≡ false → isAnswer 12 OK y ≡ true → grantsAt past y ≡ wokenBy (y .event .a) (y .reply .wakes)
   unfolding grantsAt
   release-grants d e = picked-no _ _ _ d ∙ picked-yes _ _ _ e
 
@@ -132,7 +132,7 @@ one-wake : (g : Grid) (i task : ℕ) → released g i (record { task = task; sta
 unfolding released pick
 one-wake g i task = refl
 
-one-woken : (id task : ℕ) → wokenBy id (record { task = task; status = OK } ∷ []) ≡ record { task = task; semaphore = id } ∷ []
+pub one-woken : (id task : ℕ) → wokenBy id (record { task = task; status = OK } ∷ []) ≡ record { task = task; semaphore = id } ∷ []
 unfolding pick
 one-woken id task = refl
 

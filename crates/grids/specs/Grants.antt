@@ -38,6 +38,11 @@ abbrev pub between : ℕ → ℕ → List Given → ℕ
 between task id [] = 0
 between task id (x ∷ xs) = pick (eqb (x .task) task && eqb (x .semaphore) id) 1 0 + between task id xs
 
+-- how many of them are from this semaphore, to whatever task
+abbrev pub fromSemaphore : ℕ → List Given → ℕ
+fromSemaphore id [] = 0
+fromSemaphore id (x ∷ xs) = pick (eqb (x .semaphore) id) 1 0 + fromSemaphore id xs
+
 -- the call made a new object in this slot
 unfoldable pub bornIn : ℕ → ℕ → Turn → Bool
 bornIn call slot x = isAnswer call OK x && eqb (slotOf (value x)) slot
