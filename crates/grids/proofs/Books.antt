@@ -9,22 +9,22 @@ use mathlib.Core.Bool.{Bool, true, false, _&&_}
 use mathlib.Core.List.{List, [], _∷_, _++_}
 use lib.ListN.{length}
 use lib.Dec.{eqb}
-use borrow.Author.Tests.{eqb-false, eq-eqb, ne-eqb}
+use borrow.Author.Tests.{eqb-false, ne-eqb}
 use Rattle.scope.specs.declared.State.{State}
 use Rattle.scope.specs.declared.Answer.{Answer}
 use Rattle.scope.specs.Choice.{pick}
 use Rattle.scope.specs.Statuses.{OK}
 use Rattle.scope.specs.Answers.{answer, plain, badState, wakesWith}
-use Rattle.scope.specs.Replies.{Wake, replyOf}
+use Rattle.scope.specs.Replies.{Wake}
 use Rattle.scope.specs.Semaphores.{semDeleteAt}
 use Rattle.scope.specs.Ticks.{tick}
 use Rattle.laws.proofs.Branches.{eq-or-not, first-fails, true-or-false, second-decides, picked-no}
 use Rattle.tables.proofs.Laws.{found-below, found-identifier}
 use Rattle.histories.specs.Sound.{Sound}
-use Rattle.histories.specs.History.{Event, answerTo, after}
+use Rattle.histories.specs.History.{Event, answerTo}
 use Rattle.histories.specs.Order.{Arrivals, WaitsFor}
 use Rattle.histories.proofs.Deeds.{Deed, refused, tells, tasks-change, task-moves, sems-change, pools-change, caller-waits, first-woken, sem-deleted, time-passes, by-deed}
-use Rattle.books.specs.Past.{Turn, isAnswer, isAnswerOf, pastOf, runningIn}
+use Rattle.books.specs.Past.{Turn, isAnswer, isAnswerOf, pastOf}
 use Rattle.books.specs.Told.{NoGrant, taskId, semId}
 use Rattle.books.specs.Waiting.{claimed, grantedTo, grants}
 use Rattle.books.proofs.Agreeing.{turnOf, Agrees, not-call, not-status, is-answer, not-of}
