@@ -13,7 +13,7 @@ use lib.Dec.{leb}
 use borrow.Author.Tests.{le-leb}
 use Rattle.scope.specs.declared.State.{State}
 use Rattle.scope.specs.declared.Answer.{Answer}
-use Rattle.scope.specs.Script.{recordCount, firstOffset, firstPriority, isScript, stepAt}
+use Rattle.scope.specs.Script.{recordCount, firstPriority, isScript, stepAt}
 use Rattle.scope.specs.Step.{answered}
 use Rattle.scope.specs.Views.{runningTask}
 use Rattle.scope.specs.Replies.{wakesFrom, wakeList}
@@ -28,13 +28,12 @@ use Rattle.histories.specs.History.{Event, answerTo, after}
 use Rattle.histories.specs.Scripts.{eventAt, eventsFrom}
 use Rattle.histories.proofs.Ledger.{event-keeps}
 use Rattle.player.specs.declared.Place.{Place}
-use Rattle.player.specs.Place.{Playing, Begun}
+use Rattle.player.specs.Place.{Begun}
 use Rattle.player.proofs.Laws.{record-step}
 use Rattle.books.proofs.Agreeing.{turnOf}
 use Rattle.grid.specs.Grid.{Grid, cleared, cell}
 use Rattle.grid.specs.Keeping.{kept}
 use Rattle.grids.specs.Kept.{keptBy, keptFrom}
-use Rattle.watching.specs.declared.Stepped.{Stepped}
 use Rattle.watching.specs.Watched.{endOf, gridOf, Shows, Gridded}
 
 -- `left` records from a place on are still to come

@@ -1,5 +1,4 @@
 -- Record after record the state and the grid go on as the history does: what is still to come from them is what was to come at first.
-use native.Mathlib.Omega.{arith}
 use borrow.Author.Needs.{needs}
 use denote.Ref.{now}
 use Rattle.watching.proofs.Laws.{Going, begins, goes, ended, kept-all}
