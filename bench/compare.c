@@ -1,6 +1,6 @@
 /*
  * Compares the proved player with the second program, in one process: whole
- * listings of generated scripts, length and bytes.
+ * listings of generated scripts, length and bytes, and their grant grids.
  *
  *     compare FIRST_SEED SCRIPTS            so many scripts
  *     compare --records FIRST_SEED RECORDS  scripts until so many records
@@ -14,6 +14,7 @@
 
 #include "coverage.h"
 #include "dryswennol.h"
+#include "grids.h"
 #include "lent.h"
 #include "players.h"
 #include "script.h"
@@ -35,6 +36,8 @@ struct run {
     uint64_t damaged;
     uint64_t bytes;
     uint64_t rooms;
+    uint64_t cells;  /* of grids, not 0 */
+    uint64_t grants; /* in them */
     uint64_t proved_time;
     uint64_t second_time;
 };
@@ -184,6 +187,9 @@ static void compare_script(void)
         fail_by_listings(one, two);
     if (!coverage_add(&run.coverage, s, (const char *)second, two))
         fail("both listings have not the paper's form");
+    run.doing = "the grids";
+    if (!grids_agree(run.lent, s->length, &run.cells, &run.grants))
+        fail("the grids differ");
     if (has_its_turn()) {
         play_into_rooms(two);
         play_checked(two);
@@ -206,6 +212,8 @@ static int print_results(uint64_t first)
     printf("records %" PRIu64 ", bytes compared %" PRIu64
            ", rooms of other sizes %" PRIu64 "\n", c->records, run.bytes,
            run.rooms);
+    printf("grids: cells that are not 0 %" PRIu64 ", grants in them %" PRIu64
+           "\n", run.cells, run.grants);
     outside = coverage_print(c);
     printf("over the run: proved %.1f ns a record, second %.1f, ratio %.2f\n",
            (double)run.proved_time / records,

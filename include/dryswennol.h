@@ -21,6 +21,16 @@ extern "C" {
  */
 size_t dryswennol_listing(const uint8_t *script, size_t script_len, uint8_t *out, size_t out_len);
 
+/*
+ * The grant grid after a script, cleared before its first record: how often each task slot was granted each semaphore slot,
+ * stopping at 65,535, between the latest objects of the two slots.
+ *
+ * Answers 512 where the bytes are a script and cells_len is at least 512: then cells[16 * task + semaphore], for the 32 task
+ * slots and the 16 semaphore slots, is that number, and the cells from cells[512] on are as they were.
+ * Answers 0 in any other case, and no cell is changed. The same holds of NULL, of overlapping and of what is read as above.
+ */
+size_t dryswennol_grid(const uint8_t *script, size_t script_len, uint16_t *cells, size_t cells_len);
+
 #ifdef __cplusplus
 }
 #endif

@@ -2,12 +2,14 @@
  * What no script can show. Damaged states: each breaks one rule, is answered
  * 26 and left as it was. Bytes changed at random: a state that still keeps
  * the rules keeps them after a step, and a refusal changes nothing. A slot
- * used up, after 65,535 serials. A fresh state of priority 16.
+ * used up, after 65,535 serials. A fresh state of priority 16. A grid's cell
+ * that stops at 65,535, and a list of records that is refused.
  */
 #include <stdio.h>
 #include <stdlib.h>
 #include <string.h>
 
+#include "grid.h"
 #include "kernel.h"
 
 #define DAMAGE(name, work) \
@@ -226,6 +228,33 @@ static bool fresh_states_are_met(void)
         && step(&k, 7, 64, 1, &a) == OK && a.value[0] == 0;
 }
 
+/* "stopping at 65,535"; "33 BAD_RECORD if any slot is outside its table, the
+ * grid left as given" */
+static bool grid_is_met(void)
+{
+    const struct grant_record last = { TASKS - 1, SEMAPHORES - 1 };
+    const struct grant_record bad[2][2] = {
+        { { TASKS - 1, SEMAPHORES - 1 }, { TASKS, 0 } },
+        { { TASKS - 1, SEMAPHORES - 1 }, { 0, SEMAPHORES } },
+    };
+    struct kernel k;
+    struct grid g;
+
+    kernel_fresh(&k, 0);
+    grid_clear(&g);
+    for (int i = 0; i < MOST_GRANTS + 2; i++) {
+        uint32_t expected = (uint32_t)(i < MOST_GRANTS ? i : MOST_GRANTS);
+
+        if (grid_grants(&g, &k, last.task, last.semaphore) != expected
+            || grid_fill(&g, &k, &last, 1) != OK)
+            return false;
+    }
+    grid_clear(&g);
+    return grid_fill(&g, &k, bad[0], 2) == BAD_RECORD
+        && grid_fill(&g, &k, bad[1], 2) == BAD_RECORD
+        && grid_grants(&g, &k, last.task, last.semaphore) == 0;
+}
+
 static bool random_damages_are_met(const struct kernel *good)
 {
     uint32_t seed = 1;
@@ -260,6 +289,8 @@ int main(void)
         return failed("a slot used up is not met");
     if (!fresh_states_are_met())
         return failed("a fresh state is not met");
+    if (!grid_is_met())
+        return failed("a grid is not met");
     printf("%d damaged states are answered 26\n", DAMAGES);
     return 0;
 }

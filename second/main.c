@@ -1,6 +1,6 @@
 /*
- * The program: second [--trust] [FILE]. Reads a script from the file, or
- * from standard input, and prints its listing.
+ * The program: second [--trust] [--grid] [FILE]. Reads a script from the
+ * file, or from standard input, and prints its listing, or its grant grid.
  */
 #include <errno.h>
 #include <stdio.h>
@@ -18,41 +18,56 @@ static int failed(const char *what)
     return 1;
 }
 
-static int play(FILE *from, const char *name, int trust)
+/* What is asked for. */
+struct wish {
+    int trust;
+    int grid;
+};
+
+static int play(FILE *from, const char *name, struct wish wish)
 {
     size_t length = fread(script, 1, sizeof script, from);
     size_t written;
 
     if (ferror(from))
         return failed(name);
-    written = script_listing(script, length, trust, listing, sizeof listing);
+    written = (wish.grid ? script_grid : script_listing)(
+        script, length, wish.trust, listing, sizeof listing);
     if (fwrite(listing, 1, written, stdout) != written || fflush(stdout) != 0)
         return failed("standard output");
     return 0;
 }
 
-static int play_file(const char *name, int trust)
+static int play_file(const char *name, struct wish wish)
 {
     FILE *from = fopen(name, "rb");
     int result;
 
     if (from == NULL)
         return failed(name);
-    result = play(from, name, trust);
+    result = play(from, name, wish);
     fclose(from);
     return result;
 }
 
 int main(int argc, char **argv)
 {
-    int trust = argc > 1 && strcmp(argv[1], "--trust") == 0;
-    int names = argc - 1 - trust;
+    struct wish wish = { 0, 0 };
+    int words = 1;
 
-    if (names > 1 || (names == 1 && argv[1 + trust][0] == '-')) {
-        fprintf(stderr, "usage: second [--trust] [FILE]\n");
+    if (words < argc && strcmp(argv[words], "--trust") == 0) {
+        wish.trust = 1;
+        words++;
+    }
+    if (words < argc && strcmp(argv[words], "--grid") == 0) {
+        wish.grid = 1;
+        words++;
+    }
+    if (argc - words > 1 || (argc > words && argv[words][0] == '-')) {
+        fprintf(stderr, "usage: second [--trust] [--grid] [FILE]\n");
         return 2;
     }
-    if (names == 1)
-        return play_file(argv[1 + trust], trust);
-    return play(stdin, "standard input", trust);
+    if (argc > words)
+        return play_file(argv[words], wish);
+    return play(stdin, "standard input", wish);
 }

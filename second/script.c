@@ -8,6 +8,8 @@
  */
 #include "script.h"
 
+#include "grid.h"
+#include "identifiers.h"
 #include "kernel.h"
 
 struct writer {
@@ -130,5 +132,51 @@ size_t script_listing(const uint8_t *script, size_t length, int trust,
         play_record(&k, bytes, trust, &a);
         put_answer(&w, record + 1, &a);
     }
+    return w.length;
+}
+
+/* A line for each cell that is not 0: the latest task and the latest
+ * semaphore of its slots, and the grants. */
+static void put_grid(struct writer *w, const struct grid *g,
+                     const struct kernel *k)
+{
+    for (uint32_t task = 0; task < TASKS; task++) {
+        for (uint32_t sem = 0; sem < SEMAPHORES; sem++) {
+            uint32_t grants = grid_grants(g, k, task, sem);
+
+            if (grants == 0)
+                continue;
+            put_number(w, identifier(&k->task_table, task));
+            put_field(w, identifier(&k->semaphore_table, sem));
+            put_field(w, grants);
+            put_sign(w, '\n');
+        }
+    }
+}
+
+size_t script_grid(const uint8_t *script, size_t length, int trust, char *out,
+                   size_t room)
+{
+    struct writer w = { .out = out, .room = room };
+    struct header h;
+    struct kernel k;
+    struct answer a = { 0 };
+    struct grid g;
+    uint32_t caller = SLOT_RANGE; /* "one started task, identifier 64" */
+
+    if (!header_is_admitted(script, length, &h)) {
+        put_text(&w, "script refused\n");
+        return w.length;
+    }
+    kernel_fresh(&k, h.priority);
+    grid_clear(&g);
+    for (uint32_t record = 0; record < h.records; record++) {
+        const uint8_t *bytes = script + h.offset + RECORD_BYTES * record;
+
+        play_record(&k, bytes, trust, &a);
+        grid_note(&g, &k, number_at(bytes), number_at(bytes + 8), caller, &a);
+        caller = a.running;
+    }
+    put_grid(&w, &g, &k);
     return w.length;
 }

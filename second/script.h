@@ -27,4 +27,8 @@ enum {
 size_t script_listing(const uint8_t *script, size_t length, int trust,
                       char *out, size_t room);
 
+/* The same for its grant grid, which is cleared before the first record. */
+size_t script_grid(const uint8_t *script, size_t length, int trust, char *out,
+                   size_t room);
+
 #endif
