@@ -25,7 +25,8 @@ STATUSES = """
 ## Statuses
 
 A refusal, any status but 0 and 1, has four zero values, wakes nobody and changes nothing. 11 and 13 go to woken tasks only, and
-26 to a state that no script makes.
+26 to a state that no script makes. No call gives 33 BAD_RECORD: it refuses a list of grant records that names a slot outside its
+table (`crates/grid`).
 """
 SCRIPT = """
 ## Identifiers and rooms

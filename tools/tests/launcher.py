@@ -23,15 +23,17 @@ mkdir -p target/bin
 echo "rt: one proved (unchanged since it was last proved)"
 sleep 0.1
 echo "rt: two proved (3 s)"
-echo "rt: play proved (14 s)"
-cp player target/bin/play
+echo "rt: $2 proved (14 s)"
+cp player "target/bin/$2"
 """
-# Stands in for the player: its listing of a script is the script itself.
+# Stands in for the player: its listing of a script is the script itself. For
+# the grid it is given no file, and reads standard input.
 PLAYER = """#!/bin/sh
-case $1 in *crash*) exit 3 ;; esac
+case $1 in *crash*) exit 3 ;; report) set -- - ;; esac
 cat -- "$1"
 case $? in 0) echo done >&3 ;; 141) kill -s PIPE $$ ;; *) echo failed >&3 ;; esac
 """
+USAGE = "usage: play [--grid] [FILE]"
 LOADER = """#!/bin/sh
 shift 2
 exec "$@"
@@ -54,8 +56,9 @@ class House:
         self.calls = self.path("calls")
         os.makedirs(self.root)
         shutil.copy(os.path.join(ROOT, "play"), self.path("play"))
-        write(self.path("crates.txt"), "one:\ntwo: one\nplay: one two io\n")
-        for crate in ("one", "two", "play"):
+        write(self.path("crates.txt"), "one:\ntwo: one\nplay: one two io\n"
+                                       "watch: one two io\n")
+        for crate in ("one", "two", "play", "watch"):
             write(self.path("crates", crate, "src", "lib.rt"), crate)
         write(self.path("crates/two/proofs/Laws.antt"), "law")
         write(self.path("player"), PLAYER, 0o755)
@@ -117,16 +120,31 @@ def test_usage(bench):
         status, out, said = house.play(words)
         bench.equal("./play " + words, (status, out), (2, ""))
         bench.holds("what is wrong with ./play " + words, said, expected)
-        bench.holds("usage after ./play " + words, said, "usage: play [FILE]")
+        bench.holds("usage after ./play " + words, said, USAGE)
     for word in ("--help", "-h"):
         status, out, said = house.play(word)
         bench.check("./play " + word, status == 0 and not said
-                    and out.startswith("usage: play [FILE]"))
+                    and out.startswith(USAGE))
     bench.equal("nothing is built for usage", house.builds(), 0)
     status, out, said = house.play("good", path="/usr/bin:/bin")
     bench.equal("no rt", (status, out), (1, ""))
     bench.holds("what rt is", said, "no rt on PATH: it is the command of the "
                                     "Rattle kit")
+
+
+def test_grid(bench):
+    house = House(bench, "gridded")
+    for words, expected in (
+            ("--grid good", (0, "1 0 0\n")),
+            ("--grid - < good", (0, "1 0 0\n")),
+            ("--grid < good", (0, "1 0 0\n")),
+            ("--grid absent", (1, ""))):
+        status, out, said = house.play(words)
+        bench.equal("./play " + words, (status, out), expected)
+    bench.equal("an absent file", said, "play: absent: cannot be opened\n")
+    bench.equal("the grid's program is built once, the player not",
+                read(house.calls).decode(), "check watch\n")
+    bench.equal("./play good", house.play("good")[:2], (0, "1 0 0\n"))
 
 
 def test_links(bench):

@@ -1,4 +1,4 @@
-"""examples/listing.c: the C program that links the proved library."""
+"""examples/listing.c and grid.c: C programs that link the proved library."""
 
 import os
 import platform
@@ -7,14 +7,16 @@ import shutil
 import subprocess
 
 from tests.bench import ROOT, read, stored_path
+from tests.grids import second_grid
 
 SOURCE = os.path.join(ROOT, "examples", "listing.c")
+GRID = os.path.join(ROOT, "examples", "grid.c")
 LIBRARY = os.path.join(ROOT, "target", "staticlib", "libexports.a")
-LINE = re.compile(r"gcc .* -o target/listing$", re.M)
+LINE = re.compile(r"gcc .* -o target/(?:listing|grid)$", re.M)
 
 
-def compile_line():
-    return LINE.search(read(SOURCE).decode()).group(0)
+def compile_line(source=SOURCE):
+    return LINE.search(read(source).decode()).group(0)
 
 
 def machine_words(bench):
@@ -44,26 +46,52 @@ def library_trouble():
     return None
 
 
-def test_c_program(bench):
+def compiled(bench, source):
+    """How the C program is started, or None where it cannot be made here."""
+    name = "examples/" + os.path.basename(source)
     words = machine_words(bench)
     why = library_trouble() or (words if isinstance(words, str) else None)
     if why:
-        bench.skip("examples/listing.c", why)
-        return
+        bench.skip(name, why)
+        return None
     compiler, runner = words
-    program = os.path.join(bench.scratch, "listing")
-    line = compile_line().split()[1:-1] + [program]
+    program = os.path.join(bench.scratch, os.path.basename(source)[:-2])
+    line = compile_line(source).split()[1:-1] + [program]
     done = subprocess.run(compiler + ["-Wall", "-Wextra", "-Werror"] + line,
                           cwd=ROOT, stderr=subprocess.PIPE)
-    bench.equal("examples/listing.c compiles", (
+    bench.equal(name + " compiles", (
         done.returncode, done.stderr.decode()), (0, ""))
-    for name in ("nine", "mixed-3", "script-offset-15"):
-        with open(stored_path(name, "script"), "rb") as script:
-            done = subprocess.run(runner + [program], stdin=script,
-                                  stdout=subprocess.PIPE)
-        bench.check("examples/listing.c plays " + name,
-                    (done.returncode, done.stdout)
+    return runner + [program]
+
+
+def played(program, name):
+    with open(stored_path(name, "script"), "rb") as script:
+        done = subprocess.run(program, stdin=script, stdout=subprocess.PIPE)
+    return done.returncode, done.stdout
+
+
+def test_c_program(bench):
+    program = compiled(bench, SOURCE)
+    for name in ("nine", "mixed-3", "script-offset-15") if program else ():
+        bench.check("examples/listing.c plays " + name, played(program, name)
                     == (0, read(stored_path(name, "listing"))))
+
+
+def test_c_grid(bench):
+    program = compiled(bench, GRID)
+    for name in ("nine", "mixed-3", "script-offset-15") if program else ():
+        cells = second_grid(stored_path(name, "script")).decode()
+        bench.equal("examples/grid.c plays " + name, played(program, name),
+                    (0, by_slot(cells).encode()))
+
+
+def by_slot(lines):
+    """The second program's grid, with slots for identifiers."""
+    if lines.startswith("script"):
+        return lines
+    cells = [map(int, line.split()) for line in lines.splitlines()]
+    return "".join("%d %d %d\n" % (task % 64, semaphore % 64, grants)
+                   for task, semaphore, grants in cells)
 
 
 def test_c_program_is_shown(bench):
