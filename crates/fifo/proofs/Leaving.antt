@@ -26,13 +26,13 @@ use Rattle.scope.specs.Semaphores.{semCreateAt, semCreate, semDeleteAt}
 use Rattle.scope.specs.Ticks.{tick}
 use Rattle.scope.specs.Replies.{Wake, wakesFrom}
 use Rattle.scope.specs.Fresh.{freshState}
+use Rattle.scope.proofs.Rows.{by-choice}
 use Rattle.laws.proofs.Branches.{true-false, true-or-false, both, both-true, picked-yes, picked-no, second-fails}
 use Rattle.tables.proofs.Laws.{found-slot, found-live, found-identifier, usable-at, usable-free}
 use Rattle.seats.specs.Rule.{In}
 use Rattle.histories.specs.Sound.{Sound}
 use Rattle.histories.specs.History.{Event, answerTo, after, SemaphoreAt}
 use Rattle.histories.specs.Order.{WaitsFor}
-use Rattle.histories.proofs.Refused.{by-choice}
 use Rattle.histories.proofs.Answered.{by-number}
 use Rattle.histories.proofs.Deeds.{Deed, refused, tells, tasks-change, task-moves, sems-change, pools-change, caller-waits, first-woken, sem-deleted, time-passes, by-deed}
 use Rattle.histories.proofs.Staying.{Good}
@@ -105,7 +105,7 @@ module _ (s : State) (x : Event) where
   deed-cause (task-moves c) = nobody-woken refl
   deed-cause (sems-change c) = nobody-woken refl
   deed-cause (pools-change c) = nobody-woken refl
-  deed-cause (caller-waits at i e f g) = nobody-woken refl
+  deed-cause (caller-waits at i e f g time) = nobody-woken refl
   deed-cause (first-woken at i e f) = by-release at refl
   deed-cause (sem-deleted at i e) = by-deletion at refl i e refl
   deed-cause (time-passes at) = by-tick at refl
