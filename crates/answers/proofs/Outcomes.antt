@@ -12,7 +12,7 @@ use Rattle.scope.specs.declared.Pools.{Pools}
 use Rattle.scope.specs.declared.Waking.{Waking}
 use Rattle.scope.specs.declared.Answer.{Answer}
 use Rattle.scope.specs.Statuses.{OK}
-use Rattle.scope.specs.Seats.{runnerOf}
+use Rattle.scope.specs.Seats.{maskOf, runnerOf}
 use Rattle.scope.specs.Answers.{noWakes, answer, plain, gives, wakesWith}
 use Rattle.answers.specs.declared.Outcome.{Outcome}
 use Rattle.answers.specs.Outcomes.{nowRuns, answerOf, outcome, woke}
@@ -39,18 +39,18 @@ none-woken s o e p = rw e p
 
 -- tasks stand elsewhere, and the seats say who runs
 module _ (k : Tasks) (m : Semaphores) (p : Pools) (running n : ℕ) (o : Outcome) where
-  pub plain-moved : (l l' : Line) (status : ℕ) → o ≡ outcome status 0 0 0 0 false n → n ≡ runnerOf (l' .seat) → l' ≡ l
-      → answerOf (stateOf l' k m p running) noWakes o ≡ plain (stateOf l k m p (runnerOf (l .seat))) status
+  pub plain-moved : (l l' : Line) (status : ℕ) → o ≡ outcome status 0 0 0 0 false n → n ≡ runnerOf (l' .seat) (maskOf (l' .rings)) → l' ≡ l
+      → answerOf (stateOf l' k m p running) noWakes o ≡ plain (stateOf l k m p (runnerOf (l .seat) (maskOf (l .rings)))) status
   unfolding answerOf outcome plain answer
   plain-moved l l' status e f g = rw (e, f, g)
 
-  pub gives-moved : (l l' : Line) (v : ℕ) → o ≡ outcome 0 v 0 0 0 false n → n ≡ runnerOf (l' .seat) → l' ≡ l
-      → answerOf (stateOf l' k m p running) noWakes o ≡ gives (stateOf l k m p (runnerOf (l .seat))) v
+  pub gives-moved : (l l' : Line) (v : ℕ) → o ≡ outcome 0 v 0 0 0 false n → n ≡ runnerOf (l' .seat) (maskOf (l' .rings)) → l' ≡ l
+      → answerOf (stateOf l' k m p running) noWakes o ≡ gives (stateOf l k m p (runnerOf (l .seat) (maskOf (l .rings)))) v
   unfolding answerOf outcome gives answer
   gives-moved l l' v e f g = rw (e, f, g)
 
   -- and tasks were woken, `l` and `before` being where they stood and who ran before
-  pub woke-moved : (l : Line) (before : ℕ) (w w' : Waking) (why : ℕ) → o ≡ woke (w' .woken) why n → n ≡ runnerOf (w' .line .seat) → w' ≡ w
+  pub woke-moved : (l : Line) (before : ℕ) (w w' : Waking) (why : ℕ) → o ≡ woke (w' .woken) why n → n ≡ runnerOf (w' .line .seat) (maskOf (w' .line .rings)) → w' ≡ w
       → answerOf (stateOf (w' .line) k m p running) (w' .wakes) o ≡ wakesWith (stateOf l k m p before) w why
   unfolding answerOf woke wakesWith
   woke-moved l before w w' why e f g = rw (e, f, g)

@@ -11,8 +11,8 @@ use Rattle.scope.specs.declared.Pools.{Pools}
 use Rattle.scope.specs.declared.State.{State}
 use Rattle.scope.specs.declared.Waking.{Waking}
 
-abbrev pub lineOf : List ℕ → List ℕ → List ℕ → Line
-lineOf left seat joined = record { left = left; seat = seat; joined = joined }
+abbrev pub lineOf : List ℕ → List ℕ → List ℕ → List ℕ → Line
+lineOf left seat joined rings = record { left = left; seat = seat; joined = joined; rings = rings }
 
 abbrev pub tasksOf : List ℕ → List ℕ → List Bool → List Bool → List Bool → List ℕ → Tasks
 tasksOf name serial live started suspended priority =
@@ -42,23 +42,23 @@ abbrev pub wakers : Tasks → List ℕ → List Bool → List ℕ → Tasks
 wakers k serial suspended priority = tasksOf (k .name) serial (k .live) (k .started) suspended priority
 
 -- the tasks woken so far, out of the columns
-abbrev pub wakingOf : List ℕ → List ℕ → List ℕ → List ℕ → ℕ → Waking
-wakingOf left seat joined wakes woken = record { line = lineOf left seat joined; wakes = wakes; woken = woken }
+abbrev pub wakingOf : List ℕ → List ℕ → List ℕ → List ℕ → List ℕ → ℕ → Waking
+wakingOf left seat joined rings wakes woken = record { line = lineOf left seat joined rings; wakes = wakes; woken = woken }
 
 -- what the tick is lent
-abbrev pub lentLine : State → List ℕ → List ℕ → List ℕ → List ℕ → List Bool → List ℕ → ℕ → State
-lentLine s left seat joined serial suspended priority running =
-    stateOf (lineOf left seat joined) (wakers (s .tasks) serial suspended priority) (s .semaphores) (s .pools) running
+abbrev pub lentLine : State → List ℕ → List ℕ → List ℕ → List ℕ → List ℕ → List Bool → List ℕ → ℕ → State
+lentLine s left seat joined rings serial suspended priority running =
+    stateOf (lineOf left seat joined rings) (wakers (s .tasks) serial suspended priority) (s .semaphores) (s .pools) running
 
 -- what the task calls are lent
-abbrev pub lentTasks : State → List ℕ → List ℕ → List ℕ → List ℕ → List ℕ → List Bool → List Bool → List Bool → List ℕ → ℕ → State
-lentTasks s left seat joined name serial live started suspended priority running =
-    stateOf (lineOf left seat joined) (tasksOf name serial live started suspended priority) (s .semaphores) (s .pools) running
+abbrev pub lentTasks : State → List ℕ → List ℕ → List ℕ → List ℕ → List ℕ → List ℕ → List Bool → List Bool → List Bool → List ℕ → ℕ → State
+lentTasks s left seat joined rings name serial live started suspended priority running =
+    stateOf (lineOf left seat joined rings) (tasksOf name serial live started suspended priority) (s .semaphores) (s .pools) running
 
 -- what the semaphore calls are lent; the first serial, suspended and priority are the tasks'
-abbrev pub lentSemaphores : State → List ℕ → List ℕ → List ℕ → List ℕ → List Bool → List ℕ → List ℕ → List ℕ → List ℕ → List Bool → List Bool → ℕ → State
-lentSemaphores s left seat joined waker suspended priority name serial units live fifo running =
-    stateOf (lineOf left seat joined) (wakers (s .tasks) waker suspended priority) (semaphoresOf name serial units live fifo) (s .pools) running
+abbrev pub lentSemaphores : State → List ℕ → List ℕ → List ℕ → List ℕ → List ℕ → List Bool → List ℕ → List ℕ → List ℕ → List ℕ → List Bool → List Bool → ℕ → State
+lentSemaphores s left seat joined rings waker suspended priority name serial units live fifo running =
+    stateOf (lineOf left seat joined rings) (wakers (s .tasks) waker suspended priority) (semaphoresOf name serial units live fifo) (s .pools) running
 
 -- what the pool calls are lent
 abbrev pub lentPools : State → List ℕ → List ℕ → List ℕ → List ℕ → List ℕ → List ℕ → List Bool → List Bool → ℕ → State

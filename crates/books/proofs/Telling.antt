@@ -149,10 +149,10 @@ module _ (s : State) (ok : Sound s) (x : Event) where
       (record { serial = refl; live = refl; fifo = refl }) (line-moves s x _ refl refl)
 
   -- a task that stands nowhere becomes ready: whatever else the call does
-  readied-moves : (a : Answer) (t p : ℕ) → t < 32 → getD (l .seat) t 0 ≡ 0
-      → a .state .line ≡ withSeats l (becomesReady (l .seat) (l .joined) t p) → a .woken ≡ 0 → Moves s a
-  readied-moves a t p room out e unwoken =
-      moves-none s a (subst (Fewer l) (sym e) (readied-goes s ok t p room out))
+  readied-moves : (a : Answer) (t p : ℕ) (rings : List ℕ) → t < 32 → getD (l .seat) t 0 ≡ 0
+      → a .state .line ≡ withSeats l (becomesReady (l .seat) (l .joined) t p) rings → a .woken ≡ 0 → Moves s a
+  readied-moves a t p rings room out e unwoken =
+      moves-none s a (subst (Fewer l) (sym e) (readied-goes s ok t p rings room out))
       (λ i h u w. subst (λ (r : Line). In (r .seat) (queueSeats i) u) (sym e)
       (ready-others (l .seat) (l .joined) t p whole room out (queueSeats i) (omega arith) (omega arith) u w))
       unwoken
@@ -172,14 +172,14 @@ module _ (s : State) (ok : Sound s) (x : Event) where
       ∙ getD-set-same (k .live) t false false (omega (arith, ok .tasks .sized .lives)))))
       (λ ne. (sym (getD-set-other (k .live) t u false false ne) ∙ alive, getD-set-other (k .priority) t u 0 0 ne))
       (eq-or-not u t))
-      (left-fewer l whole t 0 0 (leaves (l .seat) t) (stays-same (leaves (l .seat) t)))
+      (left-fewer l whole t 0 0 (leaves (l .seat) t) _ (stays-same (leaves (l .seat) t)))
       (left .others) (left .out)
       (record { serial = refl; live = refl; fifo = refl })
   move-steps (task-started at t e f) =
       let room : t < 32 = task-room s ok (x .a) t e in
       call-steps s x _ refl refl 4 at refl refl refl refl refl
       (record { serial = refl; live = refl; priority = refl }) (record { serial = refl; live = refl; fifo = refl })
-      (readied-moves _ t (getD (k .priority) t 0) room (idle-nowhere l k (objectsOf s) (ok .line) t room f .seat) refl refl)
+      (readied-moves _ t (getD (k .priority) t 0) _ room (idle-nowhere l k (objectsOf s) (ok .line) t room f .seat) refl refl)
   move-steps (task-suspended at t e f g h) =
       call-steps s x _ refl refl 5 at refl refl refl refl refl
       (record { serial = refl; live = refl; priority = refl }) (record { serial = refl; live = refl; fifo = refl })
@@ -189,7 +189,7 @@ module _ (s : State) (ok : Sound s) (x : Event) where
       let room : t < 32 = task-room s ok (x .a) t e in
       call-steps s x _ refl refl 6 at refl refl refl refl refl
       (record { serial = refl; live = refl; priority = refl }) (record { serial = refl; live = refl; fifo = refl })
-      (readied-moves _ t (getD (k .priority) t 0) room (off-nowhere l k (objectsOf s) (ok .line) t room h (not-false (getD (k .suspended) t false) g) .seat) refl refl)
+      (readied-moves _ t (getD (k .priority) t 0) _ room (off-nowhere l k (objectsOf s) (ok .line) t room h (not-false (getD (k .suspended) t false) g) .seat) refl refl)
   move-steps (priority-set at t e f g) =
       let room : t < 32 = task-room s ok (x .a) t e in
       set-steps s x _ refl refl at refl t room e (getD-set-same (k .priority) t (x .b) 0 (omega (arith, ok .tasks .sized .priorities))) refl refl

@@ -18,7 +18,7 @@ use Rattle.scope.specs.Answers.{noWakes}
 use Rattle.scope.specs.Waiting.{FOREVER}
 use Rattle.scope.specs.Statuses.{OK, BAD-STATE}
 use Rattle.scope.specs.Objects.{objectsOf}
-use Rattle.scope.specs.Rules.{seatsRight, readyOrderRight, waitsRight, queuesSorted, countsRight, startsRight, tasksRight, semsRight, poolsRight, poolsApart, runningRight}
+use Rattle.scope.specs.Rules.{seatsRight, ringsRight, readyOrderRight, waitsRight, queuesSorted, countsRight, startsRight, tasksRight, semsRight, poolsRight, poolsApart, runningRight}
 use Rattle.scope.specs.Step.{stepped}
 use Rattle.cases.specs.Cases.{same}
 
@@ -30,6 +30,7 @@ goodLine =
       left = 0 ∷ 0 ∷ 2 ∷ FOREVER ∷ replicate 28 0;
       seat = (ringSeats 5 + 1) ∷ (ringSeats 5 + 2) ∷ (queueSeats 0 + 1) ∷ (queueSeats 0 + 2) ∷ replicate 28 0;
       joined = 0 ∷ 0 ∷ 8 ∷ 6 ∷ replicate 28 0;
+      rings = 32 ∷ [];
     }
 
 abbrev goodTasks : Tasks
@@ -102,6 +103,7 @@ lineWith meant t x =
       left = numbers meant t x 0 (goodLine .left);
       seat = numbers meant t x 1 (goodLine .seat);
       joined = numbers meant t x 2 (goodLine .joined);
+      rings = numbers meant t x 3 (goodLine .rings);
     })
 
 abbrev left : ℕ → ℕ → State
@@ -112,6 +114,10 @@ seat t x = lineWith 1 t x
 
 abbrev joined : ℕ → ℕ → State
 joined t x = lineWith 2 t x
+
+-- of the column of the mask, which has one place,
+abbrev mask : ℕ → State
+mask x = lineWith 3 0 x
 
 abbrev tasksWith : ℕ → ℕ → ℕ → Bool → State
 tasksWith meant t x b =
@@ -221,6 +227,8 @@ broken =
     breaks (λ s. seatsRight (s .line .seat))
     (seat 1 (ringSeats 5 + 1) ∷ seat 3 (queueSeats 0 + 1) ∷ seat 1 (ringSeats 5 + 3) ∷ seat 3 (queueSeats 0 + 3)
     ∷ seat 1 (ringSeats 5) ∷ [])
+    -- M-106, the mask "of rings that hold a task": the bit of priority 5's ring is not set; an empty ring's is, above it and below it
+    ∷ breaks (λ s. ringsRight (s .line)) (mask 0 ∷ mask 96 ∷ mask 48 ∷ [])
     -- "The ready order holds each ready task once": one is missing; "and no other": one suspended, one not started, one deleted;
     -- "priorities never rising along it": one stands among those of a lower priority, and one has got another
     ∷ breaks (λ s. readyOrderRight (s .line) (s .tasks))
@@ -267,6 +275,7 @@ sameMarks (false ∷ xs) (y ∷ ys) = not y && sameMarks xs ys
 abbrev pub sameState : State → State → Bool
 sameState s r =
     same (s .line .left) (r .line .left) && (same (s .line .seat) (r .line .seat) && (same (s .line .joined) (r .line .joined)
+    && (same (s .line .rings) (r .line .rings)
     && (same (s .tasks .name) (r .tasks .name) && (same (s .tasks .serial) (r .tasks .serial)
     && (sameMarks (s .tasks .live) (r .tasks .live) && (sameMarks (s .tasks .started) (r .tasks .started)
     && (sameMarks (s .tasks .suspended) (r .tasks .suspended) && (same (s .tasks .priority) (r .tasks .priority)
@@ -276,7 +285,7 @@ sameState s r =
     && (same (s .pools .name) (r .pools .name) && (same (s .pools .address) (r .pools .address)
     && (same (s .pools .length) (r .pools .length) && (same (s .pools .size) (r .pools .size)
     && (same (s .pools .serial) (r .pools .serial) && (sameMarks (s .pools .live) (r .pools .live)
-    && (sameMarks (s .pools .forced) (r .pools .forced) && eqb (s .running) (r .running))))))))))))))))))))))
+    && (sameMarks (s .pools .forced) (r .pools .forced) && eqb (s .running) (r .running)))))))))))))))))))))))
 
 -- BAD_STATE: "four zero values, an empty wake list, and the given state back; its running task is .. 0 with BAD_STATE"
 abbrev pub isRefusal : State → Answer → Bool

@@ -51,6 +51,7 @@ fn task_call(
     left: &mut [u32; 32],
     seat: &mut [u16; 32],
     joined: &mut [u8; 32],
+    rings: &mut [u16; 1],
     name: &mut [u32; 32],
     serial: &mut [u16; 32],
     live: &mut [bool; 32],
@@ -63,10 +64,10 @@ fn task_call(
     b: u32,
 ) -> Outcome
     requires { ⌜ (1 ≤ call) × (call < 8) ⌝ }
-    ensures { λ r. ⌜ ((s : State) (c d e : ℕ) → answerOf (lentTasks s (now (left .exit)) (now (seat .exit)) (now (joined .exit))
+    ensures { λ r. ⌜ ((s : State) (c d e : ℕ) → answerOf (lentTasks s (now (left .exit)) (now (seat .exit)) (now (joined .exit)) (now (rings .exit))
         (now (name .exit)) (now (serial .exit)) (now (live .exit)) (now (started .exit)) (now (suspended .exit))
         (now (priority .exit)) running) noWakes r
-        ≡ callAt call .does (lentTasks s (now (left .entry)) (now (seat .entry)) (now (joined .entry)) (now (name .entry))
+        ≡ callAt call .does (lentTasks s (now (left .entry)) (now (seat .entry)) (now (joined .entry)) (now (rings .entry)) (now (name .entry))
         (now (serial .entry)) (now (live .entry)) (now (started .entry)) (now (suspended .entry))
         (now (priority .entry)) running) a b c d e) ⌝ }
 {
@@ -86,6 +87,7 @@ fn task_call(
             left,
             seat,
             joined,
+            rings,
             name,
             serial,
             live,
@@ -96,11 +98,22 @@ fn task_call(
             a,
         ),
         3 => tasks::task_ident(name, serial, live, running, a),
-        4 => tasks::task_start(seat, joined, serial, live, started, priority, running, a),
-        5 => tasks::task_suspend(seat, serial, live, started, suspended, running, a),
+        4 => tasks::task_start(
+            seat,
+            joined,
+            rings,
+            serial,
+            live,
+            started,
+            priority,
+            running,
+            a,
+        ),
+        5 => tasks::task_suspend(seat, rings, serial, live, started, suspended, running, a),
         6 => tasks::task_resume(
             seat,
             joined,
+            rings,
             serial,
             live,
             started,
@@ -112,6 +125,7 @@ fn task_call(
         _ => tasks::task_set_priority(
             seat,
             joined,
+            rings,
             serial,
             live,
             started,
@@ -129,6 +143,7 @@ fn sem_call(
     left: &mut [u32; 32],
     seat: &mut [u16; 32],
     joined: &mut [u8; 32],
+    rings: &mut [u16; 1],
     waker: &[u16; 32],
     suspended: &[bool; 32],
     priority: &[u8; 32],
@@ -143,10 +158,10 @@ fn sem_call(
 ) -> Outcome
     requires { ⌜ (8 ≤ x .call) × (x .call < 14) ⌝ }
     requires { ⌜ now wakes ≡ noWakes ⌝ }
-    ensures { λ r. ⌜ ((s : State) (d e : ℕ) → answerOf (lentSemaphores s (now (left .exit)) (now (seat .exit)) (now (joined .exit))
+    ensures { λ r. ⌜ ((s : State) (d e : ℕ) → answerOf (lentSemaphores s (now (left .exit)) (now (seat .exit)) (now (joined .exit)) (now (rings .exit))
         (now (waker .entry)) (now (suspended .entry)) (now (priority .entry)) (now (name .exit)) (now (serial .exit)) (now (units .exit))
         (now (live .exit)) (now (fifo .exit)) running) (now (wakes .exit)) r
-        ≡ callAt (x .call) .does (lentSemaphores s (now (left .entry)) (now (seat .entry)) (now (joined .entry)) (now (waker .entry))
+        ≡ callAt (x .call) .does (lentSemaphores s (now (left .entry)) (now (seat .entry)) (now (joined .entry)) (now (rings .entry)) (now (waker .entry))
         (now (suspended .entry)) (now (priority .entry)) (now (name .entry)) (now (serial .entry)) (now (units .entry)) (now (live .entry))
         (now (fifo .entry)) running) (x .a) (x .b) (x .c) d e) ⌝ }
 {
@@ -157,6 +172,7 @@ fn sem_call(
             left,
             seat,
             joined,
+            rings,
             waker,
             suspended,
             priority,
@@ -174,6 +190,7 @@ fn sem_call(
             left,
             seat,
             joined,
+            rings,
             priority,
             serial,
             units,
@@ -188,6 +205,7 @@ fn sem_call(
             left,
             seat,
             joined,
+            rings,
             waker,
             suspended,
             priority,
@@ -267,6 +285,7 @@ pub fn tick_part(
     left: &mut [u32; 32],
     seat: &mut [u16; 32],
     joined: &mut [u8; 32],
+    rings: &mut [u16; 1],
     waker: &[u16; 32],
     suspended: &[bool; 32],
     priority: &[u8; 32],
@@ -275,9 +294,9 @@ pub fn tick_part(
     x: Asked,
 ) -> Outcome
     requires { ⌜ x .call ≡ 0 ⌝ }
-    ensures { λ r. ⌜ ((s : State) → answerOf (lentLine s (now (left .exit)) (now (seat .exit)) (now (joined .exit)) (now (waker .entry))
+    ensures { λ r. ⌜ ((s : State) → answerOf (lentLine s (now (left .exit)) (now (seat .exit)) (now (joined .exit)) (now (rings .exit)) (now (waker .entry))
         (now (suspended .entry)) (now (priority .entry)) running) (now (wakes .exit)) r
-        ≡ answered (lentLine s (now (left .entry)) (now (seat .entry)) (now (joined .entry)) (now (waker .entry)) (now (suspended .entry))
+        ≡ answered (lentLine s (now (left .entry)) (now (seat .entry)) (now (joined .entry)) (now (rings .entry)) (now (waker .entry)) (now (suspended .entry))
         (now (priority .entry)) running) (x .call) (x .mark) (x .a) (x .b) (x .c) (x .d) (x .e)) ⌝ }
 {
     *wakes = [0; 32];
@@ -285,7 +304,7 @@ pub fn tick_part(
     if refusal != scope::OK {
         return answers::plain(refusal, running);
     }
-    ticks::tick(left, seat, joined, waker, suspended, priority, wakes)
+    ticks::tick(left, seat, joined, rings, waker, suspended, priority, wakes)
 }
 
 // A task call.
@@ -293,6 +312,7 @@ pub fn task_part(
     left: &mut [u32; 32],
     seat: &mut [u16; 32],
     joined: &mut [u8; 32],
+    rings: &mut [u16; 1],
     name: &mut [u32; 32],
     serial: &mut [u16; 32],
     live: &mut [bool; 32],
@@ -304,10 +324,10 @@ pub fn task_part(
     x: Asked,
 ) -> Outcome
     requires { ⌜ (1 ≤ x .call) × (x .call < 8) ⌝ }
-    ensures { λ r. ⌜ ((s : State) → answerOf (lentTasks s (now (left .exit)) (now (seat .exit)) (now (joined .exit)) (now (name .exit))
+    ensures { λ r. ⌜ ((s : State) → answerOf (lentTasks s (now (left .exit)) (now (seat .exit)) (now (joined .exit)) (now (rings .exit)) (now (name .exit))
         (now (serial .exit)) (now (live .exit)) (now (started .exit)) (now (suspended .exit)) (now (priority .exit)) running)
         (now (wakes .exit)) r
-        ≡ answered (lentTasks s (now (left .entry)) (now (seat .entry)) (now (joined .entry)) (now (name .entry)) (now (serial .entry))
+        ≡ answered (lentTasks s (now (left .entry)) (now (seat .entry)) (now (joined .entry)) (now (rings .entry)) (now (name .entry)) (now (serial .entry))
         (now (live .entry)) (now (started .entry)) (now (suspended .entry))
         (now (priority .entry)) running) (x .call) (x .mark) (x .a) (x .b) (x .c) (x .d) (x .e)) ⌝ }
 {
@@ -320,6 +340,7 @@ pub fn task_part(
         left,
         seat,
         joined,
+        rings,
         name,
         serial,
         live,
@@ -338,6 +359,7 @@ pub fn sem_part(
     left: &mut [u32; 32],
     seat: &mut [u16; 32],
     joined: &mut [u8; 32],
+    rings: &mut [u16; 1],
     waker: &[u16; 32],
     suspended: &[bool; 32],
     priority: &[u8; 32],
@@ -351,10 +373,10 @@ pub fn sem_part(
     x: Asked,
 ) -> Outcome
     requires { ⌜ (8 ≤ x .call) × (x .call < 14) ⌝ }
-    ensures { λ r. ⌜ ((s : State) → answerOf (lentSemaphores s (now (left .exit)) (now (seat .exit)) (now (joined .exit))
+    ensures { λ r. ⌜ ((s : State) → answerOf (lentSemaphores s (now (left .exit)) (now (seat .exit)) (now (joined .exit)) (now (rings .exit))
         (now (waker .entry)) (now (suspended .entry)) (now (priority .entry)) (now (name .exit)) (now (serial .exit)) (now (units .exit))
         (now (live .exit)) (now (fifo .exit)) running) (now (wakes .exit)) r
-        ≡ answered (lentSemaphores s (now (left .entry)) (now (seat .entry)) (now (joined .entry)) (now (waker .entry))
+        ≡ answered (lentSemaphores s (now (left .entry)) (now (seat .entry)) (now (joined .entry)) (now (rings .entry)) (now (waker .entry))
         (now (suspended .entry)) (now (priority .entry)) (now (name .entry)) (now (serial .entry)) (now (units .entry)) (now (live .entry))
         (now (fifo .entry)) running) (x .call) (x .mark) (x .a) (x .b) (x .c) (x .d) (x .e)) ⌝ }
 {
@@ -367,6 +389,7 @@ pub fn sem_part(
         left,
         seat,
         joined,
+        rings,
         waker,
         suspended,
         priority,

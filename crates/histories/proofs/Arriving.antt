@@ -13,7 +13,7 @@ use lib.Seq.{getD-set-same, getD-set-other}
 use Rattle.scope.specs.declared.Line.{Line}
 use Rattle.scope.specs.declared.Tasks.{Tasks}
 use Rattle.scope.specs.Choice.{pick}
-use Rattle.scope.specs.Seats.{queueSeats, leaves, joins, aheadOf}
+use Rattle.scope.specs.Seats.{queueSeats, leaves, joins, aheadOf, ringsLeft}
 use Rattle.scope.specs.Objects.{objectsEnd, Objects}
 use Rattle.scope.specs.Views.{withSeats, withWait}
 use Rattle.scope.specs.Waiting.{queueKey, waits}
@@ -187,7 +187,7 @@ module _ (l : Line) (k : Tasks) (m : Objects) (t : ℕ) (room : t < 32) (out : O
       (ok .order j h u v (old j u ne a) (old j v nf b)
       (joined-order (l .seat) (l .joined) t (queueSeats i) (queueKey fifo p) (omega arith) u v ne nf less))
 
-  pub joins-ordered : (ticks : ℕ) → Ordered (withWait l t ticks p (taken fifo)) (m .fifo) tale (suc n)
+  pub joins-ordered : (ticks : ℕ) → Ordered (withWait l t ticks p (taken fifo) (l .rings)) (m .fifo) tale (suc n)
   joins-ordered ticks =
       record {
         times = length-set (told .time) t n ∙ ok .times;
@@ -211,8 +211,8 @@ pub waits-ordered : (l : Line) (k : Tasks) (m : Objects) (sound : LineSound l k 
 unfolding waits
 waits-ordered l k m sound t room ready i p ticks hi told n ok =
     let good : Good (l .seat) = record { queues = sound .queues; low = seats-low l k m sound } in
-    joins-ordered (withSeats l (leaves (l .seat) t)) k m t room (ready-gone l k m sound k t (agree-same k t) ready) i p hi told n
-    (passes-ordered l (withSeats l (leaves (l .seat) t)) (m .fifo) (m .fifo) told n
+    joins-ordered (withSeats l (leaves (l .seat) t) (ringsLeft (l .rings) (l .seat) t)) k m t room (ready-gone l k m sound k t (agree-same k t) ready) i p hi told n
+    (passes-ordered l (withSeats l (leaves (l .seat) t) (ringsLeft (l .rings) (l .seat) t)) (m .fifo) (m .fifo) told n
     (record {
       line = record { seats = leaves-stays (l .seat) good t; joined = λ o a b u h. refl };
       fifos = λ j h. inl refl;

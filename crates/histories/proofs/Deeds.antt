@@ -23,7 +23,7 @@ use Rattle.scope.specs.Choice.{pick}
 use Rattle.scope.specs.Statuses.{OK, PENDING, INVALID-ID, OBJECT-DELETED, BAD-CALL}
 use Rattle.scope.specs.Identifiers.{identifier, lowestUsable}
 use Rattle.scope.specs.Areas.{isArea, isSize, isOut, lowestFree, bufferAddress, bufferAt}
-use Rattle.scope.specs.Seats.{queueSeats, firstOf, leaves, becomesReady, waitsOn}
+use Rattle.scope.specs.Seats.{queueSeats, firstOf, leaves, becomesReady, waitsOn, ringsLeft, ringsReady}
 use Rattle.scope.specs.Views.{withLine, withTasks, withSemaphores, withPools, withSeats, withWait, isReady}
 use Rattle.scope.specs.Answers.{answer, plain, gives, badState, wakesWith, onFound}
 use Rattle.scope.specs.Tasks.{lastPriority, taskFound, taskBorn, taskGone, withStarted, withSuspended, withPriority, readied}
@@ -79,19 +79,20 @@ pub data TaskChange (s : State) (x : Event) : Tasks → ℕ → Type 0 where
 -- it changes, and task t stands elsewhere
 pub data TaskMove (s : State) (x : Event) : Tasks → Line → ℕ → Type 0 where
   task-deleted : x .call ≡ 2 → (t : ℕ) → taskFound s (x .a) ≡ At t
-      → TaskMove s x (taskGone (s .tasks) t) (withWait (s .line) t 0 0 (leaves (s .line .seat) t)) 0
+      → TaskMove s x (taskGone (s .tasks) t) (withWait (s .line) t 0 0 (leaves (s .line .seat) t) (ringsLeft (s .line .rings) (s .line .seat) t)) 0
   task-started : x .call ≡ 4 → (t : ℕ) → taskFound s (x .a) ≡ At t → getD (s .tasks .started) t false ≡ false
       → TaskMove s x (withStarted (s .tasks) t) (readied (s .line) (s .tasks) t) 0
   task-suspended : x .call ≡ 5 → (t : ℕ) → taskFound s (x .a) ≡ At t → not (getD (s .tasks .started) t false) ≡ false
       → getD (s .tasks .suspended) t false ≡ false → waitsOn (getD (s .line .seat) t 0) ≡ false
-      → TaskMove s x (withSuspended (s .tasks) t true) (withSeats (s .line) (leaves (s .line .seat) t)) 0
+      → TaskMove s x (withSuspended (s .tasks) t true) (withSeats (s .line) (leaves (s .line .seat) t) (ringsLeft (s .line .rings) (s .line .seat) t)) 0
   task-resumed : x .call ≡ 6 → (t : ℕ) → taskFound s (x .a) ≡ At t → not (getD (s .tasks .started) t false) ≡ false
       → not (getD (s .tasks .suspended) t false) ≡ false → waitsOn (getD (s .line .seat) t 0) ≡ false
       → TaskMove s x (withSuspended (s .tasks) t false) (readied (s .line) (s .tasks) t) 0
   priority-set : x .call ≡ 7 → (t : ℕ) → taskFound s (x .a) ≡ At t → ltb lastPriority (x .b) ≡ false
       → isReady (s .line) (s .tasks) t ≡ true
       → TaskMove s x (withPriority (s .tasks) t (x .b))
-      (withSeats (s .line) (becomesReady (leaves (s .line .seat) t) (s .line .joined) t (x .b))) (getD (s .tasks .priority) t 0)
+      (withSeats (s .line) (becomesReady (leaves (s .line .seat) t) (s .line .joined) t (x .b))
+      (ringsReady (ringsLeft (s .line .rings) (s .line .seat) t) (x .b))) (getD (s .tasks .priority) t 0)
 
 -- the semaphores' table changes, and nothing else
 pub data SemChange (s : State) (x : Event) : Semaphores → ℕ → Type 0 where

@@ -7,12 +7,13 @@ use mathlib.Core.Bool.{true}
 use lib.Dec.{ltb}
 use borrow.Author.Tests.{ltb-false}
 use Rattle.scope.specs.declared.Fresh.{Fresh}
-use Rattle.scope.specs.Choice.{pick, least, every, number}
-use Rattle.scope.specs.Seats.{waitsOn, onSeat, standsIn, standing, greater, topOf, runnerOf}
+use lib.Count.{leadingZeros}
+use Rattle.scope.specs.Choice.{pick, least, every, number, bits}
+use Rattle.scope.specs.Seats.{waitsOn, onSeat, standsIn, standing, holdsTask, ringMask, runnerOf}
 use Rattle.scope.specs.Views.{readyWith, less}
 use Rattle.scope.specs.Areas.{isArea, isSize, buffersOf, shareByte}
 use Rattle.scope.specs.Waiting.{isTimeOut}
-use Rattle.scope.specs.Rules.{seatRight, seatsRight, readyRight, readyOrderRight, waitRight, waitsRight, joinedRight, queuesSorted, countRight, countsRight, startRight, startsRight, taskRight, tasksRight, semRight, semsRight, admitted, poolRight, poolsRight, pairShares, poolsApart, runningRight, keeps, sound}
+use Rattle.scope.specs.Rules.{seatRight, seatsRight, ringsRight, readyRight, readyOrderRight, waitRight, waitsRight, joinedRight, queuesSorted, countRight, countsRight, startRight, startsRight, taskRight, tasksRight, semRight, semsRight, admitted, poolRight, poolsRight, pairShares, poolsApart, runningRight, keeps, sound}
 use Rattle.scope.specs.Fresh.{freshState, fresh}
 use Rattle.scope.proofs.Rows.{by-choice}
 use Rattle.laws.proofs.Searches.{every-at}
@@ -20,14 +21,14 @@ use Rattle.histories.specs.Sound.{Sized, Sound}
 use Rattle.histories.proofs.Meaning.{sound-says}
 
 fresh-passes : every (λ p. sound (freshState p)) 16 ≡ true
-unfolding pick least every number waitsOn onSeat standsIn standing greater topOf runnerOf readyWith less isArea isSize buffersOf shareByte isTimeOut seatRight seatsRight readyRight readyOrderRight waitRight waitsRight joinedRight queuesSorted countRight countsRight startRight startsRight taskRight tasksRight semRight semsRight admitted poolRight poolsRight pairShares poolsApart runningRight keeps sound freshState
+unfolding pick least every number bits leadingZeros waitsOn onSeat standsIn standing holdsTask ringMask runnerOf readyWith less isArea isSize buffersOf shareByte isTimeOut seatRight seatsRight ringsRight readyRight readyOrderRight waitRight waitsRight joinedRight queuesSorted countRight countsRight startRight startsRight taskRight tasksRight semRight semsRight admitted poolRight poolsRight pairShares poolsApart runningRight keeps sound freshState
 fresh-passes = refl
 
 fresh-sized : (p : ℕ) → Sized (freshState p)
 unfolding freshState
 fresh-sized p =
     record {
-      line = record { lefts = refl; seats = refl; joineds = refl };
+      line = record { lefts = refl; seats = refl; joineds = refl; rings = refl };
       tasks = record { names = refl; serials = refl; lives = refl; starteds = refl; suspendeds = refl; priorities = refl };
       semaphores = record { names = refl; serials = refl; unitss = refl; lives = refl; fifos = refl };
       pools = record {

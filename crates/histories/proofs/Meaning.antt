@@ -2,20 +2,21 @@
 -- Assumes nothing.
 use Prim.Native.Nat.{ℕ, _+_, _-_, _%_, _≤_, _<_}
 use native.Mathlib.Omega.{arith}
-use mathlib.Core.Path.{_≡_, sym, ap, _∙_}
+use mathlib.Core.Path.{_≡_, refl, sym, ap, _∙_}
 use mathlib.Core.Logic.{_⊎_, inl, inr, ⊎-elim}
 use mathlib.Core.Bool.{Bool, true, false, not, _&&_}
-use lib.ListN.{getD}
+use mathlib.Core.List.{List, [], _∷_}
+use lib.ListN.{length, getD}
 use lib.Dec.{ltb, leb, eqb}
 use borrow.Author.Tests.{le-ltb, le-leb, eq-eqb, leb-true, eqb-true, not-true}
 use Rattle.scope.specs.declared.State.{State}
 use Rattle.scope.specs.declared.Line.{Line}
 use Rattle.scope.specs.declared.Tasks.{Tasks}
 use Rattle.scope.specs.declared.Semaphores.{Semaphores}
-use Rattle.scope.specs.Seats.{queueSeats, waitsOn, queueOf, standing}
+use Rattle.scope.specs.Seats.{queueSeats, waitsOn, queueOf, standing, ringMask, maskOf}
 use Rattle.scope.specs.Views.{readyWith, waitersOf, count}
 use Rattle.scope.specs.Objects.{objectsEnd, Objects, objectsOf}
-use Rattle.scope.specs.Rules.{seatsRight, readyRight, readyOrderRight, waitRight, waitsRight, joinedRight, queuesSorted, countRight, countsRight, startRight, startsRight, taskRight, tasksRight, semRight, semsRight, poolRight, poolsRight, poolsApart, runningRight, orderRules, tableRules, keeps, sound}
+use Rattle.scope.specs.Rules.{seatsRight, ringsRight, readyRight, readyOrderRight, waitRight, waitsRight, joinedRight, queuesSorted, countRight, countsRight, startRight, startsRight, taskRight, tasksRight, semRight, semsRight, poolRight, poolsRight, poolsApart, runningRight, orderRules, tableRules, keeps, sound}
 use Rattle.scope.proofs.Counts.{right-says, says-right}
 use Rattle.laws.proofs.Branches.{both, both-true, first-fails, second-fails, not-of-true, not-of-false, true-false, true-or-false, lt-or-le}
 use Rattle.laws.proofs.Searches.{every-yes, every-at}
@@ -252,6 +253,12 @@ module _ (m : Semaphores) (i : ℕ) where
       choose (getD (m .live) i false) (λ a. le-leb _ _ (h .alive a))
       (λ a. both _ _ (eq-eqb _ _ (h .name a)) (both _ _ (not-of-false _ (h .fifo a)) (eq-eqb _ _ (h .none a))))
 
+-- a column of one place
+one-place : (xs : List ℕ) → length xs ≡ 1 → xs ≡ getD xs 0 0 ∷ []
+one-place [] e = absurd (omega arith)
+one-place (x ∷ []) e = refl
+one-place (x ∷ y ∷ ys) e = absurd (omega arith)
+
 -- what the test says of a state whose arrays have their sizes
 module _ (s : State) (sized : Sized s) (orders : keeps orderRules s ≡ true) (tables : keeps tableRules s ≡ true) where
   order-rule : (rule : State → Bool) → Row rule orderRules → rule s ≡ true
@@ -297,12 +304,17 @@ module _ (s : State) (sized : Sized s) (orders : keeps orderRules s ≡ true) (t
   stock-at i h some =
       ⊎-elim (λ l. sem-stock (s .semaphores) i l ∙ count-at i l .1 some) (no-stock (s .semaphores) i (sized .semaphores .unitss)) (lt-or-le i 16)
 
+  says-rings : s .line .rings ≡ ringMask (s .line .seat) ∷ []
+  unfolding ringsRight
+  says-rings = one-place (s .line .rings) (sized .line .rings) ∙ ap (λ (m : ℕ). m ∷ []) (eqb-true _ _ (order-rule (λ x. ringsRight (x .line)) (search rows depth 12)))
+
   says-line : LineSound (s .line) (s .tasks) (objectsOf s)
   says-line =
       record {
         lefts = sized .line .lefts;
         joineds = sized .line .joineds;
         queues = says-queues;
+        rings = says-rings;
         stands = λ t h.
             stands-says (s .line) (s .tasks) (objectsOf s) t (says-queues .places t) (ready-at t h) (wait-at t h) (start-at t h);
         sorted = sorted-says (s .line) (s .tasks) (objectsOf s) says-queues (order-rule (λ x. queuesSorted (x .line) (objectsOf x .fifo)) (search rows depth 12));
@@ -353,17 +365,18 @@ sound-says s sized e = let h = sound-keeps s e in held-says s sized (h .0) (h .1
 -- and back, a row each
 module _ (s : State) (h : Sound s) where
   orders-right : keeps orderRules s ≡ true
-  unfolding readyOrderRight waitsRight queuesSorted countsRight startsRight runningRight
+  unfolding ringsRight readyOrderRight waitsRight queuesSorted countsRight startsRight runningRight
   orders-right =
       each-keeps orderRules s
       (more (rule-from-queues (s .line .seat) (h .line .queues))
+      (more (eq-eqb _ _ (ap maskOf (h .line .rings)))
       (more (every-yes _ 32 (λ t l. stands-ready (s .line) (s .tasks) (objectsOf s) t (h .line .stands t l)))
       (more (every-yes _ 32 (λ t l. stands-wait (s .line) (s .tasks) (objectsOf s) t (h .line .stands t l)))
       (more (every-yes _ 32 (λ t l. sorted-right (s .line) (s .tasks) (objectsOf s) (h .line .queues) t (h .line .stands t l) (h .line .sorted)))
       (more (every-yes _ 16 (λ i l. says-right (waitersOf (s .line) i) _ (h .semaphores .each i l .units) (no-units (s .line) (s .tasks) (s .semaphores) (h .line) i l)))
       (more (every-yes _ 32 (λ t l. stands-start (s .line) (s .tasks) (objectsOf s) t (h .tasks .each t l .suspended) (h .line .stands t l)))
       (more (eq-eqb _ _ (h .running))
-      none)))))))
+      none))))))))
 
   tables-right : keeps tableRules s ≡ true
   unfolding tasksRight semsRight poolsRight

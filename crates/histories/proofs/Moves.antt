@@ -7,19 +7,19 @@ use native.Mathlib.Omega.{arith}
 use mathlib.Core.Path.{_≡_, refl, sym, subst, ap, _∙_}
 use mathlib.Core.Logic.{_⊎_, inl, inr, ⊎-elim}
 use mathlib.Core.Bool.{Bool, true, false}
-use mathlib.Core.List.{List}
+use mathlib.Core.List.{List, [], _∷_}
 use lib.ListN.{length, getD, set, length-set}
-use lib.Seq.{getD-set-same, getD-set-other}
+use lib.Seq.{getD-set-same, getD-set-other, set-getD}
 use lib.Dec.{ltb}
 use borrow.Author.Tests.{lt-ltb, ltb-true}
 use Rattle.scope.specs.declared.Line.{Line}
 use Rattle.scope.specs.declared.Tasks.{Tasks}
 use Rattle.scope.specs.Choice.{pick}
-use Rattle.scope.specs.Seats.{queueSeats, ringSeats, standing, leaves, joins, becomesReady, aheadOf, waitsOn}
+use Rattle.scope.specs.Seats.{queueSeats, ringSeats, standing, leaves, joins, becomesReady, aheadOf, ringMask, maskLeft, ringsLeft, ringsReady, waitsOn}
 use Rattle.scope.specs.Objects.{objectsEnd, Objects}
 use Rattle.scope.specs.Views.{withSeats, withWait}
-use Rattle.scope.specs.Waiting.{isTimeOut, queueKey, waits, wokenSeats, wake}
-use Rattle.laws.proofs.Branches.{lt-or-le, eq-or-not, picked-no, both, both-true, true-false}
+use Rattle.scope.specs.Waiting.{isTimeOut, queueKey, waits, wokenSeats, wokenRings, wake}
+use Rattle.laws.proofs.Branches.{lt-or-le, eq-or-not, picked-yes, picked-no, both, both-true, true-false}
 use Rattle.laws.proofs.Arrays.{inside}
 use Rattle.seats.specs.Rule.{In, Sorted, Queues}
 use Rattle.seats.proofs.Counting.{standing-is, standing-le}
@@ -28,7 +28,13 @@ use Rattle.seats.proofs.Leaving.{length-leaves, leaves-out, leaves-nowhere, lea
 use Rattle.seats.proofs.Joining.{length-joins, joins-is, joins-in, joins-sorted, joins-untouched, joins-others, joins-others-sorted}
 use Rattle.scope.proofs.Seats.{ahead-from}
 use Rattle.seats.proofs.Rule.{stands-in, leaves-keeps, joins-queues}
+use Rattle.seats.proofs.Rings.{queued-mask, rings-left, rings-ready}
 use Rattle.histories.specs.Sound.{Nowhere, Waits, Ready, Stands, LineSound}
+
+-- who leaves a seat below all rings leaves the rings as they are
+rings-stay : (rings q : List ℕ) (t : ℕ) → getD q t 0 < 2048 → ringsLeft rings q t ≡ rings
+unfolding ringsLeft maskLeft
+rings-stay rings q t h = ap (set rings 0) (picked-yes (ltb (getD q t 0) 2048) _ _ (lt-ltb _ _ h)) ∙ set-getD rings 0 0
 
 -- Seats: what becomes of everybody else when task t leaves.
 module _ (q : List ℕ) (rule : Queues q) (low : (u : ℕ) → In q 0 u → ⊥) (t : ℕ) where
@@ -177,6 +183,7 @@ pub record Out (l : Line) (k : Tasks) (m : Objects) (t : ℕ) : Type 0 where
   pub lefts : length (l .left) ≡ 32
   pub joineds : length (l .joined) ≡ 32
   pub queues : Queues (l .seat)
+  pub rings : l .rings ≡ ringMask (l .seat) ∷ []
   pub others : (u : ℕ) → u < 32 → (u ≡ t → ⊥) → Stands l k m u
   pub sorted : (i : ℕ) → i < objectsEnd → m .fifo i ≡ false → Sorted (l .seat) (l .joined) (queueSeats i)
   pub counts : (i : ℕ) → i < objectsEnd → 0 < standing (l .seat) (queueSeats i) → m .stock i ≡ 0
@@ -196,6 +203,7 @@ stays l k m t out idle =
       lefts = out .lefts;
       joineds = out .joineds;
       queues = out .queues;
+      rings = out .rings;
       stands = all-stand (Stands l k m) t (inl (record { seat = out .seat; left = out .left; joined = out .joined; idle = idle })) (out .others);
       sorted = out .sorted;
       counts = out .counts;
@@ -216,6 +224,7 @@ module _ (l : Line) (k : Tasks) (m : Objects) (ok : LineSound l k m) where
         lefts = ok .lefts;
         joineds = ok .joineds;
         queues = ok .queues;
+        rings = ok .rings;
         stands = all-stand (Stands l j m) t here
             (λ u h ne. stands-other l l k j m t
             (record { left = λ v nv. refl; joined = λ v nv. refl; out = λ v nv z. z; at = λ v nv o level a. a }) agree u ne (ok .stands u h));
@@ -230,6 +239,7 @@ module _ (l : Line) (k : Tasks) (m : Objects) (ok : LineSound l k m) where
         lefts = ok .lefts;
         joineds = ok .joineds;
         queues = ok .queues;
+        rings = ok .rings;
         others = λ u h ne. stands-other l l k j m t
             (record { left = λ v nv. refl; joined = λ v nv. refl; out = λ v nv z. z; at = λ v nv o level a. a }) agree u ne (ok .stands u h);
         sorted = ok .sorted;
@@ -243,13 +253,14 @@ module _ (l : Line) (k : Tasks) (m : Objects) (ok : LineSound l k m) where
   leaves-out-with : (j : Tasks) (t : ℕ) → Agree k j t → (a b : List ℕ) → length a ≡ 32 → length b ≡ 32 → getD a t 0 ≡ 0 → getD b t 0 ≡ 0
       → ((u : ℕ) → (u ≡ t → ⊥) → getD a u 0 ≡ getD (l .left) u 0)
       → ((u : ℕ) → (u ≡ t → ⊥) → getD b u 0 ≡ getD (l .joined) u 0)
-      → Out (record { left = a; seat = leaves (l .seat) t; joined = b }) j m t
+      → Out (record { left = a; seat = leaves (l .seat) t; joined = b; rings = ringsLeft (l .rings) (l .seat) t }) j m t
   leaves-out-with j t agree a b la lb za zb same-a same-b =
-      let r : Line = record { left = a; seat = leaves (l .seat) t; joined = b } in
+      let r : Line = record { left = a; seat = leaves (l .seat) t; joined = b; rings = ringsLeft (l .rings) (l .seat) t } in
       record {
         lefts = la;
         joineds = lb;
         queues = leaves-keeps (l .seat) (ok .queues) seats-low t;
+        rings = rings-left (l .rings) (l .seat) (ok .rings) (ok .queues) seats-low t;
         others = λ u h ne. stands-other l r k j m t
             (record {
               left = same-a;
@@ -266,15 +277,22 @@ module _ (l : Line) (k : Tasks) (m : Objects) (ok : LineSound l k m) where
       }
 
   -- task t leaves its queue, if it stands in one, and waits no longer
-  pub gone : (j : Tasks) (t : ℕ) → t < 32 → Agree k j t → Out (withWait l t 0 0 (leaves (l .seat) t)) j m t
+  pub gone : (j : Tasks) (t : ℕ) → t < 32 → Agree k j t → Out (withWait l t 0 0 (leaves (l .seat) t) (ringsLeft (l .rings) (l .seat) t)) j m t
   gone j t room agree =
       leaves-out-with j t agree (set (l .left) t 0) (set (l .joined) t 0)
       (length-set (l .left) t 0 ∙ ok .lefts) (length-set (l .joined) t 0 ∙ ok .joineds)
       (getD-set-same (l .left) t 0 0 (omega (arith, ok .lefts))) (getD-set-same (l .joined) t 0 0 (omega (arith, ok .joineds)))
       (λ u ne. getD-set-other (l .left) t u 0 0 ne) (λ u ne. getD-set-other (l .joined) t u 0 0 ne)
 
+  -- one that stands in no ring leaves the rings as they are
+  waiter-gone : (t : ℕ) → t < 32 → getD (l .seat) t 0 < 2048 → Out (withWait l t 0 0 (leaves (l .seat) t) (l .rings)) k m t
+  waiter-gone t room low =
+      subst (λ (r : List ℕ). Out (withWait l t 0 0 (leaves (l .seat) t) r) k m t) (rings-stay (l .rings) (l .seat) t low)
+      (gone k t room (agree-same k t))
+
   -- a ready task leaves
-  pub ready-gone : (j : Tasks) (t : ℕ) → Agree k j t → Ready l k t → Out (withSeats l (leaves (l .seat) t)) j m t
+  pub ready-gone : (j : Tasks) (t : ℕ) → Agree k j t → Ready l k t
+      → Out (withSeats l (leaves (l .seat) t) (ringsLeft (l .rings) (l .seat) t)) j m t
   ready-gone j t agree here =
       leaves-out-with j t agree (l .left) (l .joined) (ok .lefts) (ok .joineds) (here .left) (here .joined) (λ u ne. refl) (λ u ne. refl)
 
@@ -287,14 +305,15 @@ key-is fifo p f = picked-no fifo 0 p f
 module _ (l : Line) (k : Tasks) (m : Objects) (t : ℕ) (room : t < 32) (out : Out l k m t) where
   -- it becomes ready; the keys do not matter
   pub becomes-ready : (key : List ℕ) (p : ℕ) → getD (k .started) t false ≡ true → getD (k .suspended) t false ≡ false → getD (k .priority) t 0 ≡ p
-      → LineSound (withSeats l (becomesReady (l .seat) key t p)) k m
+      → LineSound (withSeats l (becomesReady (l .seat) key t p) (ringsReady (l .rings) p)) k m
   becomes-ready key p started awake e =
-      let r : Line = withSeats l (becomesReady (l .seat) key t p) in
+      let r : Line = withSeats l (becomesReady (l .seat) key t p) (ringsReady (l .rings) p) in
       let level : ringSeats p % 64 ≡ 0 = omega arith in
       record {
         lefts = out .lefts;
         joineds = out .joineds;
         queues = joins-queues (l .seat) key t (ringSeats p) 0 (out .queues) room (out .seat) level;
+        rings = rings-ready (l .rings) (l .seat) (out .rings) key t p (out .queues) room (out .seat);
         stands = all-stand (Stands r k m) t
             (inr (inr (record {
               stands = subst (λ (v : ℕ). In (r .seat) (ringSeats v) t) (sym e)
@@ -320,15 +339,16 @@ module _ (l : Line) (k : Tasks) (m : Objects) (t : ℕ) (room : t < 32) (out : O
   -- it joins the queue of object i
   pub joins-queue : (i p ticks : ℕ) → i < objectsEnd → m .live i ≡ true → m .stock i ≡ 0
       → getD (k .started) t false ≡ true → isTimeOut ticks ≡ true → p ≤ 15
-      → LineSound (withWait l t ticks p (joins (l .seat) (l .joined) t (queueSeats i) (queueKey (m .fifo i) p))) k m
+      → LineSound (withWait l t ticks p (joins (l .seat) (l .joined) t (queueSeats i) (queueKey (m .fifo i) p)) (l .rings)) k m
   joins-queue i p ticks hi alive none started time small =
       let x : ℕ = queueKey (m .fifo i) p in
-      let r : Line = withWait l t ticks p (joins (l .seat) (l .joined) t (queueSeats i) x) in
+      let r : Line = withWait l t ticks p (joins (l .seat) (l .joined) t (queueSeats i) x) (l .rings) in
       let level : queueSeats i % 64 ≡ 0 = omega arith in
       record {
         lefts = length-set (l .left) t ticks ∙ out .lefts;
         joineds = length-set (l .joined) t p ∙ out .joineds;
         queues = joins-queues (l .seat) (l .joined) t (queueSeats i) x (out .queues) room (out .seat) level;
+        rings = out .rings ∙ ap (λ (v : ℕ). v ∷ []) (queued-mask (l .seat) (l .joined) t (queueSeats i) x (out .queues) room (out .seat) level (omega arith));
         stands = all-stand (Stands r k m) t
             (inr (inl (record {
               on = i;
@@ -370,15 +390,15 @@ module _ (l : Line) (k : Tasks) (m : Objects) (ok : LineSound l k m) (t : ℕ) (
       → LineSound (waits l i (m .fifo i) p ticks t) k m
   unfolding waits
   waits-sound i p ticks here hi alive none time small =
-      joins-queue (withSeats l (leaves (l .seat) t)) k m t room (ready-gone l k m ok k t (agree-same k t) here) i p ticks hi alive none (here .started) time small
+      joins-queue (withSeats l (leaves (l .seat) t) (ringsLeft (l .rings) (l .seat) t)) k m t room (ready-gone l k m ok k t (agree-same k t) here) i p ticks hi alive none (here .started) time small
 
-  -- a task that was started leaves and waits no longer: it is ready unless it is suspended
-  pub wake-sound : (suspended : Bool) → getD (k .started) t false ≡ true → getD (k .suspended) t false ≡ suspended
+  -- a task that was started and waits leaves and waits no longer: it is ready unless it is suspended
+  pub wake-sound : (suspended : Bool) → getD (l .seat) t 0 < 2048 → getD (k .started) t false ≡ true → getD (k .suspended) t false ≡ suspended
       → LineSound (wake l suspended (getD (k .priority) t 0) t) k m
-  unfolding wake wokenSeats pick
-  wake-sound true started e = stays (withWait l t 0 0 (leaves (l .seat) t)) k m t (gone l k m ok k t room (agree-same k t)) (inr e)
-  wake-sound false started e =
-      becomes-ready (withWait l t 0 0 (leaves (l .seat) t)) k m t room (gone l k m ok k t room (agree-same k t)) (l .joined) (getD (k .priority) t 0) started e refl
+  unfolding wake wokenSeats wokenRings pick
+  wake-sound true low started e = stays (withWait l t 0 0 (leaves (l .seat) t) (l .rings)) k m t (waiter-gone l k m ok t room low) (inr e)
+  wake-sound false low started e =
+      becomes-ready (withWait l t 0 0 (leaves (l .seat) t) (l .rings)) k m t room (waiter-gone l k m ok t room low) (l .joined) (getD (k .priority) t 0) started e refl
 
   -- and one fewer stands in the queue that it leaves
   pub wake-standing : (suspended : Bool) (p i : ℕ) → i < objectsEnd → In (l .seat) (queueSeats i) t

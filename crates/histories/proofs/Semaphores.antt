@@ -16,7 +16,7 @@ use Rattle.scope.specs.declared.Tasks.{Tasks}
 use Rattle.scope.specs.declared.Semaphores.{Semaphores}
 use Rattle.scope.specs.declared.Waking.{Waking}
 use Rattle.scope.specs.declared.Found.the-variants.{At}
-use Rattle.scope.specs.Seats.{queueSeats, firstOf, standing, runnerOf}
+use Rattle.scope.specs.Seats.{queueSeats, firstOf, standing, maskOf}
 use Rattle.scope.specs.Objects.{objectsOf}
 use Rattle.scope.specs.Views.{withLine, withSemaphores}
 use Rattle.scope.specs.Answers.{wakesWith}
@@ -25,9 +25,8 @@ use Rattle.scope.specs.Semaphores.{lastCount, semBorn, semGone, withUnits, semF
 use Rattle.laws.proofs.Arrays.{cleared}
 use Rattle.laws.proofs.Branches.{lt-or-le, eq-or-not, true-false, true-or-false, second-decides, not-of-false}
 use Rattle.tables.proofs.Laws.{found-below, found-live, usable-at, usable-free}
-use Rattle.seats.specs.Rule.{Runs}
 use Rattle.seats.proofs.Counting.{standing-le}
-use Rattle.seats.proofs.First.{runner-runs}
+use Rattle.seats.proofs.First.{runner-ring}
 use Rattle.histories.specs.Sound.{Ready, LineSound, TasksSound, SemSound, SemsSound, Sound}
 use Rattle.histories.proofs.Objects.{sem-live, sem-fifo, sem-stock, no-units, born-elsewhere, gone-elsewhere, units-elsewhere}
 use Rattle.histories.proofs.Moves.{waits-sound, queue-waits, ring-ready}
@@ -113,9 +112,9 @@ started-priority k t ok h started =
 pub runs-ready : (s : State) → Sound s → s .running < 32 → Ready (s .line) (s .tasks) (s .running)
 runs-ready s ok h =
     let q : List ℕ = s .line .seat in
-    let r : (p : ℕ) × Runs q (runnerOf q) p = runner-runs q (ok .line .queues .tasks) (omega (arith, h, ok .running)) in
+    let m : ℕ = maskOf (s .line .rings) in
     ring-ready (s .line) (s .tasks) (objectsOf s) (ok .line) (s .running) h
-    (omega (arith, r .1 .first, ap (λ (v : ℕ). getD q v 0) (ok .running)))
+    (omega (arith, runner-ring q m (omega (arith, h, ok .running)), ap (λ (v : ℕ). getD q v 0) (ok .running)))
 
 module _ (s : State) (ok : Sound s) where
   -- what an identifier names is a live semaphore

@@ -120,8 +120,9 @@ fewer-then l r x f g =
     }
 
 -- task t leaves, and whatever it has for a wait does not matter as long as it stands in no queue
-pub left-fewer : (l : Line) → Good (l .seat) → (t left joined : ℕ) (r : List ℕ) → Stays (leaves (l .seat) t) r → Fewer l (withWait l t left joined r)
-left-fewer l good t left joined r more =
+pub left-fewer : (l : Line) → Good (l .seat) → (t left joined : ℕ) (r rings : List ℕ) → Stays (leaves (l .seat) t) r
+    → Fewer l (withWait l t left joined r rings)
+left-fewer l good t left joined r rings more =
     record {
       seats = stays-then (l .seat) (leaves (l .seat) t) r (leaves-stays (l .seat) good t) more;
       joined = λ o a b u h.
@@ -133,9 +134,9 @@ left-fewer l good t left joined r more =
 module _ (l : Line) (good : Good (l .seat)) (t : ℕ) (room : t < 32) where
   wake-fewer : (b : Bool) (p : ℕ) → Fewer l (wake l b p t)
   unfolding wake wokenSeats pick
-  wake-fewer true p = left-fewer l good t 0 0 (leaves (l .seat) t) (stays-same (leaves (l .seat) t))
+  wake-fewer true p = left-fewer l good t 0 0 (leaves (l .seat) t) _ (stays-same (leaves (l .seat) t))
   wake-fewer false p =
-      left-fewer l good t 0 0 (becomesReady (leaves (l .seat) t) (l .joined) t p)
+      left-fewer l good t 0 0 (becomesReady (leaves (l .seat) t) (l .joined) t p) _
       (ready-stays (leaves (l .seat) t) (l .joined) t p (leaves-good (l .seat) good t) room (leaves-out (l .seat) t))
 
   wake-good : (b : Bool) (p : ℕ) → Good (wake l b p t .seat)

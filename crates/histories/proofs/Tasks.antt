@@ -17,7 +17,7 @@ use Rattle.scope.specs.declared.Tasks.{Tasks}
 use Rattle.scope.specs.declared.Found.the-variants.{At, Invalid}
 use Rattle.scope.specs.Choice.{pick}
 use Rattle.scope.specs.Identifiers.{found}
-use Rattle.scope.specs.Seats.{leaves, becomesReady, waitsOn}
+use Rattle.scope.specs.Seats.{leaves, becomesReady, waitsOn, ringsLeft, ringsReady}
 use Rattle.scope.specs.Objects.{Objects, objectsOf}
 use Rattle.scope.specs.Views.{withLine, withTasks, withSeats, withWait, readyWith, isReady}
 use Rattle.scope.specs.Tasks.{taskFound, taskBorn, taskGone, withStarted, withSuspended, withPriority}
@@ -234,9 +234,10 @@ module _ (s : State) (ok : Sound s) (t : ℕ) (room : t < 32) {j : Tasks} {a b :
     leaves-idle : (a ≡ false) ⊎ (b ≡ true) → Sound (withLine (withTasks s j) l)
     leaves-idle idle = all-sound s ok l j (s .semaphores) (stays l j (objectsOf s) t out (idle-now idle)) (w .table) (ok .semaphores)
 
-    turns-ready : (key : List ℕ) → a ≡ true → b ≡ false → Sound (withLine (withTasks s j) (withSeats l (becomesReady (l .seat) key t p)))
+    turns-ready : (key : List ℕ) → a ≡ true → b ≡ false
+        → Sound (withLine (withTasks s j) (withSeats l (becomesReady (l .seat) key t p) (ringsReady (l .rings) p)))
     turns-ready key e f =
-        all-sound s ok (withSeats l (becomesReady (l .seat) key t p)) j (s .semaphores)
+        all-sound s ok (withSeats l (becomesReady (l .seat) key t p) (ringsReady (l .rings) p)) j (s .semaphores)
         (becomes-ready l j (objectsOf s) t room out key p (w .started ∙ e) (w .suspended ∙ f) (w .priority))
         (w .table) (ok .semaphores)
 
@@ -316,7 +317,7 @@ module _ (s : State) (ok : Sound s) where
     move-sound (task-deleted at t e) =
         let n = named-task (x .a) t e in
         let w = writes-gone k (ok .tasks) t (n .0) in
-        leaves-idle s ok t (n .0) w (withWait l t 0 0 (leaves (l .seat) t))
+        leaves-idle s ok t (n .0) w (withWait l t 0 0 (leaves (l .seat) t) (ringsLeft (l .rings) (l .seat) t))
         (gone l k (objectsOf s) (ok .line) (taskGone k t) t (n .0) (w .agree)) (inl refl)
     move-sound (task-started at t e f) =
         let n = named-task (x .a) t e in
@@ -327,7 +328,7 @@ module _ (s : State) (ok : Sound s) where
         let n = named-task (x .a) t e in
         let started = not-false (getD (k .started) t false) f in
         let w = writes-suspended k (ok .tasks) t (n .0) (n .1) true started in
-        leaves-idle s ok t (n .0) w (withSeats l (leaves (l .seat) t))
+        leaves-idle s ok t (n .0) w (withSeats l (leaves (l .seat) t) (ringsLeft (l .rings) (l .seat) t))
         (ready-gone l k (objectsOf s) (ok .line) (withSuspended k t true) t (w .agree) (off-ready l k (objectsOf s) (ok .line) t (n .0) h started g)) (inr refl)
     move-sound (task-resumed at t e f g h) =
         let n = named-task (x .a) t e in
@@ -340,5 +341,5 @@ module _ (s : State) (ok : Sound s) where
         let n = named-task (x .a) t e in
         let w = writes-priority k (ok .tasks) t (n .0) (n .1) (x .b) (ltb-false 15 (x .b) f) in
         let here : Ready l k t = is-ready l k (objectsOf s) t (ok .line) (n .0) g in
-        turns-ready s ok t (n .0) w (withSeats l (leaves (l .seat) t))
+        turns-ready s ok t (n .0) w (withSeats l (leaves (l .seat) t) (ringsLeft (l .rings) (l .seat) t))
         (ready-gone l k (objectsOf s) (ok .line) (withPriority k t (x .b)) t (w .agree) here) (l .joined) (here .started) (here .awake)

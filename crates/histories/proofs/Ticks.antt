@@ -18,7 +18,7 @@ use Rattle.scope.specs.declared.Waking.{Waking}
 use Rattle.scope.specs.Choice.{pick}
 use Rattle.scope.specs.Objects.{Objects, objectsOf}
 use Rattle.scope.specs.Answers.{wakesWith}
-use Rattle.scope.specs.Waiting.{FOREVER, isTimeOut, wokenSeats, wake, wakeNext, noneWoken}
+use Rattle.scope.specs.Waiting.{FOREVER, isTimeOut, wokenSeats, wokenRings, wake, wakeNext, noneWoken}
 use Rattle.scope.specs.Ticks.{timeLeft, timesLeft, ticked, isDue, wakeDue, tick}
 use Rattle.scope.proofs.Times.{every-time-out}
 use Rattle.laws.proofs.Branches.{lt-or-le, eq-or-not, picked-yes, picked-no, both, both-true, true-false}
@@ -61,7 +61,7 @@ length-times x = length-map x timeLeft
 
 -- the line with other time_outs
 abbrev withLeft : Line → List ℕ → Line
-withLeft l g = record { left = g; seat = l .seat; joined = l .joined }
+withLeft l g = record { left = g; seat = l .seat; joined = l .joined; rings = l .rings }
 
 -- g are time_outs of a sound line: `left` has one wherever g has, but that tasks from t on may have nothing left
 record Passed (g left : List ℕ) (t : ℕ) : Type 0 where
@@ -121,6 +121,7 @@ passed-all l k m g ok passed =
       lefts = passed .size;
       joineds = ok .joineds;
       queues = ok .queues;
+      rings = ok .rings;
       stands = λ u h.
           ⊎-elim
           (λ s. inl (record { seat = s .seat; left = passed .none u (s .left); joined = s .joined; idle = s .idle }))
@@ -164,10 +165,11 @@ not-due l k m g t room ok passed e f =
 -- one that is due is woken
 due-woken : (k : Tasks) (m : Objects) (w : Waking) (g : List ℕ) (t : ℕ) → t < 32 → LineSound (withLeft (w .line) g) k m → isDue (w .line) t ≡ true
     → LineSound (withLeft (wakeNext k w t .line) (set g t 0)) k m
-unfolding isDue wakeNext wake wokenSeats
+unfolding isDue wakeNext wake wokenSeats wokenRings
 due-woken k m w g t room ok e =
     let at : Waits (withLeft (w .line) g) k m t = on-waits (withLeft (w .line) g) k m ok t room (both-true _ _ e .0) in
-    wake-sound (withLeft (w .line) g) k m ok t room (getD (k .suspended) t false) (at .started) refl
+    wake-sound (withLeft (w .line) g) k m ok t room (getD (k .suspended) t false)
+    (omega (arith, at .stands .1, at .within)) (at .started) refl
 
 next-left : (k : Tasks) (w : Waking) (t : ℕ) → wakeNext k w t .line .left ≡ set (w .line .left) t 0
 unfolding wakeNext wake

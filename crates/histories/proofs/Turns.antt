@@ -6,6 +6,7 @@ use native.Mathlib.Omega.{arith}
 use mathlib.Core.Path.{_≡_, refl, sym, subst, ap, _∙_}
 use mathlib.Core.Logic.{inl, inr, ⊎-elim}
 use mathlib.Core.Bool.{Bool, true, false}
+use mathlib.Core.List.{List}
 use lib.ListN.{length, getD}
 use lib.Seq.{getD-set-same}
 use lib.Dec.{ltb, eqb}
@@ -21,6 +22,7 @@ use Rattle.scope.specs.Statuses.{PENDING}
 use Rattle.scope.specs.Identifiers.{found}
 use Rattle.scope.specs.Seats.{queueSeats, firstOf, leaves, becomesReady}
 use Rattle.scope.specs.Objects.{objects, objectsOf}
+use Rattle.scope.specs.Views.{withSeats}
 use Rattle.scope.specs.Answers.{answer, plain, badState, wakesWith}
 use Rattle.scope.specs.Tasks.{taskFound}
 use Rattle.scope.specs.Waiting.{waits, noneWoken}
@@ -115,8 +117,8 @@ module _ (s : State) (ok : Sound s) where
       go false c h e = omega (arith, found-below (k .serial) (k .live) id e, ok .tasks .sized .serials)
 
   -- a task that stands nowhere becomes ready
-  pub readied-goes : (t p : ℕ) → t < 32 → getD (l .seat) t 0 ≡ 0 → Fewer l (record { left = l .left; seat = becomesReady (l .seat) (l .joined) t p; joined = l .joined })
-  readied-goes t p room out = record { seats = ready-stays (l .seat) (l .joined) t p good room out; joined = λ o a b u h. refl }
+  pub readied-goes : (t p : ℕ) (rings : List ℕ) → t < 32 → getD (l .seat) t 0 ≡ 0 → Fewer l (withSeats l (becomesReady (l .seat) (l .joined) t p) rings)
+  readied-goes t p rings room out = record { seats = ready-stays (l .seat) (l .joined) t p good room out; joined = λ o a b u h. refl }
 
   pub slot-room : (id i : ℕ) → semFound s id ≡ At i → i < 16
   slot-room id i e = omega (arith, found-below (m .serial) (m .live) id e, ok .semaphores .sized .serials)
@@ -136,14 +138,14 @@ module _ (s : State) (ok : Sound s) where
   -- what each deed does to the queues
   module _ (x : Event) where
     move-fewer : {r : Tasks} {q : Line} {v : ℕ} → TaskMove s x r q v → Fewer l q
-    move-fewer (task-deleted at t e) = left-fewer l good t 0 0 (leaves (l .seat) t) (stays-same (leaves (l .seat) t))
+    move-fewer (task-deleted at t e) = left-fewer l good t 0 0 (leaves (l .seat) t) _ (stays-same (leaves (l .seat) t))
     move-fewer (task-started at t e f) =
         let room : t < 32 = task-room (x .a) t e in
-        readied-goes t _ room (idle-nowhere l k (objectsOf s) (ok .line) t room f .seat)
+        readied-goes t _ _ room (idle-nowhere l k (objectsOf s) (ok .line) t room f .seat)
     move-fewer (task-suspended at t e f g h) = record { seats = leaves-stays (l .seat) good t; joined = λ o a b u i. refl }
     move-fewer (task-resumed at t e f g h) =
         let room : t < 32 = task-room (x .a) t e in
-        readied-goes t _ room (off-nowhere l k (objectsOf s) (ok .line) t room h (not-false (getD (k .suspended) t false) g) .seat)
+        readied-goes t _ _ room (off-nowhere l k (objectsOf s) (ok .line) t room h (not-false (getD (k .suspended) t false) g) .seat)
     move-fewer (priority-set at t e f g) =
         record {
           seats = stays-then (l .seat) (leaves (l .seat) t) _ (leaves-stays (l .seat) good t)

@@ -66,6 +66,7 @@ module _ (l : Line) (k : Tasks) (m : Objects) (line : LineSound l k m) (i : ℕ)
           lefts = line .lefts;
           joineds = line .joineds;
           queues = line .queues;
+          rings = line .rings;
           stands = λ t h.
               ⊎-elim inl
               (λ w. inr (⊎-elim
@@ -108,7 +109,8 @@ module _ (l : Line) (k : Tasks) (m : Objects) (line : LineSound l k m) (i : ℕ)
 pub next-sound : (k : Tasks) (m : Objects) (w : Waking) (t : ℕ) → t < 32 → LineSound (w .line) k m → Waits (w .line) k m t
     → LineSound (wakeNext k w t .line) k m
 unfolding wakeNext
-next-sound k m w t room line at = wake-sound (w .line) k m line t room (getD (k .suspended) t false) (at .started) refl
+next-sound k m w t room line at =
+    wake-sound (w .line) k m line t room (getD (k .suspended) t false) (omega (arith, at .stands .1, at .within)) (at .started) refl
 
 next-standing : (k : Tasks) (m : Objects) (w : Waking) (t i : ℕ) → t < 32 → i < objectsEnd → LineSound (w .line) k m → In (w .line .seat) (queueSeats i) t
     → standing (wakeNext k w t .line .seat) (queueSeats i) ≡ standing (w .line .seat) (queueSeats i) - 1

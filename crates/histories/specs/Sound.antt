@@ -5,13 +5,14 @@ use Prim.Native.Nat.{ℕ, _+_, _≤_, _<_}
 use mathlib.Core.Path.{_≡_}
 use mathlib.Core.Logic.{_⊎_}
 use mathlib.Core.Bool.{Bool, true, false}
+use mathlib.Core.List.{[], _∷_}
 use lib.ListN.{length, getD}
 use Rattle.scope.specs.declared.State.{State}
 use Rattle.scope.specs.declared.Line.{Line}
 use Rattle.scope.specs.declared.Tasks.{Tasks}
 use Rattle.scope.specs.declared.Semaphores.{Semaphores}
 use Rattle.scope.specs.declared.Pools.{Pools}
-use Rattle.scope.specs.Seats.{queueSeats, ringSeats, standing, runnerOf}
+use Rattle.scope.specs.Seats.{queueSeats, ringSeats, standing, ringMask, maskOf, runnerOf}
 use Rattle.scope.specs.Objects.{objectsEnd, Objects, objectsOf}
 use Rattle.scope.specs.Waiting.{isTimeOut}
 use Rattle.scope.specs.Rules.{poolRight, poolsApart}
@@ -22,6 +23,7 @@ pub record LineSized (l : Line) : Type 0 where
   pub lefts : length (l .left) ≡ 32
   pub seats : length (l .seat) ≡ 32
   pub joineds : length (l .joined) ≡ 32
+  pub rings : length (l .rings) ≡ 1
 
 pub record TasksSized (k : Tasks) : Type 0 where
   pub names : length (k .name) ≡ 32
@@ -87,6 +89,7 @@ pub record LineSound (l : Line) (k : Tasks) (o : Objects) : Type 0 where
   pub lefts : length (l .left) ≡ 32
   pub joineds : length (l .joined) ≡ 32
   pub queues : Queues (l .seat)
+  pub rings : l .rings ≡ ringMask (l .seat) ∷ []
   pub stands : (t : ℕ) → t < 32 → Stands l k o t
   pub sorted : (i : ℕ) → i < objectsEnd → o .fifo i ≡ false → Sorted (l .seat) (l .joined) (queueSeats i)
   pub counts : (i : ℕ) → i < objectsEnd → 0 < standing (l .seat) (queueSeats i) → o .stock i ≡ 0
@@ -135,4 +138,4 @@ pub record Sound (s : State) : Type 0 where
   pub tasks : TasksSound (s .tasks)
   pub semaphores : SemsSound (s .semaphores)
   pub pools : PoolsSound (s .pools)
-  pub running : s .running ≡ runnerOf (s .line .seat)
+  pub running : s .running ≡ runnerOf (s .line .seat) (maskOf (s .line .rings))

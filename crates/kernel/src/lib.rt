@@ -9,6 +9,7 @@ use scope::State;
 use scope::Tasks;
 ghost use mathlib.Core.Path.{_≡_};
 ghost use mathlib.Core.Bool.{true, false};
+ghost use Prim.Native.Nat.{_<_};
 ghost use Rattle.scope.specs.Fresh.{freshTasks, freshLine, noSemaphores, noPools, freshState, fresh};
 ghost use Rattle.scope.specs.Step.{answered};
 ghost use Rattle.scope.specs.Statuses.{BAD-STATE};
@@ -42,14 +43,17 @@ fn wide(p: u8) -> u16
 }
 
 fn fresh_line(priority: u8) -> Line
+    requires { ⌜ priority < 16 ⌝ }
     ensures { λ r. ⌜ r ≡ freshLine priority ⌝ }
 {
     let mut l = Line {
         left: [0; 32],
         seat: [0; 32],
         joined: [0; 32],
+        rings: [0; 1],
     };
     l.seat[0] = wide(priority) * 64 + 2048 + 1;
+    l.rings[0] = 1u16 << (priority as u32);
     l
 }
 
@@ -81,6 +85,7 @@ fn no_pools() -> Pools
 }
 
 fn fresh_state(priority: u8) -> State
+    requires { ⌜ priority < 16 ⌝ }
     ensures { λ r. ⌜ r ≡ freshState priority ⌝ }
 {
     State {

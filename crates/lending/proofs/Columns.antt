@@ -43,22 +43,22 @@ abbrev pub csL : ℕ → List Col
 csL o = columns msL 0 (o + 0)
 
 abbrev pub XsL : Type 0
-XsL = List ℕ × (List ℕ × (List ℕ × Unit {0}))
+XsL = List ℕ × (List ℕ × (List ℕ × (List ℕ × Unit {0})))
 
 abbrev pub heldL : Line → XsL
-heldL x = (x .left, (x .seat, (x .joined, tt)))
+heldL x = (x .left, (x .seat, (x .joined, (x .rings, tt))))
 
 abbrev pub madeL : XsL → Line
-madeL x = record { left = x .0; seat = x .1 .0; joined = x .1 .1 .0 }
+madeL x = record { left = x .0; seat = x .1 .0; joined = x .1 .1 .0; rings = x .1 .1 .1 .0 }
 
 pub isL : (x : Line) → L.the-type .to x ≡ heldL x
-isL x = λ i. (same (x .left) i, (same (x .seat) i, (same (x .joined) i, tt)))
+isL x = λ i. (same (x .left) i, (same (x .seat) i, (same (x .joined) i, (same (x .rings) i, tt))))
 
 abbrev pub msK : List Member
 msK = members (K.the-type .parts)
 
 abbrev pub csK : ℕ → List Col
-csK o = columns msK 0 (o + 224)
+csK o = columns msK 0 (o + 228)
 
 abbrev pub XsK : Type 0
 XsK = List ℕ × (List ℕ × (List Bool × (List Bool × (List Bool × (List ℕ × Unit {0})))))
@@ -76,7 +76,7 @@ abbrev pub msQ : List Member
 msQ = members (Q.the-type .parts)
 
 abbrev pub csQ : ℕ → List Col
-csQ o = columns msQ 0 (o + 544)
+csQ o = columns msQ 0 (o + 548)
 
 abbrev pub XsQ : Type 0
 XsQ = List ℕ × (List ℕ × (List ℕ × (List Bool × (List Bool × Unit {0}))))
@@ -94,7 +94,7 @@ abbrev pub msP : List Member
 msP = members (P.the-type .parts)
 
 abbrev pub csP : ℕ → List Col
-csP o = columns msP 0 (o + 704)
+csP o = columns msP 0 (o + 712)
 
 abbrev pub XsP : Type 0
 XsP = List ℕ × (List ℕ × (List ℕ × (List ℕ × (List ℕ × (List ℕ × (List Bool × (List Bool × Unit {0})))))))
@@ -133,37 +133,37 @@ module _ {M : Type 1} (𝓤 : URA M) (H : Heap 𝓤) (A : Atoms 𝓤) (W : Given
   togetherL x = joined 𝓤 H A W b (o + 0) (L.the-type .name) msL (L.the-type .to x)
 
   abbrev pub BackK : SProp 𝓤
-  BackK = PartsBack 𝓤 H A fullShare (K.the-type .name) msK b (o + 224)
+  BackK = PartsBack 𝓤 H A fullShare (K.the-type .name) msK b (o + 228)
 
   abbrev pub AtK : Tasks → Fml
-  AtK x = partAt (Struct (shapeOf (K.the-type .name) msK)) fullShare (K.the-type .to x) b (o + 224)
+  AtK x = partAt (Struct (shapeOf (K.the-type .name) msK)) fullShare (K.the-type .to x) b (o + 228)
 
   pub apartK : (x : Tasks) → ent 𝓤 (sem 𝓤 H A (AtK x)) (sep 𝓤 (sem 𝓤 H A (lie b (csK o) (K.the-type .to x))) BackK)
-  apartK x = struct-parts 𝓤 H A W fullShare (K.the-type .name) msK (LL.lawfuls 𝓤 H A W (K.the-type .parts) K′.the-laws) (K.the-type .to x) b (o + 224)
+  apartK x = struct-parts 𝓤 H A W fullShare (K.the-type .name) msK (LL.lawfuls 𝓤 H A W (K.the-type .parts) K′.the-laws) (K.the-type .to x) b (o + 228)
 
   pub togetherK : (x : Tasks) → ent 𝓤 (sep 𝓤 (sem 𝓤 H A (lie b (csK o) (K.the-type .to x))) BackK) (sem 𝓤 H A (AtK x))
-  togetherK x = joined 𝓤 H A W b (o + 224) (K.the-type .name) msK (K.the-type .to x)
+  togetherK x = joined 𝓤 H A W b (o + 228) (K.the-type .name) msK (K.the-type .to x)
 
   abbrev pub BackQ : SProp 𝓤
-  BackQ = PartsBack 𝓤 H A fullShare (Q.the-type .name) msQ b (o + 544)
+  BackQ = PartsBack 𝓤 H A fullShare (Q.the-type .name) msQ b (o + 548)
 
   abbrev pub AtQ : Semaphores → Fml
-  AtQ x = partAt (Struct (shapeOf (Q.the-type .name) msQ)) fullShare (Q.the-type .to x) b (o + 544)
+  AtQ x = partAt (Struct (shapeOf (Q.the-type .name) msQ)) fullShare (Q.the-type .to x) b (o + 548)
 
   pub apartQ : (x : Semaphores) → ent 𝓤 (sem 𝓤 H A (AtQ x)) (sep 𝓤 (sem 𝓤 H A (lie b (csQ o) (Q.the-type .to x))) BackQ)
-  apartQ x = struct-parts 𝓤 H A W fullShare (Q.the-type .name) msQ (LL.lawfuls 𝓤 H A W (Q.the-type .parts) Q′.the-laws) (Q.the-type .to x) b (o + 544)
+  apartQ x = struct-parts 𝓤 H A W fullShare (Q.the-type .name) msQ (LL.lawfuls 𝓤 H A W (Q.the-type .parts) Q′.the-laws) (Q.the-type .to x) b (o + 548)
 
   pub togetherQ : (x : Semaphores) → ent 𝓤 (sep 𝓤 (sem 𝓤 H A (lie b (csQ o) (Q.the-type .to x))) BackQ) (sem 𝓤 H A (AtQ x))
-  togetherQ x = joined 𝓤 H A W b (o + 544) (Q.the-type .name) msQ (Q.the-type .to x)
+  togetherQ x = joined 𝓤 H A W b (o + 548) (Q.the-type .name) msQ (Q.the-type .to x)
 
   abbrev pub BackP : SProp 𝓤
-  BackP = PartsBack 𝓤 H A fullShare (P.the-type .name) msP b (o + 704)
+  BackP = PartsBack 𝓤 H A fullShare (P.the-type .name) msP b (o + 712)
 
   abbrev pub AtP : Pools → Fml
-  AtP x = partAt (Struct (shapeOf (P.the-type .name) msP)) fullShare (P.the-type .to x) b (o + 704)
+  AtP x = partAt (Struct (shapeOf (P.the-type .name) msP)) fullShare (P.the-type .to x) b (o + 712)
 
   pub apartP : (x : Pools) → ent 𝓤 (sem 𝓤 H A (AtP x)) (sep 𝓤 (sem 𝓤 H A (lie b (csP o) (P.the-type .to x))) BackP)
-  apartP x = struct-parts 𝓤 H A W fullShare (P.the-type .name) msP (LL.lawfuls 𝓤 H A W (P.the-type .parts) P′.the-laws) (P.the-type .to x) b (o + 704)
+  apartP x = struct-parts 𝓤 H A W fullShare (P.the-type .name) msP (LL.lawfuls 𝓤 H A W (P.the-type .parts) P′.the-laws) (P.the-type .to x) b (o + 712)
 
   pub togetherP : (x : Pools) → ent 𝓤 (sep 𝓤 (sem 𝓤 H A (lie b (csP o) (P.the-type .to x))) BackP) (sem 𝓤 H A (AtP x))
-  togetherP x = joined 𝓤 H A W b (o + 704) (P.the-type .name) msP (P.the-type .to x)
+  togetherP x = joined 𝓤 H A W b (o + 712) (P.the-type .name) msP (P.the-type .to x)

@@ -10,5 +10,6 @@ pub mod Tasks
 pub mod Wakes
 pub mod Semaphores
 pub mod Form
+pub mod Rings
 pub mod Ticks
 pub mod Still

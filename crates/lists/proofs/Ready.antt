@@ -10,7 +10,7 @@ use mathlib.Core.Bool.{true}
 use mathlib.Core.List.{List, _++_}
 use lib.ListN.{getD}
 use Rattle.scope.specs.Lists.{has}
-use Rattle.scope.specs.Seats.{ringSeats, firstOf, standing, readyBelow, readyOrder, runnerOf}
+use Rattle.scope.specs.Seats.{ringSeats, firstOf, standing, readyBelow, readyOrder, ringMask, runnerOf}
 use Rattle.laws.proofs.Branches.{true-false, lt-or-le}
 use Rattle.seats.specs.Rule.{In, Seated, Queues, Runs}
 use Rattle.seats.proofs.First.{first-is, first-none, runner-none, runs-runner}
@@ -93,18 +93,18 @@ module _ (q : List ℕ) (rule : Queues q) where
   order-has t r = below-has 16 t r
 
   -- an empty ring, and one with a first
-  below-first : (n : ℕ) → ((u : ℕ) → getD q u 0 < ringSeats n) → firstIn (readyBelow q n) ≡ runnerOf q
-  below-first zero top = sym (runner-none q (rule .tasks) top)
-  below-first (suc p) top =
+  below-first : (n : ℕ) → n ≤ 16 → ((u : ℕ) → getD q u 0 < ringSeats n) → firstIn (readyBelow q n) ≡ runnerOf q (ringMask q)
+  below-first zero h top = sym (runner-none q top)
+  below-first (suc p) h top =
       ⊎-elim
       (λ l. let f = first-is q (ringSeats p) (standing q (ringSeats p)) (rule .tasks) (ring p) l in
       let runs : Runs q (firstOf q (ringSeats p)) p = record { first = f .1; highest = λ u. omega (arith, top u) } in
       ap (λ (xs : List ℕ). firstIn (xs ++ readyBelow q p)) (from-yes q (ringSeats p) 31 1 (f .0))
-      ∙ sym (runs-runner q rule (firstOf q (ringSeats p)) p runs))
+      ∙ sym (runs-runner q rule (firstOf q (ringSeats p)) p (omega (arith, h)) runs))
       (λ l. let z : standing q (ringSeats p) ≡ 0 = omega arith in
       let e : firstOf q (ringSeats p) ≡ 32 = first-none q (ringSeats p) (standing q (ringSeats p)) (rule .tasks) (ring p) z in
       ap (λ (xs : List ℕ). firstIn (xs ++ readyBelow q p)) (from-no q (ringSeats p) 31 1 (omega (arith, e)))
-      ∙ below-first p
+      ∙ below-first p (omega (arith, h))
       (λ u. ⊎-elim (λ a. a)
       (λ a. absurd (⊎-elim (λ n. omega (arith, n, a))
       (λ w. omega (arith, a, w, z, top u, ring p .small u (omega (arith, a, w, top u), omega (arith, a, w, top u))))
@@ -113,6 +113,6 @@ module _ (q : List ℕ) (rule : Queues q) where
       (lt-or-le 0 (standing q (ringSeats p)))
 
   -- its first runs
-  pub order-first : ((u : ℕ) → getD q u 0 < ringSeats 16) → firstIn (readyOrder q) ≡ runnerOf q
+  pub order-first : ((u : ℕ) → getD q u 0 < ringSeats 16) → firstIn (readyOrder q) ≡ runnerOf q (ringMask q)
   unfolding readyOrder
-  order-first top = below-first 16 top
+  order-first top = below-first 16 (omega arith) top

@@ -1,5 +1,5 @@
--- The rules of a state over the paper's lists hold just if the tests that run pass, where the seats say queues and priorities are in
--- range: slot by slot, by who is on which list.
+-- The rules of a state over the paper's lists hold just if the tests that run pass, where the seats say queues, the mask is that of
+-- the rings and priorities are in range: slot by slot, by who is on which list.
 -- Assumes nothing.
 use Prim.Native.Nat.{ℕ, _≤_, _<_}
 use native.Mathlib.Omega.{arith}
@@ -11,12 +11,12 @@ use lib.ListN.{length, getD}
 use borrow.Author.Tests.{eq-eqb, eqb-true}
 use Rattle.scope.specs.declared.State.{State}
 use Rattle.scope.specs.Lists.{has}
-use Rattle.scope.specs.Seats.{queueSeats, ringSeats, firstRing, queueOf, standing, queue, runnerOf}
+use Rattle.scope.specs.Seats.{queueSeats, ringSeats, firstRing, queueOf, standing, queue, maskOf, runnerOf}
 use Rattle.scope.specs.Objects.{objectsOf}
 use Rattle.scope.specs.Views.{Signed, less, isReady, waitersOf, count}
 use Rattle.scope.specs.Waiting.{isTimeOut}
 use Rattle.scope.specs.Semaphores.{lastCount}
-use Rattle.scope.specs.Rules.{seatsRight, readyRight, readyOrderRight, waitRight, waitsRight, joinedRight, queuesSorted, countRight, countsRight, startRight, startsRight, taskRight, tasksRight, runningRight, orderRules, keeps}
+use Rattle.scope.specs.Rules.{seatsRight, ringsRight, readyRight, readyOrderRight, waitRight, waitsRight, joinedRight, queuesSorted, countRight, countsRight, startRight, startsRight, taskRight, tasksRight, runningRight, orderRules, keeps}
 use Rattle.scope.proofs.Counts.{minus, natural, less-below, less-above, less-negative, less-not-negative, right-says, says-right}
 use Rattle.laws.proofs.Branches.{true-false, true-or-false, lt-or-le}
 use Rattle.laws.proofs.Searches.{every-yes, every-at}
@@ -38,8 +38,8 @@ pub priorities-in-range : (s : State) → tasksRight (s .tasks) ≡ true → Pri
 unfolding tasksRight
 priorities-in-range s e t h = task-range (s .tasks) t (every-at (taskRight (s .tasks)) 32 e t h)
 
--- a state whose arrays have their sizes, whose seats say queues, and whose priorities are in range
-module _ (s : State) (sized : Sized s) (seats : seatsRight (s .line .seat) ≡ true) (inRange : PrioritiesInRange s) where
+-- a state whose arrays have their sizes, whose seats say queues, whose mask is that of its rings, and whose priorities are in range
+module _ (s : State) (sized : Sized s) (seats : seatsRight (s .line .seat) ≡ true) (masked : ringsRight (s .line) ≡ true) (inRange : PrioritiesInRange s) where
   abbrev q : List ℕ
   q = s .line .seat
 
@@ -103,8 +103,9 @@ module _ (s : State) (sized : Sized s) (seats : seatsRight (s .line .seat) ≡ t
         ⊎-elim (λ l. omega arith) (λ l. let b : In q (ringSeats (priority t)) t = own t l in omega (arith, b, range t))
         (lt-or-le (seat t) firstRing)
 
-    first-runs : firstIn (readyOf s) ≡ runnerOf q
-    first-runs = order-first q rule top
+    first-runs : firstIn (readyOf s) ≡ runnerOf q (maskOf (s .line .rings))
+    unfolding ringsRight
+    first-runs = order-first q rule top ∙ ap (runnerOf q) (sym (eqb-true _ _ masked))
 
   on-order : (t : ℕ) → has (readyOf s) t ≡ true → firstRing ≤ seat t
   on-order t h = let r = order-says q t h in omega (arith, r .2)
@@ -316,13 +317,14 @@ module _ (s : State) (sized : Sized s) (seats : seatsRight (s .line .seat) ≡ t
     rules-right =
         each-keeps orderRules s
         (more seats
+        (more masked
         (more order-right
         (more waits-right
         (more sorted-right
         (more counts-right
         (more starts-right
         (more (eq-eqb _ _ (rules .running ∙ first-runs own))
-        none)))))))
+        none))))))))
 
   -- the tests pass just if the rules hold
   pub tests-are-rules : (keeps orderRules s ≡ true) ↔ (OwnRing s × Ordered s)

@@ -14,7 +14,7 @@ use Rattle.scope.specs.declared.State.{State}
 use Rattle.scope.specs.declared.Answer.{Answer}
 use Rattle.scope.specs.Lists.{has, without, insert}
 use Rattle.scope.specs.Statuses.{OK, PENDING, INVALID-PARAMETER, INVALID-OPTIONS, SEMAPHORE-NOT-AVAILABLE, SEMAPHORE-DELETED, NO-CALLER}
-use Rattle.scope.specs.Seats.{queueSeats, firstRing, firstOf, leaves, joins, queue}
+use Rattle.scope.specs.Seats.{queueSeats, firstRing, firstOf, leaves, joins, queue, ringsLeft}
 use Rattle.scope.specs.Objects.{objectsEnd, objectsOf}
 use Rattle.scope.specs.Views.{withSeats}
 use Rattle.scope.specs.Answers.{answer, plain, wakesWith}
@@ -149,7 +149,7 @@ module _ (s : State) (ok : Sound s) (i : ℕ) (hi : i < 16) where
     here : Ready (s .line) (s .tasks) t
     here = runs-ready s ok run
 
-    out : Out (withSeats (s .line) left) (s .tasks) (objectsOf s) t
+    out : Out (withSeats (s .line) left (ringsLeft (s .line .rings) (s .line .seat) t)) (s .tasks) (objectsOf s) t
     out = ready-gone (s .line) (s .tasks) (objectsOf s) (ok .line) (s .tasks) t (agree-same (s .tasks) t) here
 
     left-queue : (j : ℕ) → j < objectsEnd → queue left j ≡ queueIn s j

@@ -3,19 +3,19 @@
 -- Assumes nothing.
 use Prim.Native.Nat.{ℕ}
 use native.Mathlib.Omega.{arith}
-use mathlib.Core.Path.{_≡_}
+use mathlib.Core.Path.{_≡_, ap}
 use mathlib.Core.Bool.{true}
 use lib.ListN.{length}
 use Rattle.scope.specs.declared.State.{State}
 use Rattle.scope.specs.Lists.{has}
 use Rattle.scope.specs.Seats.{queueSeats, standing, queue}
 use Rattle.scope.specs.Views.{isReady, waitersOf}
-use Rattle.scope.specs.Rules.{seatsRight, tasksRight, orderRules, tableRules, keeps, sound}
+use Rattle.scope.specs.Rules.{seatsRight, ringsRight, tasksRight, orderRules, tableRules, keeps, sound}
 use Rattle.histories.specs.Sound.{Sound, Sized}
 use Rattle.histories.proofs.Ruled.{rows, row-holds, sound-keeps, keeps-sound}
 use Rattle.histories.proofs.Meaning.{sound-right}
 use Rattle.lists.specs.Along.{Once, NeverRising, firstIn}
-use Rattle.lists.specs.Rules.{readyOf, queueIn, Ordered, OwnRing, PrioritiesInRange}
+use Rattle.lists.specs.Rules.{readyOf, queueIn, Ordered, OwnRing, PrioritiesInRange, OldRule}
 use Rattle.lists.proofs.Members.{queue-length}
 use Rattle.lists.proofs.Rules.{priorities-in-range, own-ring, tests-say, rules-right}
 
@@ -23,34 +23,36 @@ use Rattle.lists.proofs.Rules.{priorities-in-range, own-ring, tests-say
 pub sound-sized : (s : State) → Sound s → Sized s
 sound-sized s h =
     record {
-      line = record { lefts = h .line .lefts; seats = h .line .queues .tasks; joineds = h .line .joineds };
+      line = record { lefts = h .line .lefts; seats = h .line .queues .tasks; joineds = h .line .joineds; rings = ap length (h .line .rings) };
       tasks = h .tasks .sized;
       semaphores = h .semaphores .sized;
       pools = h .pools .sized;
     }
 
--- the test `sound` passes just if the seats say queues, each ready task's in the ring of its priority, and the rules hold: those of
--- orders and queues over the paper's lists, and the others as they are
+-- the test `sound` passes just if the mask is that of the rings, and the rule of before M-106 holds, which knows no mask: the seats
+-- say queues, each ready task's in the ring of its priority, and the rules hold: those of orders and queues over the paper's lists,
+-- and the others as they are
 module _ (s : State) (sized : Sized s) where
   in-range : keeps tableRules s ≡ true → PrioritiesInRange s
   in-range e = priorities-in-range s (row-holds tableRules s e (λ x. tasksRight (x .tasks)) (search rows depth 12))
 
-  pub sound-lists : sound s ≡ true → (seatsRight (s .line .seat) ≡ true) × OwnRing s × Ordered s × (keeps tableRules s ≡ true)
+  pub sound-lists : sound s ≡ true → (ringsRight (s .line) ≡ true) × OldRule s
   sound-lists e =
       let k = sound-keeps s e in
       let seats : seatsRight (s .line .seat) ≡ true = row-holds orderRules s (k .0) (λ x. seatsRight (x .line .seat)) (search rows depth 12) in
-      (seats, own-ring s sized seats (in-range (k .1)) (k .0), tests-say s sized seats (in-range (k .1)) (k .0), k .1)
+      let rings : ringsRight (s .line) ≡ true = row-holds orderRules s (k .0) (λ x. ringsRight (x .line)) (search rows depth 12) in
+      (rings, (seats, own-ring s sized seats rings (in-range (k .1)) (k .0), tests-say s sized seats rings (in-range (k .1)) (k .0), k .1))
 
-  pub lists-sound : (seatsRight (s .line .seat) ≡ true) × OwnRing s × Ordered s × (keeps tableRules s ≡ true) → sound s ≡ true
-  lists-sound h = keeps-sound s (rules-right s sized (h .0) (in-range (h .3)) (h .1) (h .2)) (h .3)
+  pub lists-sound : (ringsRight (s .line) ≡ true) × OldRule s → sound s ≡ true
+  lists-sound h = keeps-sound s (rules-right s sized (h .1 .0) (h .0) (in-range (h .1 .3)) (h .1 .1) (h .1 .2)) (h .1 .3)
 
 -- on a sound state
 module _ (s : State) (h : Sound s) where
   pub sound-ordered : Ordered s
-  sound-ordered = sound-lists s (sound-sized s h) (sound-right s h) .2
+  sound-ordered = sound-lists s (sound-sized s h) (sound-right s h) .1 .2
 
   pub sound-rings : OwnRing s
-  sound-rings = sound-lists s (sound-sized s h) (sound-right s h) .1
+  sound-rings = sound-lists s (sound-sized s h) (sound-right s h) .1 .1
 
   -- "The ready order lists ready tasks; its first runs."
   pub first-runs : s .running ≡ firstIn (readyOf s)

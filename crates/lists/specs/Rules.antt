@@ -1,20 +1,22 @@
 -- Those of document 01's 'Rules of a state' that speak of orders and queues, over the paper's lists: `readyOrder` and `queue`.
 -- Assumes nothing.
-use Prim.Native.Nat.{ℕ, _+_, _≤_, _<_}
+use Prim.Native.Nat.{ℕ, zero, suc, _≤_, _<_}
 use mathlib.Core.Path.{_≡_}
 use mathlib.Core.Bool.{Bool, true, false}
-use mathlib.Core.List.{List}
+use mathlib.Core.List.{List, [], _++_}
 use lib.ListN.{length, getD}
 use Rattle.scope.specs.declared.State.{State}
 use Rattle.scope.specs.Lists.{has}
-use Rattle.scope.specs.Seats.{ringSeats, firstRing, waitsOn, queue, readyOrder}
+use Rattle.scope.specs.Choice.{pick, hasBit}
+use Rattle.scope.specs.Seats.{ringSeats, firstRing, waitsOn, maskOf, queue, readyOrder}
 use Rattle.scope.specs.Objects.{objectsEnd, objectsOf}
 use Rattle.scope.specs.Views.{isReady, count}
 use Rattle.scope.specs.Tasks.{lastPriority}
 use Rattle.scope.specs.Waiting.{isTimeOut}
 use Rattle.scope.specs.Semaphores.{lastCount}
+use Rattle.scope.specs.Rules.{seatsRight, tableRules, keeps}
 use Rattle.seats.specs.Rule.{In}
-use Rattle.lists.specs.Along.{Once, NeverRising, firstIn}
+use Rattle.lists.specs.Along.{Once, NeverRising, queueAbove, firstIn}
 
 -- the ready order and the queue of object i
 abbrev pub readyOf : State → List ℕ
@@ -105,3 +107,19 @@ OwnRing s = (t : ℕ) → firstRing ≤ getD (s .line .seat) t 0 → In (s .line
 -- "Serials, priorities and options are in range.": of priorities
 abbrev pub PrioritiesInRange : State → Type 0
 PrioritiesInRange s = (t : ℕ) → t < 32 → getD (s .tasks .priority) t 0 ≤ lastPriority
+
+-- the rule of a state as it was before the mask was kept: no part of it reads the rings
+abbrev pub OldRule : State → Type 0
+OldRule s = (seatsRight (s .line .seat) ≡ true) × OwnRing s × Ordered s × (keeps tableRules s ≡ true)
+
+-- M-106: "Keep one ring for each priority": the ring of priority p, first first
+abbrev pub ring : State → ℕ → List ℕ
+ring s p = queueAbove (s .line .seat) (ringSeats p)
+
+-- "The rings, read from priority 15 down": those below n that the mask names, the highest first
+abbrev pub ringsBelow : State → ℕ → List ℕ
+ringsBelow s zero = []
+ringsBelow s (suc p) = pick (hasBit (maskOf (s .line .rings)) p) (ring s p) [] ++ ringsBelow s p
+
+abbrev pub ringsRead : State → List ℕ
+ringsRead s = ringsBelow s 16

@@ -12,9 +12,9 @@ ghost use Prim.Native.Nat.{_-_, _%_, _^_, _<_};
 ghost use lib.ListN.{getD};
 ghost use lib.Dec.{eqb, ltb, leb};
 ghost use Rattle.scope.specs.Choice.{pick, number};
-ghost use Rattle.scope.specs.Seats.{isOn, queueOf, onSeat};
+ghost use Rattle.scope.specs.Seats.{isOn, queueOf, onSeat, holdsTask, ringMask};
 ghost use Rattle.scope.specs.Views.{readyWith, less};
-ghost use Rattle.scope.specs.Rules.{seatRight, seatsRight, readyRight, readyOrderRight, waitRight, waitsRight, joinedRight, queuesSorted, countRight};
+ghost use Rattle.scope.specs.Rules.{seatRight, seatsRight, ringsRight, readyRight, readyOrderRight, waitRight, waitsRight, joinedRight, queuesSorted, countRight};
 ghost use Rattle.scope.specs.Rules.{countsRight, startRight, startsRight, tasksRight, semsRight, admitted, poolsRight, runningRight, sound};
 
 // 1 where the two are equal, else 0.
@@ -115,6 +115,39 @@ fn ready_order_right(l: Line, k: Tasks) -> bool
         t += 1;
     }
     ok
+}
+
+// Bit `p` of a mask where ring `p` holds a task, else 0.
+fn ring_bit(q: [u16; 32], p: u32) -> u16
+    requires { ⌜ p < 16 ⌝ }
+    ensures { λ r. ⌜ r ≡ pick (holdsTask q p) (2 ^ p) 0 ⌝ }
+{
+    if seats::is_taken(q, (p * 64 + 2049) as u16) {
+        return 1u16 << p;
+    }
+    0
+}
+
+// The mask of the rings that hold a task.
+fn ring_mask(q: [u16; 32]) -> u16
+    ensures { λ r. ⌜ r ≡ ringMask q ⌝ }
+{
+    let mut mask: u16 = 0;
+    let mut p: u32 = 0;
+    while p < 16 {
+        mask += ring_bit(q, p);
+        p += 1;
+    }
+    mask
+}
+
+// The kept mask is that of the rings that hold a task.
+fn rings_right(l: Line) -> bool
+    ensures { λ r. ⌜ r ≡ ringsRight l ⌝ }
+{
+    let seat = l.seat;
+    let rings = l.rings;
+    rings[0] == ring_mask(seat)
 }
 
 // What a row of the semaphores holds for the object whose queue seat `x` is in; false where that is no semaphore.
@@ -400,7 +433,8 @@ fn running_right(s: State) -> bool
 {
     let l = s.line;
     let q = l.seat;
-    s.running == seats::runner(q)
+    let rings = l.rings;
+    s.running == seats::runner(q, rings[0])
 }
 
 // Whether no rule is broken.
@@ -415,6 +449,7 @@ pub fn is_sound(s: State) -> bool
     let live = m.live;
     let fifo = m.fifo;
     seats_right(q)
+        & rings_right(l)
         & ready_order_right(l, k)
         & waits_right(l, live)
         & queues_sorted(l, fifo)

@@ -1,8 +1,8 @@
 -- "A fresh state holds one started task, identifier 64, name 0, of a given priority 0 to 15, and nothing else."
 -- Assumes nothing.
-use Prim.Native.Nat.{ℕ, _+_}
+use Prim.Native.Nat.{ℕ, _+_, _^_}
 use mathlib.Core.Bool.{true, false}
-use mathlib.Core.List.{_∷_}
+use mathlib.Core.List.{[], _∷_}
 use lib.ListN.{replicate}
 use lib.Dec.{ltb}
 use Rattle.scope.specs.declared.State.{State}
@@ -28,7 +28,8 @@ freshTasks p =
     }
 
 abbrev pub freshLine : ℕ → Line
-freshLine p = record { left = replicate 32 0; seat = (ringSeats p + 1) ∷ replicate 31 0; joined = replicate 32 0 }
+freshLine p =
+    record { left = replicate 32 0; seat = (ringSeats p + 1) ∷ replicate 31 0; joined = replicate 32 0; rings = 2 ^ p ∷ [] }
 
 abbrev pub noSemaphores : Semaphores
 noSemaphores =

@@ -11,7 +11,7 @@ use Rattle.scope.specs.declared.Tasks.{Tasks}
 use Rattle.scope.specs.declared.Semaphores.{Semaphores}
 use Rattle.scope.specs.declared.Pools.{Pools}
 use Rattle.scope.specs.Choice.{pick, every, number}
-use Rattle.scope.specs.Seats.{ringSeats, firstRing, waitsOn, queueOf, isOn, onSeat, runnerOf}
+use Rattle.scope.specs.Seats.{ringSeats, firstRing, waitsOn, queueOf, isOn, onSeat, ringMask, maskOf, runnerOf}
 use Rattle.scope.specs.Objects.{objectsOf}
 use Rattle.scope.specs.Views.{readyWith, waitersOf, Signed, count}
 use Rattle.scope.specs.Areas.{isArea, isSize, buffersOf, shareByte}
@@ -40,6 +40,10 @@ readyOrderRight l k =
     every
     (λ t. readyRight (getD (k .started) t false) (getD (k .suspended) t false) (getD (k .priority) t 0) (getD (l .seat) t 0))
     32
+
+-- M-106: the kept mask is that of "rings that hold a task"
+unfoldable pub ringsRight : Line → Bool
+ringsRight l = eqb (maskOf (l .rings)) (ringMask (l .seat))
 
 -- "Each waiting task stands once in one live semaphore's queue, with a time_out left of 1 to 65,535 or FOREVER, and its joining
 -- priority; queues hold no other task"; "the waiting fields of a task that doesn't wait" are zeros. (`live` says it of an object's
@@ -127,12 +131,13 @@ poolsApart p = every (λ i. every (λ j. pick (ltb i j) (not (pairShares p i j))
 
 -- the kept running task is the one that runs
 unfoldable pub runningRight : State → Bool
-runningRight s = eqb (s .running) (runnerOf (s .line .seat))
+runningRight s = eqb (s .running) (runnerOf (s .line .seat) (maskOf (s .line .rings)))
 
 -- The rules, a row each: those of orders and queues,
 abbrev pub orderRules : List (State → Bool)
 orderRules =
     (λ s. seatsRight (s .line .seat))
+    ∷ (λ s. ringsRight (s .line))
     ∷ (λ s. readyOrderRight (s .line) (s .tasks))
     ∷ (λ s. waitsRight (s .line) (objectsOf s .live))
     ∷ (λ s. queuesSorted (s .line) (objectsOf s .fifo))

@@ -2,12 +2,13 @@
 -- says in which and at what place: queue × 64 + place, place 1 first, 0 for nowhere. Slot 32 is nobody.
 -- `q` is the list of all seats, by task slot.
 -- Assumes nothing.
-use Prim.Native.Nat.{ℕ, zero, suc, _+_, _-_, _*_, _/_}
+use Prim.Native.Nat.{ℕ, zero, suc, _+_, _-_, _*_, _/_, _^_}
 use mathlib.Core.Bool.{Bool, true, false, _&&_}
 use mathlib.Core.List.{List, [], _∷_, _++_, map}
 use lib.ListN.{getD, set}
 use lib.Dec.{ltb, leb, eqb}
-use Rattle.scope.specs.Choice.{pick, least, number}
+use lib.Count.{leadingZeros}
+use Rattle.scope.specs.Choice.{pick, least, number, hasBit, bits}
 
 -- the seats of object i's wait queue begin above this one; semaphore i is object i
 abbrev pub queueSeats : ℕ → ℕ
@@ -85,18 +86,50 @@ joins q key t base p = set (map (raise (seatBehind q key base p) (base + 63)) q)
 abbrev pub becomesReady : List ℕ → List ℕ → ℕ → ℕ → List ℕ
 becomesReady q key t p = joins q key t (ringSeats p) 0
 
-unfoldable pub greater : ℕ → ℕ → ℕ
-greater x y = pick (ltb x y) y x
+-- M-106: "Keep one ring for each priority and a mask of rings that hold a task". The ring of priority p is the queue whose seats
+-- begin above `ringSeats p`; it holds a task where somebody is its first.
+unfoldable pub holdsTask : List ℕ → ℕ → Bool
+holdsTask q p = ltb (firstOf q (ringSeats p)) 32
 
--- the greatest of the first n seats
-unfoldable pub topOf : List ℕ → ℕ → ℕ
-topOf q zero = 0
-topOf q (suc n) = greater (topOf q n) (getD q n 0)
+-- the mask of the seats: bit p is set exactly if the ring of p holds a task
+unfoldable pub ringMask : List ℕ → ℕ
+ringMask q = bits (holdsTask q) 16
 
--- "The ready order lists ready tasks; its first runs": the first of the highest queue that holds a task, if that is a queue
--- of ready tasks; 32 if nothing is ready
-unfoldable pub runnerOf : List ℕ → ℕ
-runnerOf q = pick (ltb (topOf q 32) firstRing) 32 (onSeat q (topOf q 32 / 64 * 64 + 1))
+-- The mask is kept in the one place of `rings`, and a task that comes or goes changes one bit of it at most.
+abbrev pub maskOf : List ℕ → ℕ
+maskOf rings = getD rings 0 0
+
+-- the mask after ring p got a task. (Sixteen bits: no sound state has a higher priority.)
+unfoldable pub maskFilled : ℕ → ℕ → ℕ
+maskFilled mask p = pick (ltb p 16) (pick (hasBit mask p) mask (mask + 2 ^ p)) mask
+
+-- the mask after ring p lost its last task
+unfoldable pub maskEmptied : ℕ → ℕ → ℕ
+maskEmptied mask p = pick (hasBit mask p) (mask - 2 ^ p) mask
+
+-- the ring that a ready task's seat is in
+abbrev pub ringOf : ℕ → ℕ
+ringOf x = x / 64 - 32
+
+-- the mask after seat x was left, with the seats as they are then: where it was in a ring, and nobody is left there
+unfoldable pub maskLeft : ℕ → List ℕ → ℕ → ℕ
+maskLeft mask q x =
+    pick (ltb x firstRing) mask (pick (holdsTask q (ringOf x)) mask (maskEmptied mask (ringOf x)))
+
+-- the rings after task t left the queue it stood in, and after a task of priority p became ready
+unfoldable pub ringsLeft : List ℕ → List ℕ → ℕ → List ℕ
+ringsLeft rings q t = set rings 0 (maskLeft (maskOf rings) (leaves q t) (getD q t 0))
+
+unfoldable pub ringsReady : List ℕ → ℕ → List ℕ
+ringsReady rings p = set rings 0 (maskFilled (maskOf rings) p)
+
+-- "the most urgent priority is found by the leading zeros of the mask"
+abbrev pub mostUrgent : ℕ → ℕ
+mostUrgent mask = 15 - leadingZeros 16 mask
+
+-- "The ready order lists ready tasks; its first runs": the first of the most urgent ring; 32 if nothing is ready
+unfoldable pub runnerOf : List ℕ → ℕ → ℕ
+runnerOf q mask = pick (eqb mask 0) 32 (firstOf q (ringSeats (mostUrgent mask)))
 
 -- The queue as the paper has it: a list of tasks, first first. The tasks on seats base + k, base + k + 1, .. (at most n).
 abbrev pub tasksFrom : List ℕ → ℕ → ℕ → ℕ → List ℕ

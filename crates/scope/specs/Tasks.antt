@@ -13,7 +13,7 @@ use Rattle.scope.specs.declared.Found.the-variants.{At, Invalid}
 use Rattle.scope.specs.Choice.{pick}
 use Rattle.scope.specs.Identifiers.{identifier, found, lowestUsable, byName}
 use Rattle.scope.specs.Statuses.{OK, TOO-MANY-OBJECTS, NAME-NOT-FOUND, INVALID-PRIORITY, TASK-ALREADY-STARTED, TASK-NOT-STARTED, TASK-ALREADY-SUSPENDED, TASK-NOT-SUSPENDED}
-use Rattle.scope.specs.Seats.{leaves, becomesReady, waitsOn}
+use Rattle.scope.specs.Seats.{leaves, becomesReady, ringsLeft, ringsReady, waitsOn}
 use Rattle.scope.specs.Views.{withLine, withTasks, withSeats, withWait, isReady}
 use Rattle.scope.specs.Answers.{plain, gives, onFound}
 
@@ -85,7 +85,8 @@ withPriority k t p =
 
 -- task t becomes ready
 abbrev pub readied : Line → Tasks → ℕ → Line
-readied l k t = withSeats l (becomesReady (l .seat) (l .joined) t (getD (k .priority) t 0))
+readied l k t =
+    withSeats l (becomesReady (l .seat) (l .joined) t (getD (k .priority) t 0)) (ringsReady (l .rings) (getD (k .priority) t 0))
 
 -- task_create: 19, 7
 unfoldable pub taskCreateAt : State → ℕ → ℕ → ℕ → Answer
@@ -100,7 +101,11 @@ taskCreate s name priority =
 
 -- task_delete. A waiter leaves its queue, which gives its one back: the count is the units less those who stand there.
 unfoldable pub taskDeleteAt : State → ℕ → Answer
-taskDeleteAt s t = plain (withLine (withTasks s (taskGone (s .tasks) t)) (withWait (s .line) t 0 0 (leaves (s .line .seat) t))) OK
+taskDeleteAt s t =
+    plain
+    (withLine (withTasks s (taskGone (s .tasks) t))
+    (withWait (s .line) t 0 0 (leaves (s .line .seat) t) (ringsLeft (s .line .rings) (s .line .seat) t)))
+    OK
 
 -- task_ident: 8
 unfoldable pub taskIdentAt : State → ℕ → Answer
@@ -123,7 +128,10 @@ taskSuspendAt s t =
     pick (not (getD (s .tasks .started) t false)) (plain s TASK-NOT-STARTED)
     (pick (getD (s .tasks .suspended) t false) (plain s TASK-ALREADY-SUSPENDED)
     (pick (waitsOn (getD (s .line .seat) t 0)) (plain (withTasks s (withSuspended (s .tasks) t true)) OK)
-    (plain (withLine (withTasks s (withSuspended (s .tasks) t true)) (withSeats (s .line) (leaves (s .line .seat) t))) OK)))
+    (plain
+    (withLine (withTasks s (withSuspended (s .tasks) t true))
+    (withSeats (s .line) (leaves (s .line .seat) t) (ringsLeft (s .line .rings) (s .line .seat) t)))
+    OK)))
 
 -- task_resume: 21, 23. "it becomes ready when it neither waits nor is suspended"
 unfoldable pub taskResumeAt : State → ℕ → Answer
@@ -141,7 +149,8 @@ taskSetPriorityAt s priority t =
     (pick (isReady (s .line) (s .tasks) t)
     (gives
     (withLine (withTasks s (withPriority (s .tasks) t priority))
-    (withSeats (s .line) (becomesReady (leaves (s .line .seat) t) (s .line .joined) t priority)))
+    (withSeats (s .line) (becomesReady (leaves (s .line .seat) t) (s .line .joined) t priority)
+    (ringsReady (ringsLeft (s .line .rings) (s .line .seat) t) priority)))
     (getD (s .tasks .priority) t 0))
     (gives (withTasks s (withPriority (s .tasks) t priority)) (getD (s .tasks .priority) t 0)))
 

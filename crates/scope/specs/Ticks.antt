@@ -27,7 +27,7 @@ timesLeft left = map timeLeft left
 
 -- one is taken from each running time_out
 abbrev pub ticked : Line → Line
-ticked l = record { left = timesLeft (l .left); seat = l .seat; joined = l .joined }
+ticked l = record { left = timesLeft (l .left); seat = l .seat; joined = l .joined; rings = l .rings }
 
 -- it waits, and nothing is left of its time_out
 unfoldable pub isDue : Line → ℕ → Bool

@@ -12,11 +12,11 @@ use Rattle.scope.specs.declared.Pools.{Pools}
 use Rattle.scope.specs.declared.State.{State}
 use Rattle.scope.specs.Choice.{pick}
 use Rattle.scope.specs.Identifiers.{identifier}
-use Rattle.scope.specs.Seats.{runnerOf, waitsOn, queueSeats, standing}
+use Rattle.scope.specs.Seats.{maskOf, runnerOf, waitsOn, queueSeats, standing}
 
 -- the state with tasks standing elsewhere; who runs follows from where they stand
 abbrev pub withLine : State → Line → State
-withLine s l = record { line = l; tasks = s .tasks; semaphores = s .semaphores; pools = s .pools; running = runnerOf (l .seat) }
+withLine s l = record { line = l; tasks = s .tasks; semaphores = s .semaphores; pools = s .pools; running = runnerOf (l .seat) (maskOf (l .rings)) }
 
 abbrev pub withTasks : State → Tasks → State
 withTasks s k = record { line = s .line; tasks = k; semaphores = s .semaphores; pools = s .pools; running = s .running }
@@ -27,13 +27,14 @@ withSemaphores s m = record { line = s .line; tasks = s .tasks; semaphores = m; 
 abbrev pub withPools : State → Pools → State
 withPools s p = record { line = s .line; tasks = s .tasks; semaphores = s .semaphores; pools = p; running = s .running }
 
--- the line with other seats
-abbrev pub withSeats : Line → List ℕ → Line
-withSeats l q = record { left = l .left; seat = q; joined = l .joined }
+-- the line with other seats and rings
+abbrev pub withSeats : Line → List ℕ → List ℕ → Line
+withSeats l q rings = record { left = l .left; seat = q; joined = l .joined; rings = rings }
 
--- task t with this time_out left and this joining priority, and other seats
-abbrev pub withWait : Line → ℕ → ℕ → ℕ → List ℕ → Line
-withWait l t left joined q = record { left = set (l .left) t left; seat = q; joined = set (l .joined) t joined }
+-- task t with this time_out left and this joining priority, and other seats and rings
+abbrev pub withWait : Line → ℕ → ℕ → ℕ → List ℕ → List ℕ → Line
+withWait l t left joined q rings =
+    record { left = set (l .left) t left; seat = q; joined = set (l .joined) t joined; rings = rings }
 
 -- "A task is ready if started, not waiting and not suspended." (Here of a task on seat x.)
 unfoldable pub readyWith : Bool → Bool → ℕ → Bool

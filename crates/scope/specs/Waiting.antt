@@ -11,7 +11,7 @@ use Rattle.scope.specs.declared.Tasks.{Tasks}
 use Rattle.scope.specs.declared.Waking.{Waking}
 use Rattle.scope.specs.Choice.{pick}
 use Rattle.scope.specs.Identifiers.{identifier}
-use Rattle.scope.specs.Seats.{queueSeats, firstOf, leaves, joins, becomesReady}
+use Rattle.scope.specs.Seats.{queueSeats, firstOf, leaves, joins, becomesReady, ringsLeft, ringsReady}
 use Rattle.scope.specs.Views.{withWait}
 use Rattle.scope.specs.Answers.{noWakes}
 
@@ -31,15 +31,20 @@ queueKey fifo priority = pick fifo 0 priority
 unfoldable pub waits : Line → ℕ → Bool → ℕ → ℕ → ℕ → Line
 waits l i fifo priority ticks t =
     withWait l t ticks priority (joins (leaves (l .seat) t) (l .joined) t (queueSeats i) (queueKey fifo priority))
+    (ringsLeft (l .rings) (l .seat) t)
 
 -- where task t stands when it is woken: "it becomes ready when it neither waits nor is suspended"
 unfoldable pub wokenSeats : Line → Bool → ℕ → ℕ → List ℕ
 wokenSeats l suspended priority t =
     pick suspended (leaves (l .seat) t) (becomesReady (leaves (l .seat) t) (l .joined) t priority)
 
+-- and the rings then: the queue that it leaves is no ring
+unfoldable pub wokenRings : Line → Bool → ℕ → List ℕ
+wokenRings l suspended priority = pick suspended (l .rings) (ringsReady (l .rings) priority)
+
 -- task t leaves its queue and waits no longer
 unfoldable pub wake : Line → Bool → ℕ → ℕ → Line
-wake l suspended priority t = withWait l t 0 0 (wokenSeats l suspended priority t)
+wake l suspended priority t = withWait l t 0 0 (wokenSeats l suspended priority t) (wokenRings l suspended priority)
 
 -- and is the next of the wake list
 unfoldable pub wakeNext : Tasks → Waking → ℕ → Waking

@@ -72,6 +72,8 @@ pub struct Line {
     pub seat: [u16; 32],
     // The joining priority of a waiting task.
     pub joined: [u8; 32],
+    // The mask of the rings that hold a task, in its one place: bit p is set while queue 32 + p is not empty.
+    pub rings: [u16; 1],
 }
 
 pub struct Tasks {

@@ -3,19 +3,20 @@
 -- Assumes nothing.
 use Prim.Native.Nat.{ℕ, zero, suc, _+_, _-_, _*_, _/_, _%_, _≤_, _<_}
 use native.Mathlib.Omega.{arith}
-use native.Mathlib.Nat.{eq-or-lt-of-le, not-suc-le-zero}
+use native.Mathlib.Nat.{eq-or-lt-of-le}
 use mathlib.Core.Path.{_≡_, refl, sym, subst, ap, _∙_}
 use mathlib.Core.Logic.{_⊎_, inl, inr, ⊎-elim}
 use mathlib.Core.Bool.{Bool, true, false}
 use mathlib.Core.List.{List}
 use lib.ListN.{length, getD}
 use lib.Dec.{ltb}
-use borrow.Author.Tests.{ltb-true, ltb-false, eqb-true, eq-eqb, lt-ltb, le-ltb}
-use Rattle.laws.proofs.Branches.{picked-yes, picked-no, lt-or-le}
+use borrow.Author.Tests.{ltb-true, ltb-false, eqb-true, eq-eqb, ne-eqb, lt-ltb, le-ltb}
+use Rattle.laws.proofs.Branches.{picked-yes, picked-no, lt-or-le, eq-or-not, true-false, true-or-false}
+use Rattle.laws.proofs.Bits.{bits-none, bits-zero, bits-top, Greatest}
 use Rattle.laws.proofs.Searches.{least-true, least-upto, least-le}
 use Rattle.laws.proofs.Arrays.{inside}
-use Rattle.scope.specs.Choice.{pick}
-use Rattle.scope.specs.Seats.{isOn, onSeat, firstOf, leaves, greater, topOf, runnerOf, ringSeats}
+use Rattle.scope.specs.Choice.{bits}
+use Rattle.scope.specs.Seats.{isOn, onSeat, firstOf, leaves, ringSeats, holdsTask, ringMask, mostUrgent, runnerOf}
 use Rattle.seats.specs.Rule.{In, Seated, Queues, Runs}
 use Rattle.seats.proofs.Leaving.{leaves-behind}
 
@@ -27,6 +28,10 @@ on-seat q x h = eqb-true (getD q (onSeat q x) 0) x (least-true (isOn q x) 32 h)
 pub on-seat-le : (q : List ℕ) (x : ℕ) → onSeat q x ≤ 32
 unfolding onSeat
 on-seat-le q x = least-le (isOn q x) 32
+
+-- a search that finds nobody
+pub on-seat-none : (q : List ℕ) (x : ℕ) → ltb (onSeat q x) 32 ≡ false → 32 ≡ onSeat q x
+on-seat-none q x e = omega (arith, ltb-false (onSeat q x) 32 e, on-seat-le q x)
 
 -- where one sits there, one is found
 pub on-seat-hit : (q : List ℕ) (x t : ℕ) → length q ≡ 32 → 0 < x → getD q t 0 ≡ x → onSeat q x < 32
@@ -76,86 +81,56 @@ module _ (q : List ℕ) (o n : ℕ) (long : length q ≡ 32) (rule : Seated q o 
       (eq-or-lt-of-le {n = getD q (firstOf q o) 0} {m = getD q u 0} (omega arith)))
       (at .1)
 
--- the greatest seat
-top-ge : (q : List ℕ) (n t : ℕ) → t < n → getD q t 0 ≤ topOf q n
-unfolding topOf greater pick
-top-ge q zero t h = absurd (not-suc-le-zero h)
-top-ge q (suc n) t h = go (top-ge q n t) (ltb (topOf q n) (getD q n 0)) refl
-  where
-    go : (t < n → getD q t 0 ≤ topOf q n) → (b : Bool) → ltb (topOf q n) (getD q n 0) ≡ b → getD q t 0 ≤ pick b (getD q n 0) (topOf q n)
-    go rec true e =
-        ⊎-elim (λ d. subst (λ (v : ℕ). getD q v 0 ≤ getD q n 0) (sym d) (omega arith))
-        (λ l. omega (arith, rec l, ltb-true (topOf q n) (getD q n 0) e))
-        (eq-or-lt-of-le {n = t} {m = n} (omega arith))
-    go rec false e =
-        ⊎-elim (λ d. subst (λ (v : ℕ). getD q v 0 ≤ topOf q n) (sym d) (ltb-false (topOf q n) (getD q n 0) e))
-        rec
-        (eq-or-lt-of-le {n = t} {m = n} (omega arith))
-
-top-hit : (q : List ℕ) (n : ℕ) → (topOf q n ≡ 0) ⊎ ((t : ℕ) × (getD q t 0 ≡ topOf q n))
-unfolding topOf greater pick
-top-hit q zero = inl refl
-top-hit q (suc n) = go (top-hit q n) (ltb (topOf q n) (getD q n 0))
-  where
-    go : (topOf q n ≡ 0) ⊎ ((t : ℕ) × (getD q t 0 ≡ topOf q n)) → (b : Bool)
-        → (pick b (getD q n 0) (topOf q n) ≡ 0) ⊎ ((t : ℕ) × (getD q t 0 ≡ pick b (getD q n 0) (topOf q n)))
-    go rec true = inr (n, refl)
-    go rec false = rec
-
-top-all : (q : List ℕ) → length q ≡ 32 → (t : ℕ) → getD q t 0 ≤ topOf q 32
-top-all q long t =
-    ⊎-elim (λ h. omega arith) (λ h. top-ge q 32 t (inside 32 q t long (λ z. omega arith))) (lt-or-le (getD q t 0) 1)
-
-runner-low : (q : List ℕ) → topOf q 32 < 2048 → runnerOf q ≡ 32
+-- who runs, by a mask that is the seats'
+runner-nobody : (q : List ℕ) (mask : ℕ) → mask ≡ 0 → runnerOf q mask ≡ 32
 unfolding runnerOf
-runner-low q h = picked-yes _ _ _ (lt-ltb _ _ h)
+runner-nobody q mask z = picked-yes _ _ _ (eq-eqb _ _ z)
 
-runner-high : (q : List ℕ) → 2048 ≤ topOf q 32 → runnerOf q ≡ onSeat q (topOf q 32 / 64 * 64 + 1)
+runner-first : (q : List ℕ) (mask : ℕ) → (mask ≡ 0 → ⊥) → runnerOf q mask ≡ firstOf q (ringSeats (mostUrgent mask))
 unfolding runnerOf
-runner-high q h = picked-no _ _ _ (le-ltb _ _ h)
+runner-first q mask ne = picked-no _ _ _ (ne-eqb _ _ ne)
 
-module _ (q : List ℕ) (long : length q ≡ 32) where
-  -- who runs is the first of the highest ring in use
-  pub runner-runs : runnerOf q < 32 → (p : ℕ) × Runs q (runnerOf q) p
-  runner-runs h =
-      ⊎-elim
-      (λ l. absurd (omega (arith, h, runner-low q l)))
-      (λ l. let e : runnerOf q ≡ onSeat q (topOf q 32 / 64 * 64 + 1) = runner-high q l in
-      let d : getD q (onSeat q (topOf q 32 / 64 * 64 + 1)) 0 ≡ topOf q 32 / 64 * 64 + 1 = on-seat q (topOf q 32 / 64 * 64 + 1) (omega (arith, h, e)) in (
-        topOf q 32 / 64 - 32,
-        record {
-          first = ap (λ (v : ℕ). getD q v 0) e ∙ d ∙ omega arith;
-          highest = λ u. omega (arith, top-all q long u);
-        },
-      ))
-      (lt-or-le (topOf q 32) 2048)
+-- whatever the mask says, who runs sits in a ring
+pub runner-ring : (q : List ℕ) (mask : ℕ) → runnerOf q mask < 32 → 2048 ≤ getD q (runnerOf q mask) 0
+runner-ring q mask h =
+    ⊎-elim
+    (λ z. absurd (omega (arith, h, runner-nobody q mask z)))
+    (λ ne. let x : ℕ = ringSeats (mostUrgent mask) + 1 in
+    let e : runnerOf q mask ≡ onSeat q x = runner-first q mask ne in
+    omega (arith, on-seat q x (omega (arith, h, e)), ap (λ (v : ℕ). getD q v 0) e))
+    (eq-or-not mask 0)
 
-  -- and where nobody stands in a ring, nobody runs
-  pub runner-none : ((u : ℕ) → getD q u 0 < 2048) → runnerOf q ≡ 32
-  runner-none low =
-      ⊎-elim (λ z. runner-low q (omega arith)) (λ f. runner-low q (omega (arith, f .1, low (f .0)))) (top-hit q 32)
+-- where somebody is on the first seat of a ring, it holds a task
+holds-yes : (q : List ℕ) (t p : ℕ) → length q ≡ 32 → getD q t 0 ≡ ringSeats p + 1 → holdsTask q p ≡ true
+unfolding holdsTask
+holds-yes q t p long e = lt-ltb _ _ (on-seat-hit q (ringSeats p + 1) t long (omega arith) e)
+
+holds-says : (q : List ℕ) (p : ℕ) → holdsTask q p ≡ true → getD q (firstOf q (ringSeats p)) 0 ≡ ringSeats p + 1
+unfolding holdsTask
+holds-says q p e = on-seat q (ringSeats p + 1) (ltb-true _ _ e)
+
+-- where nobody stands in a ring, nobody runs
+pub runner-none : (q : List ℕ) → ((u : ℕ) → getD q u 0 < 2048) → runnerOf q (ringMask q) ≡ 32
+unfolding ringMask
+runner-none q low =
+    runner-nobody q (bits (holdsTask q) 16)
+    (bits-zero (holdsTask q) 16
+    (λ p h. ⊎-elim (λ e. absurd (omega (arith, holds-says q p e, low (firstOf q (ringSeats p))))) (λ e. e) (true-or-false (holdsTask q p))))
 
 module _ (q : List ℕ) (rule : Queues q) where
-  -- the other way: where seats say queues, the first of the highest ring in use runs
-  pub runs-runner : (t p : ℕ) → Runs q t p → runnerOf q ≡ t
-  runs-runner t p runs =
+  -- where seats say queues, the first of the highest ring in use is the one that the leading zeros of the mask name
+  pub runs-runner : (t p : ℕ) → p < 16 → Runs q t p → runnerOf q (ringMask q) ≡ t
+  unfolding ringMask
+  runs-runner t p small runs =
       let s : getD q t 0 ≡ ringSeats p + 1 = runs .first in
-      let lo : ringSeats p + 1 ≤ topOf q 32 = omega (arith, s, top-all q (rule .tasks) t) in
-      let hi : topOf q 32 < ringSeats (p + 1) = ⊎-elim (λ z. omega arith) (λ f. omega (arith, f .1, runs .highest (f .0))) (top-hit q 32) in
-      let e : topOf q 32 / 64 * 64 + 1 ≡ getD q t 0 = omega arith in
-      runner-high q (omega arith) ∙ ap (onSeat q) e
+      let mask : ℕ = bits (holdsTask q) 16 in
+      let here : holdsTask q p ≡ true = holds-yes q t p (rule .tasks) s in
+      let some : mask ≡ 0 → ⊥ = λ z. true-false here (bits-none (holdsTask q) 16 z p small) in
+      let top : Greatest (holdsTask q) 16 (mostUrgent mask) = bits-top (holdsTask q) 16 some in
+      let up : p ≤ mostUrgent mask =
+      ⊎-elim (λ l. absurd (true-false here (top .none p l small))) (λ l. l) (lt-or-le (mostUrgent mask) p) in
+      let g : ℕ = mostUrgent mask in
+      let down : g ≤ p = omega (arith, holds-says q g (top .passes), runs .highest (firstOf q (ringSeats g))) in
+      let e : ringSeats g + 1 ≡ getD q t 0 = omega arith in
+      runner-first q mask some ∙ ap (onSeat q) e
       ∙ on-seat-is q (ringSeats p) _ t (rule .tasks) (rule .seated (ringSeats p) (omega arith)) (omega arith, omega arith)
-
-  -- and somebody runs where somebody stands in a ring
-  pub runner-some : (t : ℕ) → 2048 ≤ getD q t 0 → runnerOf q < 32
-  runner-some t h =
-      let lo : 2048 ≤ topOf q 32 = omega (arith, h, top-all q (rule .tasks) t) in
-      ⊎-elim (λ z. absurd (omega arith))
-      (λ f. let s : getD q (f .0) 0 ≡ topOf q 32 = f .1 in
-      ⊎-elim (λ z. absurd (omega (arith, z, s, lo)))
-      (λ w. let o : ℕ = topOf q 32 / 64 * 64 in
-      let at : In q o (f .0) = (omega (arith, w .0, s), omega (arith, w .1, s)) in
-      let seat : Seated q o _ = rule .seated o (omega arith) in
-      omega (arith, runner-high q lo, first-is q o _ (rule .tasks) seat (omega (arith, seat .small (f .0) at, at .0)) .0))
-      (rule .places (f .0)))
-      (top-hit q 32)

@@ -1,11 +1,14 @@
-// The verbs of the queues: leave from anywhere, join behind a key, first, who runs, how many. Nobody else touches a seat.
+// The verbs of the queues: leave from anywhere, join behind a key, first, who runs, how many; and of the mask of the rings that
+// hold a task. Nobody else touches a seat.
 // A seat is queue × 64 + place; slot 32 is nobody. (scope's specs/Seats.antt.)
 ghost use mathlib.Core.Path.{_≡_};
-ghost use mathlib.Core.Bool.{_&&_, false};
+ghost use mathlib.Core.Bool.{_&&_};
 ghost use Prim.Native.Nat.{ℕ, _<_};
 ghost use lib.Dec.{ltb};
-ghost use Rattle.scope.specs.Choice.{pick};
-ghost use Rattle.scope.specs.Seats.{lower, raise, leaves, joins, becomesReady, laterOf, aheadOf, onSeat, firstOf, standing, greater, topOf, runnerOf, waitsOn, queueSeats, seatsEnd};
+ghost use Rattle.scope.specs.Choice.{pick, hasBit};
+ghost use Rattle.scope.specs.Seats.{lower, raise, leaves, joins, becomesReady, laterOf, aheadOf, onSeat, firstOf, standing, runnerOf, waitsOn, queueSeats, seatsEnd};
+ghost use Rattle.scope.specs.Seats.{maskFilled, maskEmptied, maskLeft, ringsLeft, ringsReady};
+ghost use Rattle.seats.specs.Passes.{greater, topOf};
 
 // A seat after seat `x` was left; `end` is the end of its queue's seats.
 fn lowered(y: u16, x: u16, end: u16) -> u16
@@ -132,8 +135,8 @@ pub fn on_seat(q: [u16; 32], x: u16) -> usize
 }
 
 // Whether somebody is on seat `x`. Without a branch for each task: the compiler takes many seats at a time.
-fn is_taken(q: [u16; 32], x: u16) -> bool
-    ensures { λ r. ⌜ (r ≡ false → 32 ≡ onSeat q x) ⌝ }
+pub fn is_taken(q: [u16; 32], x: u16) -> bool
+    ensures { λ r. ⌜ r ≡ ltb (onSeat q x) 32 ⌝ }
 {
     let mut taken = false;
     let mut t: usize = 0;
@@ -206,15 +209,87 @@ fn top(q: [u16; 32]) -> u16
     m
 }
 
-// The running task, 32 if nothing runs.
-pub fn runner(q: [u16; 32]) -> usize
-    ensures { λ r. ⌜ r ≡ runnerOf q ⌝ }
+// Whether bit `k` of a mask is set.
+fn has_bit(mask: u16, k: u32) -> bool
+    requires { ⌜ k < 16 ⌝ }
+    ensures { λ r. ⌜ r ≡ hasBit mask k ⌝ }
 {
-    let x = top(q);
+    (mask >> k) % 2 == 1
+}
+
+// The mask after ring `p` got a task: its bit is set. A mask has sixteen bits.
+pub fn mask_filled(mask: u16, p: u8) -> u16
+    ensures { λ r. ⌜ r ≡ maskFilled mask p ⌝ }
+{
+    if 16 <= p {
+        return mask;
+    }
+    let k = p as u32;
+    if has_bit(mask, k) {
+        return mask;
+    }
+    mask + (1u16 << k)
+}
+
+// The mask after ring `p` lost its last task: its bit is cleared.
+fn mask_emptied(mask: u16, p: u16) -> u16
+    ensures { λ r. ⌜ r ≡ maskEmptied mask p ⌝ }
+{
+    if 16 <= p {
+        return mask;
+    }
+    let k = p as u32;
+    if has_bit(mask, k) {
+        return mask - (1u16 << k);
+    }
+    mask
+}
+
+// The mask after seat `x` was left, with the seats as they are then: it changes where `x` was in a ring and nobody is left there.
+pub fn mask_left(mask: u16, q: [u16; 32], x: u16) -> u16
+    ensures { λ r. ⌜ r ≡ maskLeft mask q x ⌝ }
+{
     if x < 2048 {
+        return mask;
+    }
+    if is_taken(q, x / 64 * 64 + 1) {
+        return mask;
+    }
+    mask_emptied(mask, x / 64 - 32)
+}
+
+// Task `t` leaves the queue it stands in, and the mask follows.
+pub fn take_out(seat: &mut [u16; 32], rings: &mut [u16; 1], t: usize)
+    requires { ⌜ t < 32 ⌝ }
+    ensures { λ r. ⌜ (now (seat .exit) ≡ leaves (now (seat .entry)) t)
+        × (now (rings .exit) ≡ ringsLeft (now (rings .entry)) (now (seat .entry)) t) ⌝ }
+{
+    let x = seat[t];
+    *seat = leave(*seat, t);
+    let mask = mask_left(rings[0], *seat, x);
+    rings[0] = mask;
+}
+
+// Task `t`, which stands nowhere, becomes ready with priority `p`, and the mask follows.
+pub fn put_in(seat: &mut [u16; 32], key: &[u8; 32], rings: &mut [u16; 1], t: usize, p: u8)
+    requires { ⌜ t < 32 ⌝ }
+    ensures { λ r. ⌜ (now (seat .exit) ≡ becomesReady (now (seat .entry)) (now (key .entry)) t p)
+        × (now (rings .exit) ≡ ringsReady (now (rings .entry)) p) ⌝ }
+{
+    *seat = make_ready(*seat, *key, t, p);
+    let mask = mask_filled(rings[0], p);
+    rings[0] = mask;
+}
+
+// The running task: the first of the ring that the leading zeros of the mask name; 32 if no ring holds a task.
+pub fn runner(q: [u16; 32], mask: u16) -> usize
+    ensures { λ r. ⌜ r ≡ runnerOf q mask ⌝ }
+{
+    if mask == 0 {
         return 32;
     }
-    on_seat(q, x / 64 * 64 + 1)
+    let p = 15 - u16::leading_zeros(mask);
+    on_seat(q, (p * 64 + 2049) as u16)
 }
 
 // Whether a task on this seat waits in a semaphore's queue.

@@ -31,10 +31,10 @@ fn create_at(
 ) -> Outcome
     requires { ⌜ (length (now serial) ≡ 16) × (i < 16 → getD (now serial) i 0 < 65535) ⌝ }
     ensures { λ r. ⌜ ((s : State) → answerOf
-        (lentSemaphores s (s .line .left) (s .line .seat) (s .line .joined) (s .tasks .serial) (s .tasks .suspended) (s .tasks .priority)
+        (lentSemaphores s (s .line .left) (s .line .seat) (s .line .joined) (s .line .rings) (s .tasks .serial) (s .tasks .suspended) (s .tasks .priority)
         (now (name .exit)) (now (serial .exit)) (now (units .exit)) (now (live .exit)) (now (fifo .exit)) running) noWakes r
         ≡ semCreateAt
-        (lentSemaphores s (s .line .left) (s .line .seat) (s .line .joined) (s .tasks .serial) (s .tasks .suspended) (s .tasks .priority)
+        (lentSemaphores s (s .line .left) (s .line .seat) (s .line .joined) (s .line .rings) (s .tasks .serial) (s .tasks .suspended) (s .tasks .priority)
         (now (name .entry)) (now (serial .entry)) (now (units .entry)) (now (live .entry))
         (now (fifo .entry)) running) what count options i) ⌝ }
 {
@@ -62,10 +62,10 @@ pub fn sem_create(
     options: u32,
 ) -> Outcome
     ensures { λ r. ⌜ ((s : State) → answerOf
-        (lentSemaphores s (s .line .left) (s .line .seat) (s .line .joined) (s .tasks .serial) (s .tasks .suspended) (s .tasks .priority)
+        (lentSemaphores s (s .line .left) (s .line .seat) (s .line .joined) (s .line .rings) (s .tasks .serial) (s .tasks .suspended) (s .tasks .priority)
         (now (name .exit)) (now (serial .exit)) (now (units .exit)) (now (live .exit)) (now (fifo .exit)) running) noWakes r
         ≡ semCreate
-        (lentSemaphores s (s .line .left) (s .line .seat) (s .line .joined) (s .tasks .serial) (s .tasks .suspended) (s .tasks .priority)
+        (lentSemaphores s (s .line .left) (s .line .seat) (s .line .joined) (s .line .rings) (s .tasks .serial) (s .tasks .suspended) (s .tasks .priority)
         (now (name .entry)) (now (serial .entry)) (now (units .entry)) (now (live .entry))
         (now (fifo .entry)) running) what count options) ⌝ }
 {
@@ -94,6 +94,7 @@ fn delete_at(
     left: &mut [u32; 32],
     seat: &mut [u16; 32],
     joined: &mut [u8; 32],
+    rings: &mut [u16; 1],
     waker: &[u16; 32],
     suspended: &[bool; 32],
     priority: &[u8; 32],
@@ -107,24 +108,39 @@ fn delete_at(
     requires { ⌜ i < 16 ⌝ }
     requires { ⌜ now wakes ≡ noWakes ⌝ }
     ensures { λ r. ⌜ ((s : State) (serial : List ℕ) (running : ℕ) → answerOf (lentSemaphores s (now (left .exit)) (now (seat .exit))
-        (now (joined .exit)) (now (waker .entry)) (now (suspended .entry)) (now (priority .entry)) (now (name .exit)) serial
+        (now (joined .exit)) (now (rings .exit)) (now (waker .entry)) (now (suspended .entry)) (now (priority .entry)) (now (name .exit)) serial
         (now (units .exit)) (now (live .exit)) (now (fifo .exit)) running) (now (wakes .exit)) r
-        ≡ semDeleteAt (lentSemaphores s (now (left .entry)) (now (seat .entry)) (now (joined .entry)) (now (waker .entry))
+        ≡ semDeleteAt (lentSemaphores s (now (left .entry)) (now (seat .entry)) (now (joined .entry)) (now (rings .entry)) (now (waker .entry))
         (now (suspended .entry)) (now (priority .entry)) (now (name .entry)) serial (now (units .entry)) (now (live .entry))
         (now (fifo .entry)) running) i) ⌝ }
 {
-    let woken = waiting::wake_all(left, seat, joined, waker, suspended, priority, wakes, i);
+    let woken = waiting::wake_all(
+        left,
+        seat,
+        joined,
+        rings,
+        waker,
+        suspended,
+        priority,
+        wakes,
+        i,
+    );
     name[i] = 0;
     units[i] = 0;
     live[i] = false;
     fifo[i] = false;
-    answers::woke(woken, scope::SEMAPHORE_DELETED, seats::runner(*seat))
+    answers::woke(
+        woken,
+        scope::SEMAPHORE_DELETED,
+        seats::runner(*seat, rings[0]),
+    )
 }
 
 pub fn sem_delete(
     left: &mut [u32; 32],
     seat: &mut [u16; 32],
     joined: &mut [u8; 32],
+    rings: &mut [u16; 1],
     waker: &[u16; 32],
     suspended: &[bool; 32],
     priority: &[u8; 32],
@@ -137,10 +153,10 @@ pub fn sem_delete(
     running: usize,
     id: u32,
 ) -> Outcome
-    ensures { λ r. ⌜ ((s : State) → answerOf (lentSemaphores s (now (left .exit)) (now (seat .exit)) (now (joined .exit))
+    ensures { λ r. ⌜ ((s : State) → answerOf (lentSemaphores s (now (left .exit)) (now (seat .exit)) (now (joined .exit)) (now (rings .exit))
         (now (waker .entry)) (now (suspended .entry)) (now (priority .entry)) (now (name .exit)) (now (serial .entry)) (now (units .exit))
         (now (live .exit)) (now (fifo .exit)) running) (now (wakes .exit)) r
-        ≡ semDelete (lentSemaphores s (now (left .entry)) (now (seat .entry)) (now (joined .entry)) (now (waker .entry))
+        ≡ semDelete (lentSemaphores s (now (left .entry)) (now (seat .entry)) (now (joined .entry)) (now (rings .entry)) (now (waker .entry))
         (now (suspended .entry)) (now (priority .entry)) (now (name .entry)) (now (serial .entry)) (now (units .entry)) (now (live .entry))
         (now (fifo .entry)) running) id) ⌝ }
 {
@@ -150,6 +166,7 @@ pub fn sem_delete(
             left,
             seat,
             joined,
+            rings,
             waker,
             suspended,
             priority,
@@ -173,10 +190,10 @@ pub fn sem_ident<'a>(
     what: u32,
 ) -> Outcome
     ensures { λ r. ⌜ ((s : State) → answerOf
-        (lentSemaphores s (s .line .left) (s .line .seat) (s .line .joined) (s .tasks .serial) (s .tasks .suspended) (s .tasks .priority)
+        (lentSemaphores s (s .line .left) (s .line .seat) (s .line .joined) (s .line .rings) (s .tasks .serial) (s .tasks .suspended) (s .tasks .priority)
         (now (name .entry)) (now (serial .entry)) (s .semaphores .units) (now (live .entry)) (s .semaphores .fifo) running) noWakes r
         ≡ semIdent
-        (lentSemaphores s (s .line .left) (s .line .seat) (s .line .joined) (s .tasks .serial) (s .tasks .suspended) (s .tasks .priority)
+        (lentSemaphores s (s .line .left) (s .line .seat) (s .line .joined) (s .line .rings) (s .tasks .serial) (s .tasks .suspended) (s .tasks .priority)
         (now (name .entry)) (now (serial .entry)) (s .semaphores .units) (now (live .entry)) (s .semaphores .fifo) running) what) ⌝ }
 {
     let i = tables::by_name(live, name, what);
@@ -200,6 +217,7 @@ fn wait_at(
     left: &mut [u32; 32],
     seat: &mut [u16; 32],
     joined: &mut [u8; 32],
+    rings: &mut [u16; 1],
     priority: &[u8; 32],
     fifo: &[bool; 16],
     running: usize,
@@ -208,9 +226,9 @@ fn wait_at(
 ) -> Outcome
     requires { ⌜ i < 16 ⌝ }
     ensures { λ r. ⌜ ((s : State) (serial units : List ℕ) (live : List Bool) → answerOf (lentSemaphores s (now (left .exit))
-        (now (seat .exit)) (now (joined .exit)) (s .tasks .serial) (s .tasks .suspended)
+        (now (seat .exit)) (now (joined .exit)) (now (rings .exit)) (s .tasks .serial) (s .tasks .suspended)
         (now (priority .entry)) (s .semaphores .name) serial units live (now (fifo .entry)) running) noWakes r
-        ≡ semWaitAt (lentSemaphores s (now (left .entry)) (now (seat .entry)) (now (joined .entry)) (s .tasks .serial) (s .tasks .suspended)
+        ≡ semWaitAt (lentSemaphores s (now (left .entry)) (now (seat .entry)) (now (joined .entry)) (now (rings .entry)) (s .tasks .serial) (s .tasks .suspended)
         (now (priority .entry)) (s .semaphores .name) serial units live (now (fifo .entry)) running) ticks i) ⌝ }
 {
     if 32 <= running {
@@ -220,19 +238,21 @@ fn wait_at(
         left,
         seat,
         joined,
+        rings,
         i,
         fifo[i],
         priority[running],
         ticks,
         running,
     );
-    answers::plain(scope::PENDING, seats::runner(*seat))
+    answers::plain(scope::PENDING, seats::runner(*seat, rings[0]))
 }
 
 fn claim_at(
     left: &mut [u32; 32],
     seat: &mut [u16; 32],
     joined: &mut [u8; 32],
+    rings: &mut [u16; 1],
     priority: &[u8; 32],
     units: &mut [u16; 16],
     fifo: &[bool; 16],
@@ -243,10 +263,10 @@ fn claim_at(
 ) -> Outcome
     requires { ⌜ i < 16 ⌝ }
     ensures { λ r. ⌜ ((s : State) (serial : List ℕ) (live : List Bool) → answerOf (lentSemaphores s (now (left .exit)) (now (seat .exit))
-        (now (joined .exit)) (s .tasks .serial) (s .tasks .suspended) (now (priority .entry)) (s .semaphores .name) serial
+        (now (joined .exit)) (now (rings .exit)) (s .tasks .serial) (s .tasks .suspended) (now (priority .entry)) (s .semaphores .name) serial
         (now (units .exit)) live (now (fifo .entry)) running) noWakes r
         ≡ semClaimAt (lentSemaphores s (now (left .entry)) (now (seat .entry))
-        (now (joined .entry)) (s .tasks .serial) (s .tasks .suspended) (now (priority .entry)) (s .semaphores .name) serial
+        (now (joined .entry)) (now (rings .entry)) (s .tasks .serial) (s .tasks .suspended) (now (priority .entry)) (s .semaphores .name) serial
         (now (units .entry)) live (now (fifo .entry)) running) options ticks i) ⌝ }
 {
     if 1 < options {
@@ -263,13 +283,14 @@ fn claim_at(
     if options == 1 {
         return answers::plain(scope::SEMAPHORE_NOT_AVAILABLE, running);
     }
-    wait_at(left, seat, joined, priority, fifo, running, ticks, i)
+    wait_at(left, seat, joined, rings, priority, fifo, running, ticks, i)
 }
 
 pub fn sem_claim<'a>(
     left: &mut [u32; 32],
     seat: &mut [u16; 32],
     joined: &mut [u8; 32],
+    rings: &mut [u16; 1],
     priority: &[u8; 32],
     serial: &'a [u16; 16],
     units: &mut [u16; 16],
@@ -281,9 +302,9 @@ pub fn sem_claim<'a>(
     ticks: u32,
 ) -> Outcome
     ensures { λ r. ⌜ ((s : State) → answerOf (lentSemaphores s (now (left .exit)) (now (seat .exit))
-        (now (joined .exit)) (s .tasks .serial) (s .tasks .suspended) (now (priority .entry)) (s .semaphores .name) (now (serial .entry))
+        (now (joined .exit)) (now (rings .exit)) (s .tasks .serial) (s .tasks .suspended) (now (priority .entry)) (s .semaphores .name) (now (serial .entry))
         (now (units .exit)) (now (live .entry)) (now (fifo .entry)) running) noWakes r
-        ≡ semClaim (lentSemaphores s (now (left .entry)) (now (seat .entry)) (now (joined .entry)) (s .tasks .serial) (s .tasks .suspended)
+        ≡ semClaim (lentSemaphores s (now (left .entry)) (now (seat .entry)) (now (joined .entry)) (now (rings .entry)) (s .tasks .serial) (s .tasks .suspended)
         (now (priority .entry)) (s .semaphores .name) (now (serial .entry)) (now (units .entry)) (now (live .entry))
         (now (fifo .entry)) running) id options ticks) ⌝ }
 {
@@ -292,6 +313,7 @@ pub fn sem_claim<'a>(
             left,
             seat,
             joined,
+            rings,
             priority,
             units,
             fifo,
@@ -310,6 +332,7 @@ fn release_at(
     left: &mut [u32; 32],
     seat: &mut [u16; 32],
     joined: &mut [u8; 32],
+    rings: &mut [u16; 1],
     waker: &[u16; 32],
     suspended: &[bool; 32],
     priority: &[u8; 32],
@@ -321,15 +344,26 @@ fn release_at(
     requires { ⌜ i < 16 ⌝ }
     requires { ⌜ now wakes ≡ noWakes ⌝ }
     ensures { λ r. ⌜ ((s : State) (name serial : List ℕ) (live fifo : List Bool) → answerOf (lentSemaphores s (now (left .exit))
-        (now (seat .exit)) (now (joined .exit)) (now (waker .entry)) (now (suspended .entry)) (now (priority .entry)) name serial
+        (now (seat .exit)) (now (joined .exit)) (now (rings .exit)) (now (waker .entry)) (now (suspended .entry)) (now (priority .entry)) name serial
         (now (units .exit)) live fifo running) (now (wakes .exit)) r
-        ≡ semReleaseAt (lentSemaphores s (now (left .entry)) (now (seat .entry)) (now (joined .entry)) (now (waker .entry))
+        ≡ semReleaseAt (lentSemaphores s (now (left .entry)) (now (seat .entry)) (now (joined .entry)) (now (rings .entry)) (now (waker .entry))
         (now (suspended .entry)) (now (priority .entry)) name serial (now (units .entry)) live fifo running) i) ⌝ }
 {
     let t = seats::first_waiter(*seat, i);
     if t < 32 {
-        waiting::wake_next(left, seat, joined, waker, suspended, priority, wakes, 0, t);
-        return answers::woke(1, scope::OK, seats::runner(*seat));
+        waiting::wake_next(
+            left,
+            seat,
+            joined,
+            rings,
+            waker,
+            suspended,
+            priority,
+            wakes,
+            0,
+            t,
+        );
+        return answers::woke(1, scope::OK, seats::runner(*seat, rings[0]));
     }
     let free = units[i];
     if 32767 <= free {
@@ -343,6 +377,7 @@ pub fn sem_release<'a>(
     left: &mut [u32; 32],
     seat: &mut [u16; 32],
     joined: &mut [u8; 32],
+    rings: &mut [u16; 1],
     waker: &[u16; 32],
     suspended: &[bool; 32],
     priority: &[u8; 32],
@@ -353,10 +388,10 @@ pub fn sem_release<'a>(
     running: usize,
     id: u32,
 ) -> Outcome
-    ensures { λ r. ⌜ ((s : State) → answerOf (lentSemaphores s (now (left .exit)) (now (seat .exit)) (now (joined .exit))
+    ensures { λ r. ⌜ ((s : State) → answerOf (lentSemaphores s (now (left .exit)) (now (seat .exit)) (now (joined .exit)) (now (rings .exit))
         (now (waker .entry)) (now (suspended .entry)) (now (priority .entry)) (s .semaphores .name) (now (serial .entry))
         (now (units .exit)) (now (live .entry)) (s .semaphores .fifo) running) (now (wakes .exit)) r
-        ≡ semRelease (lentSemaphores s (now (left .entry)) (now (seat .entry)) (now (joined .entry)) (now (waker .entry))
+        ≡ semRelease (lentSemaphores s (now (left .entry)) (now (seat .entry)) (now (joined .entry)) (now (rings .entry)) (now (waker .entry))
         (now (suspended .entry)) (now (priority .entry)) (s .semaphores .name) (now (serial .entry)) (now (units .entry))
         (now (live .entry)) (s .semaphores .fifo) running) id) ⌝ }
 {
@@ -366,6 +401,7 @@ pub fn sem_release<'a>(
             left,
             seat,
             joined,
+            rings,
             waker,
             suspended,
             priority,
@@ -395,10 +431,10 @@ fn info_at(
 ) -> Outcome
     requires { ⌜ i < 16 ⌝ }
     ensures { λ r. ⌜ ((s : State) (serial : List ℕ) (live : List Bool) → answerOf (lentSemaphores s (s .line .left)
-        (now (seat .entry)) (s .line .joined) (s .tasks .serial) (s .tasks .suspended) (s .tasks .priority) (s .semaphores .name) serial
+        (now (seat .entry)) (s .line .joined) (s .line .rings) (s .tasks .serial) (s .tasks .suspended) (s .tasks .priority) (s .semaphores .name) serial
         (now (units .entry)) live (now (fifo .entry)) running) noWakes r
         ≡ semInfoAt (lentSemaphores s (s .line .left)
-        (now (seat .entry)) (s .line .joined) (s .tasks .serial) (s .tasks .suspended) (s .tasks .priority) (s .semaphores .name) serial
+        (now (seat .entry)) (s .line .joined) (s .line .rings) (s .tasks .serial) (s .tasks .suspended) (s .tasks .priority) (s .semaphores .name) serial
         (now (units .entry)) live (now (fifo .entry)) running) i) ⌝ }
 {
     let waiting = seats::waiters(*seat, i) as u32;
@@ -420,10 +456,10 @@ pub fn sem_info<'a>(
     id: u32,
 ) -> Outcome
     ensures { λ r. ⌜ ((s : State) → answerOf (lentSemaphores s (s .line .left)
-        (now (seat .entry)) (s .line .joined) (s .tasks .serial) (s .tasks .suspended) (s .tasks .priority) (s .semaphores .name)
+        (now (seat .entry)) (s .line .joined) (s .line .rings) (s .tasks .serial) (s .tasks .suspended) (s .tasks .priority) (s .semaphores .name)
         (now (serial .entry)) (now (units .entry)) (now (live .entry)) (now (fifo .entry)) running) noWakes r
         ≡ semInfo (lentSemaphores s (s .line .left)
-        (now (seat .entry)) (s .line .joined) (s .tasks .serial) (s .tasks .suspended) (s .tasks .priority) (s .semaphores .name)
+        (now (seat .entry)) (s .line .joined) (s .line .rings) (s .tasks .serial) (s .tasks .suspended) (s .tasks .priority) (s .semaphores .name)
         (now (serial .entry)) (now (units .entry)) (now (live .entry)) (now (fifo .entry)) running) id) ⌝ }
 {
     match tables::find(serial, live, id) {

@@ -11,7 +11,6 @@ ghost use lib.ListN.{getD, length};
 ghost use Rattle.scope.specs.declared.State.{State};
 ghost use Rattle.scope.specs.declared.Line.{Line};
 ghost use Rattle.scope.specs.Answers.{noWakes};
-ghost use Rattle.scope.specs.Seats.{becomesReady};
 ghost use Rattle.scope.specs.Views.{readyWith};
 ghost use Rattle.scope.specs.Tasks.{taskFound, taskCreateAt, taskCreate, taskDeleteAt, taskDelete, taskIdent, taskStartAt, taskStart, taskSuspendAt};
 ghost use Rattle.scope.specs.Tasks.{taskSuspend, taskResumeAt, taskResume, taskSetPriorityAt, taskSetPriority};
@@ -37,14 +36,6 @@ fn find<'a>(serial: &'a [u16; 32], live: &'a [bool; 32], running: usize, id: u32
     tables::find(serial, live, id)
 }
 
-// Task `t`, which stands nowhere, becomes ready.
-fn ready(seat: &mut [u16; 32], joined: &[u8; 32], priority: u8, t: usize)
-    requires { ⌜ t < 32 ⌝ }
-    ensures { λ r. ⌜ now (seat .exit) ≡ becomesReady (now (seat .entry)) (now (joined .entry)) t priority ⌝ }
-{
-    *seat = seats::make_ready(*seat, *joined, t, priority);
-}
-
 fn create_at(
     names: &mut [u32; 32],
     serial: &mut [u16; 32],
@@ -58,9 +49,9 @@ fn create_at(
     t: usize,
 ) -> Outcome
     requires { ⌜ (length (now serial) ≡ 32) × (t < 32 → getD (now serial) t 0 < 65535) ⌝ }
-    ensures { λ r. ⌜ ((s : State) → answerOf (lentTasks s (s .line .left) (s .line .seat) (s .line .joined) (now (names .exit))
+    ensures { λ r. ⌜ ((s : State) → answerOf (lentTasks s (s .line .left) (s .line .seat) (s .line .joined) (s .line .rings) (now (names .exit))
         (now (serial .exit)) (now (live .exit)) (now (started .exit)) (now (suspended .exit)) (now (priorities .exit)) running) noWakes r
-        ≡ taskCreateAt (lentTasks s (s .line .left) (s .line .seat) (s .line .joined) (now (names .entry)) (now (serial .entry))
+        ≡ taskCreateAt (lentTasks s (s .line .left) (s .line .seat) (s .line .joined) (s .line .rings) (now (names .entry)) (now (serial .entry))
         (now (live .entry)) (now (started .entry)) (now (suspended .entry)) (now (priorities .entry)) running) name priority t) ⌝ }
 {
     if 32 <= t {
@@ -87,9 +78,9 @@ pub fn task_create(
     name: u32,
     priority: u32,
 ) -> Outcome
-    ensures { λ r. ⌜ ((s : State) → answerOf (lentTasks s (s .line .left) (s .line .seat) (s .line .joined) (now (names .exit))
+    ensures { λ r. ⌜ ((s : State) → answerOf (lentTasks s (s .line .left) (s .line .seat) (s .line .joined) (s .line .rings) (now (names .exit))
         (now (serial .exit)) (now (live .exit)) (now (started .exit)) (now (suspended .exit)) (now (priorities .exit)) running) noWakes r
-        ≡ taskCreate (lentTasks s (s .line .left) (s .line .seat) (s .line .joined) (now (names .entry)) (now (serial .entry))
+        ≡ taskCreate (lentTasks s (s .line .left) (s .line .seat) (s .line .joined) (s .line .rings) (now (names .entry)) (now (serial .entry))
         (now (live .entry)) (now (started .entry)) (now (suspended .entry)) (now (priorities .entry)) running) name priority) ⌝ }
 {
     if LAST_PRIORITY < priority {
@@ -115,6 +106,7 @@ fn delete_at(
     left: &mut [u32; 32],
     seat: &mut [u16; 32],
     joined: &mut [u8; 32],
+    rings: &mut [u16; 1],
     name: &mut [u32; 32],
     live: &mut [bool; 32],
     started: &mut [bool; 32],
@@ -124,9 +116,9 @@ fn delete_at(
 ) -> Outcome
     requires { ⌜ t < 32 ⌝ }
     ensures { λ r. ⌜ ((s : State) (serial : List ℕ) (running : ℕ) → answerOf (lentTasks s (now (left .exit)) (now (seat .exit))
-        (now (joined .exit)) (now (name .exit)) serial (now (live .exit)) (now (started .exit)) (now (suspended .exit))
+        (now (joined .exit)) (now (rings .exit)) (now (name .exit)) serial (now (live .exit)) (now (started .exit)) (now (suspended .exit))
         (now (priority .exit)) running) noWakes r
-        ≡ taskDeleteAt (lentTasks s (now (left .entry)) (now (seat .entry)) (now (joined .entry)) (now (name .entry)) serial
+        ≡ taskDeleteAt (lentTasks s (now (left .entry)) (now (seat .entry)) (now (joined .entry)) (now (rings .entry)) (now (name .entry)) serial
         (now (live .entry)) (now (started .entry)) (now (suspended .entry)) (now (priority .entry)) running) t) ⌝ }
 {
     name[t] = 0;
@@ -134,16 +126,17 @@ fn delete_at(
     started[t] = false;
     suspended[t] = false;
     priority[t] = 0;
-    *seat = seats::leave(*seat, t);
+    seats::take_out(seat, rings, t);
     left[t] = 0;
     joined[t] = 0;
-    answers::plain(scope::OK, seats::runner(*seat))
+    answers::plain(scope::OK, seats::runner(*seat, rings[0]))
 }
 
 pub fn task_delete(
     left: &mut [u32; 32],
     seat: &mut [u16; 32],
     joined: &mut [u8; 32],
+    rings: &mut [u16; 1],
     name: &mut [u32; 32],
     serial: &[u16; 32],
     live: &mut [bool; 32],
@@ -153,9 +146,9 @@ pub fn task_delete(
     running: usize,
     id: u32,
 ) -> Outcome
-    ensures { λ r. ⌜ ((s : State) → answerOf (lentTasks s (now (left .exit)) (now (seat .exit)) (now (joined .exit)) (now (name .exit))
+    ensures { λ r. ⌜ ((s : State) → answerOf (lentTasks s (now (left .exit)) (now (seat .exit)) (now (joined .exit)) (now (rings .exit)) (now (name .exit))
         (now (serial .entry)) (now (live .exit)) (now (started .exit)) (now (suspended .exit)) (now (priority .exit)) running) noWakes r
-        ≡ taskDelete (lentTasks s (now (left .entry)) (now (seat .entry)) (now (joined .entry)) (now (name .entry)) (now (serial .entry))
+        ≡ taskDelete (lentTasks s (now (left .entry)) (now (seat .entry)) (now (joined .entry)) (now (rings .entry)) (now (name .entry)) (now (serial .entry))
         (now (live .entry)) (now (started .entry)) (now (suspended .entry)) (now (priority .entry)) running) id) ⌝ }
 {
     match find(serial, live, running, id) {
@@ -163,6 +156,7 @@ pub fn task_delete(
             left,
             seat,
             joined,
+            rings,
             name,
             live,
             started,
@@ -182,9 +176,9 @@ pub fn task_ident<'a>(
     running: usize,
     name: u32,
 ) -> Outcome
-    ensures { λ r. ⌜ ((s : State) → answerOf (lentTasks s (s .line .left) (s .line .seat) (s .line .joined) (now (names .entry))
+    ensures { λ r. ⌜ ((s : State) → answerOf (lentTasks s (s .line .left) (s .line .seat) (s .line .joined) (s .line .rings) (now (names .entry))
         (now (serial .entry)) (now (live .entry)) (s .tasks .started) (s .tasks .suspended) (s .tasks .priority) running) noWakes r
-        ≡ taskIdent (lentTasks s (s .line .left) (s .line .seat) (s .line .joined) (now (names .entry)) (now (serial .entry))
+        ≡ taskIdent (lentTasks s (s .line .left) (s .line .seat) (s .line .joined) (s .line .rings) (now (names .entry)) (now (serial .entry))
         (now (live .entry)) (s .tasks .started) (s .tasks .suspended) (s .tasks .priority) running) name) ⌝ }
 {
     let t = tables::by_name(live, names, name);
@@ -197,6 +191,7 @@ pub fn task_ident<'a>(
 fn start_at(
     seat: &mut [u16; 32],
     joined: &[u8; 32],
+    rings: &mut [u16; 1],
     started: &mut [bool; 32],
     priority: &[u8; 32],
     running: usize,
@@ -204,22 +199,23 @@ fn start_at(
 ) -> Outcome
     requires { ⌜ t < 32 ⌝ }
     ensures { λ r. ⌜ ((s : State) (serial : List ℕ) (live : List Bool) → answerOf (lentTasks s (s .line .left) (now (seat .exit))
-        (now (joined .entry)) (s .tasks .name) serial live (now (started .exit)) (s .tasks .suspended)
+        (now (joined .entry)) (now (rings .exit)) (s .tasks .name) serial live (now (started .exit)) (s .tasks .suspended)
         (now (priority .entry)) running) noWakes r
-        ≡ taskStartAt (lentTasks s (s .line .left) (now (seat .entry)) (now (joined .entry)) (s .tasks .name) serial live
+        ≡ taskStartAt (lentTasks s (s .line .left) (now (seat .entry)) (now (joined .entry)) (now (rings .entry)) (s .tasks .name) serial live
         (now (started .entry)) (s .tasks .suspended) (now (priority .entry)) running) t) ⌝ }
 {
     if started[t] {
         return answers::plain(scope::TASK_ALREADY_STARTED, running);
     }
     started[t] = true;
-    ready(seat, joined, priority[t], t);
-    answers::plain(scope::OK, seats::runner(*seat))
+    seats::put_in(seat, joined, rings, t, priority[t]);
+    answers::plain(scope::OK, seats::runner(*seat, rings[0]))
 }
 
 pub fn task_start<'a>(
     seat: &mut [u16; 32],
     joined: &[u8; 32],
+    rings: &mut [u16; 1],
     serial: &'a [u16; 32],
     live: &'a [bool; 32],
     started: &mut [bool; 32],
@@ -227,13 +223,13 @@ pub fn task_start<'a>(
     running: usize,
     id: u32,
 ) -> Outcome
-    ensures { λ r. ⌜ ((s : State) → answerOf (lentTasks s (s .line .left) (now (seat .exit)) (now (joined .entry)) (s .tasks .name)
+    ensures { λ r. ⌜ ((s : State) → answerOf (lentTasks s (s .line .left) (now (seat .exit)) (now (joined .entry)) (now (rings .exit)) (s .tasks .name)
         (now (serial .entry)) (now (live .entry)) (now (started .exit)) (s .tasks .suspended) (now (priority .entry)) running) noWakes r
-        ≡ taskStart (lentTasks s (s .line .left) (now (seat .entry)) (now (joined .entry)) (s .tasks .name) (now (serial .entry))
+        ≡ taskStart (lentTasks s (s .line .left) (now (seat .entry)) (now (joined .entry)) (now (rings .entry)) (s .tasks .name) (now (serial .entry))
         (now (live .entry)) (now (started .entry)) (s .tasks .suspended) (now (priority .entry)) running) id) ⌝ }
 {
     match find(serial, live, running, id) {
-        Found::At(t) => start_at(seat, joined, started, priority, running, t),
+        Found::At(t) => start_at(seat, joined, rings, started, priority, running, t),
         Found::Deleted => answers::plain(scope::OBJECT_DELETED, running),
         Found::Invalid => answers::plain(scope::INVALID_ID, running),
     }
@@ -242,6 +238,7 @@ pub fn task_start<'a>(
 // "A suspended waiter keeps its place"; a ready task leaves the ready order.
 fn suspend_at(
     seat: &mut [u16; 32],
+    rings: &mut [u16; 1],
     started: &[bool; 32],
     suspended: &mut [bool; 32],
     running: usize,
@@ -249,9 +246,9 @@ fn suspend_at(
 ) -> Outcome
     requires { ⌜ t < 32 ⌝ }
     ensures { λ r. ⌜ ((s : State) (serial : List ℕ) (live : List Bool) → answerOf (lentTasks s (s .line .left)
-        (now (seat .exit)) (s .line .joined) (s .tasks .name) serial live (now (started .entry))
+        (now (seat .exit)) (s .line .joined) (now (rings .exit)) (s .tasks .name) serial live (now (started .entry))
         (now (suspended .exit)) (s .tasks .priority) running) noWakes r
-        ≡ taskSuspendAt (lentTasks s (s .line .left) (now (seat .entry)) (s .line .joined) (s .tasks .name) serial live
+        ≡ taskSuspendAt (lentTasks s (s .line .left) (now (seat .entry)) (s .line .joined) (now (rings .entry)) (s .tasks .name) serial live
         (now (started .entry)) (now (suspended .entry)) (s .tasks .priority) running) t) ⌝ }
 {
     if !started[t] {
@@ -265,12 +262,13 @@ fn suspend_at(
     if seats::waits_on(x) {
         return answers::plain(scope::OK, running);
     }
-    *seat = seats::leave(*seat, t);
-    answers::plain(scope::OK, seats::runner(*seat))
+    seats::take_out(seat, rings, t);
+    answers::plain(scope::OK, seats::runner(*seat, rings[0]))
 }
 
 pub fn task_suspend<'a>(
     seat: &mut [u16; 32],
+    rings: &mut [u16; 1],
     serial: &'a [u16; 32],
     live: &'a [bool; 32],
     started: &[bool; 32],
@@ -278,13 +276,13 @@ pub fn task_suspend<'a>(
     running: usize,
     id: u32,
 ) -> Outcome
-    ensures { λ r. ⌜ ((s : State) → answerOf (lentTasks s (s .line .left) (now (seat .exit)) (s .line .joined) (s .tasks .name)
+    ensures { λ r. ⌜ ((s : State) → answerOf (lentTasks s (s .line .left) (now (seat .exit)) (s .line .joined) (now (rings .exit)) (s .tasks .name)
         (now (serial .entry)) (now (live .entry)) (now (started .entry)) (now (suspended .exit)) (s .tasks .priority) running) noWakes r
-        ≡ taskSuspend (lentTasks s (s .line .left) (now (seat .entry)) (s .line .joined) (s .tasks .name) (now (serial .entry))
+        ≡ taskSuspend (lentTasks s (s .line .left) (now (seat .entry)) (s .line .joined) (now (rings .entry)) (s .tasks .name) (now (serial .entry))
         (now (live .entry)) (now (started .entry)) (now (suspended .entry)) (s .tasks .priority) running) id) ⌝ }
 {
     match find(serial, live, running, id) {
-        Found::At(t) => suspend_at(seat, started, suspended, running, t),
+        Found::At(t) => suspend_at(seat, rings, started, suspended, running, t),
         Found::Deleted => answers::plain(scope::OBJECT_DELETED, running),
         Found::Invalid => answers::plain(scope::INVALID_ID, running),
     }
@@ -294,6 +292,7 @@ pub fn task_suspend<'a>(
 fn resume_at(
     seat: &mut [u16; 32],
     joined: &[u8; 32],
+    rings: &mut [u16; 1],
     started: &[bool; 32],
     suspended: &mut [bool; 32],
     priority: &[u8; 32],
@@ -302,9 +301,9 @@ fn resume_at(
 ) -> Outcome
     requires { ⌜ t < 32 ⌝ }
     ensures { λ r. ⌜ ((s : State) (serial : List ℕ) (live : List Bool) → answerOf (lentTasks s (s .line .left) (now (seat .exit))
-        (now (joined .entry)) (s .tasks .name) serial live (now (started .entry)) (now (suspended .exit))
+        (now (joined .entry)) (now (rings .exit)) (s .tasks .name) serial live (now (started .entry)) (now (suspended .exit))
         (now (priority .entry)) running) noWakes r
-        ≡ taskResumeAt (lentTasks s (s .line .left) (now (seat .entry)) (now (joined .entry)) (s .tasks .name) serial live
+        ≡ taskResumeAt (lentTasks s (s .line .left) (now (seat .entry)) (now (joined .entry)) (now (rings .entry)) (s .tasks .name) serial live
         (now (started .entry)) (now (suspended .entry)) (now (priority .entry)) running) t) ⌝ }
 {
     if !started[t] {
@@ -317,13 +316,14 @@ fn resume_at(
     if seats::waits_on(seat[t]) {
         return answers::plain(scope::OK, running);
     }
-    ready(seat, joined, priority[t], t);
-    answers::plain(scope::OK, seats::runner(*seat))
+    seats::put_in(seat, joined, rings, t, priority[t]);
+    answers::plain(scope::OK, seats::runner(*seat, rings[0]))
 }
 
 pub fn task_resume<'a>(
     seat: &mut [u16; 32],
     joined: &[u8; 32],
+    rings: &mut [u16; 1],
     serial: &'a [u16; 32],
     live: &'a [bool; 32],
     started: &[bool; 32],
@@ -332,13 +332,22 @@ pub fn task_resume<'a>(
     running: usize,
     id: u32,
 ) -> Outcome
-    ensures { λ r. ⌜ ((s : State) → answerOf (lentTasks s (s .line .left) (now (seat .exit)) (now (joined .entry)) (s .tasks .name)
+    ensures { λ r. ⌜ ((s : State) → answerOf (lentTasks s (s .line .left) (now (seat .exit)) (now (joined .entry)) (now (rings .exit)) (s .tasks .name)
         (now (serial .entry)) (now (live .entry)) (now (started .entry)) (now (suspended .exit)) (now (priority .entry)) running) noWakes r
-        ≡ taskResume (lentTasks s (s .line .left) (now (seat .entry)) (now (joined .entry)) (s .tasks .name) (now (serial .entry))
+        ≡ taskResume (lentTasks s (s .line .left) (now (seat .entry)) (now (joined .entry)) (now (rings .entry)) (s .tasks .name) (now (serial .entry))
         (now (live .entry)) (now (started .entry)) (now (suspended .entry)) (now (priority .entry)) running) id) ⌝ }
 {
     match find(serial, live, running, id) {
-        Found::At(t) => resume_at(seat, joined, started, suspended, priority, running, t),
+        Found::At(t) => resume_at(
+            seat,
+            joined,
+            rings,
+            started,
+            suspended,
+            priority,
+            running,
+            t,
+        ),
         Found::Deleted => answers::plain(scope::OBJECT_DELETED, running),
         Found::Invalid => answers::plain(scope::INVALID_ID, running),
     }
@@ -367,6 +376,7 @@ fn wide(p: u8) -> u32
 fn set_priority_at(
     seat: &mut [u16; 32],
     joined: &[u8; 32],
+    rings: &mut [u16; 1],
     started: &[bool; 32],
     suspended: &[bool; 32],
     priorities: &mut [u8; 32],
@@ -376,9 +386,9 @@ fn set_priority_at(
 ) -> Outcome
     requires { ⌜ t < 32 ⌝ }
     ensures { λ r. ⌜ ((s : State) (serial : List ℕ) (live : List Bool) → answerOf (lentTasks s (s .line .left) (now (seat .exit))
-        (now (joined .entry)) (s .tasks .name) serial live (now (started .entry)) (now (suspended .entry))
+        (now (joined .entry)) (now (rings .exit)) (s .tasks .name) serial live (now (started .entry)) (now (suspended .entry))
         (now (priorities .exit)) running) noWakes r
-        ≡ taskSetPriorityAt (lentTasks s (s .line .left) (now (seat .entry)) (now (joined .entry)) (s .tasks .name) serial live
+        ≡ taskSetPriorityAt (lentTasks s (s .line .left) (now (seat .entry)) (now (joined .entry)) (now (rings .entry)) (s .tasks .name) serial live
         (now (started .entry)) (now (suspended .entry)) (now (priorities .entry)) running) priority t) ⌝ }
 {
     if LAST_PRIORITY < priority {
@@ -388,9 +398,9 @@ fn set_priority_at(
     let after = priority as u8;
     priorities[t] = after;
     if is_ready(started[t], suspended[t], seat[t]) {
-        *seat = seats::leave(*seat, t);
-        ready(seat, joined, after, t);
-        return answers::gives(wide(before), seats::runner(*seat));
+        seats::take_out(seat, rings, t);
+        seats::put_in(seat, joined, rings, t, after);
+        return answers::gives(wide(before), seats::runner(*seat, rings[0]));
     }
     answers::gives(wide(before), running)
 }
@@ -398,6 +408,7 @@ fn set_priority_at(
 pub fn task_set_priority<'a>(
     seat: &mut [u16; 32],
     joined: &[u8; 32],
+    rings: &mut [u16; 1],
     serial: &'a [u16; 32],
     live: &'a [bool; 32],
     started: &[bool; 32],
@@ -407,16 +418,17 @@ pub fn task_set_priority<'a>(
     id: u32,
     priority: u32,
 ) -> Outcome
-    ensures { λ r. ⌜ ((s : State) → answerOf (lentTasks s (s .line .left) (now (seat .exit)) (now (joined .entry)) (s .tasks .name)
+    ensures { λ r. ⌜ ((s : State) → answerOf (lentTasks s (s .line .left) (now (seat .exit)) (now (joined .entry)) (now (rings .exit)) (s .tasks .name)
         (now (serial .entry)) (now (live .entry)) (now (started .entry)) (now (suspended .entry))
         (now (priorities .exit)) running) noWakes r
-        ≡ taskSetPriority (lentTasks s (s .line .left) (now (seat .entry)) (now (joined .entry)) (s .tasks .name) (now (serial .entry))
+        ≡ taskSetPriority (lentTasks s (s .line .left) (now (seat .entry)) (now (joined .entry)) (now (rings .entry)) (s .tasks .name) (now (serial .entry))
         (now (live .entry)) (now (started .entry)) (now (suspended .entry)) (now (priorities .entry)) running) id priority) ⌝ }
 {
     match find(serial, live, running, id) {
         Found::At(t) => set_priority_at(
             seat,
             joined,
+            rings,
             started,
             suspended,
             priorities,

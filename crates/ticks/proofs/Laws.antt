@@ -49,14 +49,14 @@ due-done k x w t m h = let d : 32 - t ≡ 0 = omega arith in rw d at (m .2)
 
 -- nobody below t is due, in whatever order they joined
 abbrev pub NoneBelow : List ℕ → List ℕ → ℕ → Type 0
-NoneBelow left seat t = (joined : List ℕ) (j : ℕ) → j < t → isDue (lineOf left seat joined) j ≡ false
+NoneBelow left seat t = (joined rings : List ℕ) (j : ℕ) → j < t → isDue (lineOf left seat joined rings) j ≡ false
 
 -- and so with one task more, if it is not due either
 pub none-due-more : (left seat : List ℕ) (t : ℕ) (a b : Bool) → b ≡ (waitsOn (getD seat t 0) && eqb (getD left t 0) 0)
     → (a ≡ false → NoneBelow left seat t) → (a || b) ≡ false → NoneBelow left seat (t + 1)
 unfolding isDue
-none-due-more left seat t a b e h g joined =
-    none-more (isDue (lineOf left seat joined)) t a (λ f. h f joined) (rw (← e) g)
+none-due-more left seat t a b e h g joined rings =
+    none-more (isDue (lineOf left seat joined rings)) t a (λ f. h f joined rings) (rw (← e) g)
 
 -- nobody is due, so nobody is woken
 pub none-due : (k : Tasks) (w : Waking) (n t : ℕ) → ((j : ℕ) → j < t + n → isDue (w .line) j ≡ false) → w ≡ wakeDue k n t w

@@ -41,7 +41,7 @@ fn is_due(seat: u16, left: u32) -> bool
 
 // Whether anybody is due. Most ticks wake nobody, and are told so without a branch for each task.
 fn any_due(seat: [u16; 32], left: [u32; 32]) -> bool
-    ensures { λ r. ⌜ (r ≡ false → (joined : List ℕ) (t : ℕ) → t < 32 → isDue (lineOf left seat joined) t ≡ false) ⌝ }
+    ensures { λ r. ⌜ (r ≡ false → (joined rings : List ℕ) (t : ℕ) → t < 32 → isDue (lineOf left seat joined rings) t ≡ false) ⌝ }
 {
     let mut any = false;
     let mut k: usize = 0;
@@ -57,6 +57,7 @@ fn wake_if_due(
     left: &mut [u32; 32],
     seat: &mut [u16; 32],
     joined: &mut [u8; 32],
+    rings: &mut [u16; 1],
     serial: &[u16; 32],
     suspended: &[bool; 32],
     priority: &[u8; 32],
@@ -66,10 +67,10 @@ fn wake_if_due(
 ) -> usize
     requires { ⌜ (t < 32) × (woken < 32) ⌝ }
     ensures few { λ r. ⌜ r ≤ woken + 1 ⌝ }
-    ensures { λ r. ⌜ ((k : Tasks) → wakingOf (now (left .exit)) (now (seat .exit)) (now (joined .exit)) (now (wakes .exit)) r
-        ≡ pick (isDue (lineOf (now (left .entry)) (now (seat .entry)) (now (joined .entry))) t) (wakeNext (wakers k (now (serial .entry))
-        (now (suspended .entry)) (now (priority .entry))) (wakingOf (now (left .entry)) (now (seat .entry)) (now (joined .entry))
-        (now (wakes .entry)) woken) t) (wakingOf (now (left .entry)) (now (seat .entry)) (now (joined .entry))
+    ensures { λ r. ⌜ ((k : Tasks) → wakingOf (now (left .exit)) (now (seat .exit)) (now (joined .exit)) (now (rings .exit)) (now (wakes .exit)) r
+        ≡ pick (isDue (lineOf (now (left .entry)) (now (seat .entry)) (now (joined .entry)) (now (rings .entry))) t) (wakeNext (wakers k (now (serial .entry))
+        (now (suspended .entry)) (now (priority .entry))) (wakingOf (now (left .entry)) (now (seat .entry)) (now (joined .entry)) (now (rings .entry))
+        (now (wakes .entry)) woken) t) (wakingOf (now (left .entry)) (now (seat .entry)) (now (joined .entry)) (now (rings .entry))
         (now (wakes .entry)) woken)) ⌝ }
 {
     if is_due(seat[t], left[t]) {
@@ -77,6 +78,7 @@ fn wake_if_due(
             left,
             seat,
             joined,
+            rings,
             serial,
             suspended,
             priority,
@@ -94,14 +96,15 @@ fn wake_due(
     left: &mut [u32; 32],
     seat: &mut [u16; 32],
     joined: &mut [u8; 32],
+    rings: &mut [u16; 1],
     serial: &[u16; 32],
     suspended: &[bool; 32],
     priority: &[u8; 32],
     wakes: &mut [u32; 32],
 ) -> usize
-    ensures { λ r. ⌜ ((k : Tasks) → wakingOf (now (left .exit)) (now (seat .exit)) (now (joined .exit)) (now (wakes .exit)) r
+    ensures { λ r. ⌜ ((k : Tasks) → wakingOf (now (left .exit)) (now (seat .exit)) (now (joined .exit)) (now (rings .exit)) (now (wakes .exit)) r
         ≡ wakeDue (wakers k (now (serial .entry)) (now (suspended .entry)) (now (priority .entry))) 32 0 (wakingOf (now (left .entry))
-        (now (seat .entry)) (now (joined .entry)) (now (wakes .entry)) 0)) ⌝ }
+        (now (seat .entry)) (now (joined .entry)) (now (rings .entry)) (now (wakes .entry)) 0)) ⌝ }
 {
     let mut woken: usize = 0;
     let mut t: usize = 0;
@@ -113,6 +116,7 @@ fn wake_due(
             left,
             seat,
             joined,
+            rings,
             serial,
             suspended,
             priority,
@@ -129,18 +133,28 @@ pub fn tick(
     left: &mut [u32; 32],
     seat: &mut [u16; 32],
     joined: &mut [u8; 32],
+    rings: &mut [u16; 1],
     serial: &[u16; 32],
     suspended: &[bool; 32],
     priority: &[u8; 32],
     wakes: &mut [u32; 32],
 ) -> Outcome
-    ensures { λ r. ⌜ ((s : State) (running : ℕ) → answerOf (lentLine s (now (left .exit)) (now (seat .exit)) (now (joined .exit))
+    ensures { λ r. ⌜ ((s : State) (running : ℕ) → answerOf (lentLine s (now (left .exit)) (now (seat .exit)) (now (joined .exit)) (now (rings .exit))
         (now (serial .entry)) (now (suspended .entry)) (now (priority .entry)) running) (now (wakes .exit)) r
-        ≡ tick (lentLine s (now (left .entry)) (now (seat .entry)) (now (joined .entry)) (now (serial .entry)) (now (suspended .entry))
+        ≡ tick (lentLine s (now (left .entry)) (now (seat .entry)) (now (joined .entry)) (now (rings .entry)) (now (serial .entry)) (now (suspended .entry))
         (now (priority .entry)) running)) ⌝ }
 {
     *wakes = [0; 32];
     *left = times_left(*left);
-    let woken = wake_due(left, seat, joined, serial, suspended, priority, wakes);
-    answers::woke(woken, scope::TIME_OUT, seats::runner(*seat))
+    let woken = wake_due(
+        left,
+        seat,
+        joined,
+        rings,
+        serial,
+        suspended,
+        priority,
+        wakes,
+    );
+    answers::woke(woken, scope::TIME_OUT, seats::runner(*seat, rings[0]))
 }

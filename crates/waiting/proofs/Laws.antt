@@ -1,15 +1,26 @@
--- What waking leans on: all waiters are woken one at a time, the first while there is one.
+-- What waking leans on: what becomes of the rings, and that all waiters are woken one at a time, the first while there is one.
 -- Assumes nothing.
 use Prim.Native.Nat.{ℕ, suc, _+_, _-_, _≤_, _<_}
 use native.Mathlib.Omega.{arith}
-use mathlib.Core.Path.{_≡_}
-use mathlib.Core.Bool.{true, false}
+use mathlib.Core.Path.{_≡_, refl}
+use mathlib.Core.Bool.{Bool, true, false}
+use mathlib.Core.List.{List}
+use lib.ListN.{set}
 use lib.Dec.{ltb}
 use borrow.Author.Tests.{lt-ltb, le-ltb}
 use Rattle.scope.specs.declared.Tasks.{Tasks}
 use Rattle.scope.specs.declared.Waking.{Waking}
-use Rattle.scope.specs.Seats.{queueSeats, firstOf}
+use lib.Seq.{set-getD}
+use Rattle.scope.specs.Choice.{pick}
+use Rattle.scope.specs.Seats.{queueSeats, firstOf, maskOf, maskFilled}
 use Rattle.scope.specs.Waiting.{wakeNext, wakeAll}
+
+-- the one place of the rings, by whether the woken task is suspended
+pub woken-rings : (rings : List ℕ) (suspended : Bool) (p : ℕ)
+    → set rings 0 (pick suspended (maskOf rings) (maskFilled (maskOf rings) p)) ≡ pick suspended rings (set rings 0 (maskFilled (maskOf rings) p))
+unfolding pick
+woken-rings rings true p = set-getD rings 0 0
+woken-rings rings false p = refl
 
 -- all waiters woken: one more, and no more
 module _ (k : Tasks) (i : ℕ) where

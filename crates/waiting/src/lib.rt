@@ -4,6 +4,8 @@ ghost use mathlib.Core.Path.{_≡_};
 ghost use Prim.Native.Nat.{ℕ, _+_, _<_};
 ghost use mathlib.Core.List.{List};
 ghost use Rattle.scope.specs.declared.Tasks.{Tasks};
+ghost use Rattle.scope.specs.Choice.{pick};
+ghost use Rattle.scope.specs.Seats.{maskFilled};
 ghost use Rattle.scope.specs.Waiting.{queueKey, waits, wokenSeats, wakeNext, wakeAll};
 ghost use Rattle.answers.specs.Columns.{lineOf, wakers, wakingOf};
 
@@ -22,6 +24,7 @@ pub fn wait(
     left: &mut [u32; 32],
     seat: &mut [u16; 32],
     joined: &mut [u8; 32],
+    rings: &mut [u16; 1],
     i: usize,
     fifo: bool,
     priority: u8,
@@ -29,15 +32,13 @@ pub fn wait(
     t: usize,
 )
     requires { ⌜ (i < 31) × (t < 32) ⌝ }
-    ensures { λ r. ⌜ lineOf (now (left .exit)) (now (seat .exit)) (now (joined .exit)) ≡ waits (lineOf (now (left .entry))
-        (now (seat .entry)) (now (joined .entry))) i fifo priority ticks t ⌝ }
+    ensures { λ r. ⌜ lineOf (now (left .exit)) (now (seat .exit)) (now (joined .exit)) (now (rings .exit)) ≡ waits (lineOf (now (left .entry))
+        (now (seat .entry)) (now (joined .entry)) (now (rings .entry))) i fifo priority ticks t ⌝ }
 {
-    let q = *seat;
-    let keys = *joined;
-    let r = seats::leave(q, t);
+    seats::take_out(seat, rings, t);
     let base = (i * 64 + 64) as u16;
     let key = queue_key(fifo, priority);
-    *seat = seats::join(r, keys, t, base, key);
+    *seat = seats::join(*seat, *joined, t, base, key);
     left[t] = ticks;
     joined[t] = priority;
 }
@@ -45,7 +46,7 @@ pub fn wait(
 // Where the tasks stand once task `t` is woken: "it becomes ready when it neither waits nor is suspended".
 fn woken_seats(q: [u16; 32], joined: [u8; 32], suspended: bool, priority: u8, t: usize) -> [u16; 32]
     requires { ⌜ t < 32 ⌝ }
-    ensures { λ r. ⌜ ((left : List ℕ) → r ≡ wokenSeats (lineOf left q joined) suspended priority t) ⌝ }
+    ensures { λ r. ⌜ ((left rings : List ℕ) → r ≡ wokenSeats (lineOf left q joined rings) suspended priority t) ⌝ }
 {
     let r = seats::leave(q, t);
     if suspended {
@@ -54,11 +55,22 @@ fn woken_seats(q: [u16; 32], joined: [u8; 32], suspended: bool, priority: u8, t:
     seats::make_ready(r, joined, t, priority)
 }
 
+// The mask of the rings then: the queue that the task leaves is no ring.
+fn woken_mask(mask: u16, suspended: bool, priority: u8) -> u16
+    ensures { λ r. ⌜ r ≡ pick suspended mask (maskFilled mask priority) ⌝ }
+{
+    if suspended {
+        return mask;
+    }
+    seats::mask_filled(mask, priority)
+}
+
 // Task `t` leaves its queue and waits no longer, and is the next of the wake list.
 pub fn wake_next(
     left: &mut [u32; 32],
     seat: &mut [u16; 32],
     joined: &mut [u8; 32],
+    rings: &mut [u16; 1],
     serial: &[u16; 32],
     suspended: &[bool; 32],
     priority: &[u8; 32],
@@ -67,11 +79,13 @@ pub fn wake_next(
     t: usize,
 )
     requires { ⌜ (t < 32) × (woken < 32) ⌝ }
-    ensures { λ r. ⌜ ((k : Tasks) → wakingOf (now (left .exit)) (now (seat .exit)) (now (joined .exit))
+    ensures { λ r. ⌜ ((k : Tasks) → wakingOf (now (left .exit)) (now (seat .exit)) (now (joined .exit)) (now (rings .exit))
         (now (wakes .exit)) (woken + 1) ≡ wakeNext (wakers k (now (serial .entry)) (now (suspended .entry))
-        (now (priority .entry))) (wakingOf (now (left .entry)) (now (seat .entry)) (now (joined .entry)) (now (wakes .entry)) woken) t) ⌝ }
+        (now (priority .entry))) (wakingOf (now (left .entry)) (now (seat .entry)) (now (joined .entry)) (now (rings .entry)) (now (wakes .entry)) woken) t) ⌝ }
 {
     *seat = woken_seats(*seat, *joined, suspended[t], priority[t], t);
+    let mask = woken_mask(rings[0], suspended[t], priority[t]);
+    rings[0] = mask;
     left[t] = 0;
     joined[t] = 0;
     let id = tables::identifier(serial[t], t);
@@ -83,6 +97,7 @@ pub fn wake_all(
     left: &mut [u32; 32],
     seat: &mut [u16; 32],
     joined: &mut [u8; 32],
+    rings: &mut [u16; 1],
     serial: &[u16; 32],
     suspended: &[bool; 32],
     priority: &[u8; 32],
@@ -90,9 +105,9 @@ pub fn wake_all(
     i: usize,
 ) -> usize
     requires { ⌜ i < 31 ⌝ }
-    ensures { λ r. ⌜ ((k : Tasks) → wakingOf (now (left .exit)) (now (seat .exit)) (now (joined .exit)) (now (wakes .exit)) r
+    ensures { λ r. ⌜ ((k : Tasks) → wakingOf (now (left .exit)) (now (seat .exit)) (now (joined .exit)) (now (rings .exit)) (now (wakes .exit)) r
         ≡ wakeAll (wakers k (now (serial .entry)) (now (suspended .entry)) (now (priority .entry))) i 32 (wakingOf (now (left .entry))
-        (now (seat .entry)) (now (joined .entry)) (now (wakes .entry)) 0)) ⌝ }
+        (now (seat .entry)) (now (joined .entry)) (now (rings .entry)) (now (wakes .entry)) 0)) ⌝ }
 {
     let mut n: usize = 0;
     while n < 32 {
@@ -100,7 +115,18 @@ pub fn wake_all(
         if 32 <= t {
             return n;
         }
-        wake_next(left, seat, joined, serial, suspended, priority, wakes, n, t);
+        wake_next(
+            left,
+            seat,
+            joined,
+            rings,
+            serial,
+            suspended,
+            priority,
+            wakes,
+            n,
+            t,
+        );
         n += 1;
     }
     n

@@ -10,6 +10,9 @@ use Rattle.rules.proofs.is_sound.Tie as tie
 seats-right-requires : tie.Need-seats-right-requires
 seats-right-requires c κs = search needs
 
+rings-right-requires : tie.Need-rings-right-requires
+rings-right-requires c κs = search needs
+
 ready-order-right-requires : tie.Need-ready-order-right-requires
 ready-order-right-requires c κs = search needs
 
@@ -43,12 +46,14 @@ pools-apart-requires c κs = search needs
 returns : tie.Need-returns
 unfolding sound keeps objects
 returns c =
+    let d = c .before .before .before .before .before .before in
     simp (and-assoc, and-true) (rw (
-      c .before .before .before .before .before .before .before .before .before .before .seats-right .ensures,
-      c .before .before .before .before .before .before .before .before .before .ready-order-right .ensures,
-      c .before .before .before .before .before .before .before .before .waits-right .ensures,
-      c .before .before .before .before .before .before .before .queues-sorted .ensures,
-      c .before .before .before .before .before .before .counts-right .ensures,
+      d .before .before .before .before .before .seats-right .ensures,
+      d .before .before .before .before .rings-right .ensures,
+      d .before .before .before .ready-order-right .ensures,
+      d .before .before .waits-right .ensures,
+      d .before .queues-sorted .ensures,
+      d .counts-right .ensures,
       c .before .before .before .before .before .starts-right .ensures,
       c .before .before .before .before .running-right .ensures,
       c .before .before .before .tasks-right .ensures,
@@ -62,6 +67,7 @@ is-sound-spec =
     tie.close
     (tie.spec
     seats-right-requires
+    rings-right-requires
     ready-order-right-requires
     waits-right-requires
     queues-sorted-requires

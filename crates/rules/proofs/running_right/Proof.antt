@@ -5,6 +5,9 @@ use Rattle.scope.specs.Rules.{runningRight}
 use Rattle.rules.proofs.running_right.Statement.{statement}
 use Rattle.rules.proofs.running_right.Tie as tie
 
+array-read-runner : tie.Need-array-read-runner
+array-read-runner c = search needs
+
 runner-requires : tie.Need-runner-requires
 runner-requires c κs = search needs
 
@@ -13,4 +16,4 @@ unfolding runningRight
 returns c = rw (c .before .runner .ensures)
 
 pub running-right-spec : {M : Type 1} → statement M
-running-right-spec = tie.close (tie.spec runner-requires returns)
+running-right-spec = tie.close (tie.spec array-read-runner runner-requires returns)

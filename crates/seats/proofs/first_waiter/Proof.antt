@@ -1,9 +1,10 @@
 -- `seats::first_waiter`: the seat asked for is the first above `queueSeats`; nobody is on it, or somebody is found there.
 -- Assumes nothing.
 use native.Mathlib.Omega.{arith}
-use mathlib.Core.Path.{ap, _∙_}
+use mathlib.Core.Path.{sym, ap, _∙_}
 use borrow.Author.Needs.{needs}
 use Rattle.scope.specs.Seats.{onSeat}
+use Rattle.seats.proofs.First.{on-seat-none}
 use Rattle.seats.proofs.first_waiter.Statement.{statement}
 use Rattle.seats.proofs.first_waiter.Tie as tie
 
@@ -26,7 +27,8 @@ returns : tie.Need-returns
 returns c = c .on-seat .ensures ∙ ap (onSeat (c .before .before .before .args .q)) (omega arith)
 
 returns-2 : tie.Need-returns-2
-returns-2 c = c .before .is-taken .ensures (c .if1 .left) ∙ ap (onSeat (c .before .before .args .q)) (omega arith)
+returns-2 c =
+    on-seat-none _ _ (sym (c .before .is-taken .ensures) ∙ c .if1 .left) ∙ ap (onSeat (c .before .before .args .q)) (omega arith)
 
 pub first-waiter-spec : {M : Type 1} → statement M
 first-waiter-spec =

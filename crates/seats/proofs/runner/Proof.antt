@@ -1,19 +1,23 @@
--- `seats::runner`: the greatest seat tells the highest queue in use.
+-- `seats::runner`: the seat asked for is the first of the ring that the leading zeros of the mask name.
 -- Assumes nothing.
-use mathlib.Core.Path.{refl}
+use native.Mathlib.Omega.{arith}
+use mathlib.Core.Path.{refl, ap, _∙_}
+use lib.Count.{leading-top}
 use borrow.Author.Needs.{needs}
-use borrow.Author.Tests.{lt-ltb, le-ltb}
+use borrow.Author.Tests.{eq-eqb, ne-eqb}
 use Rattle.laws.proofs.Branches.{pick-yes, pick-no}
-use Rattle.scope.specs.Seats.{runnerOf}
+use Rattle.scope.specs.Seats.{onSeat, runnerOf}
 use Rattle.seats.proofs.runner.Statement.{statement}
 use Rattle.seats.proofs.runner.Tie as tie
 
-top-requires : tie.Need-top-requires
-top-requires c κs = search needs
-
 returns : tie.Need-returns
 unfolding runnerOf
-returns c = rw (← c .before .top .ensures) (pick-yes _ _ _ (lt-ltb _ _ (c .if1 .taken)) refl)
+returns c = pick-yes _ _ _ (eq-eqb _ _ (c .if1 .taken)) refl
+
+sub-p : tie.Need-sub-p
+sub-p c =
+    let t = leading-top 16 (c .before .args .mask) (omega (arith, c .if1 .left)) (search needs) in
+    omega (arith, t .1)
 
 mul-on-seat : tie.Need-mul-on-seat
 mul-on-seat c = search needs
@@ -21,13 +25,17 @@ mul-on-seat c = search needs
 add-on-seat : tie.Need-add-on-seat
 add-on-seat c = search needs
 
+cast-on-seat : tie.Need-cast-on-seat
+cast-on-seat c = search needs
+
 on-seat-requires : tie.Need-on-seat-requires
 on-seat-requires c κs = search needs
 
 returns-2 : tie.Need-returns-2
 unfolding runnerOf
-returns-2 c = rw (← c .before .before .top .ensures) (pick-no _ _ _ (le-ltb _ _ (c .before .if1 .left)) (c .on-seat .ensures))
+returns-2 c = pick-no _ _ _ (ne-eqb _ _ (c .before .if1 .left)) (c .on-seat .ensures ∙ ap (onSeat (c .before .before .args .q)) (omega arith))
 
 pub runner-spec : {M : Type 1} → statement M
 runner-spec =
-    tie.close (tie.spec top-requires returns mul-on-seat add-on-seat on-seat-requires returns-2)
+    tie.close
+    (tie.spec returns sub-p mul-on-seat add-on-seat cast-on-seat on-seat-requires returns-2)

@@ -61,7 +61,7 @@ wait-at-requires c κs = search needs
 
 returns-5 : tie.Need-returns-5
 unfolding semClaimAt
-returns-5 c = λ s serial live. pick-no _ _ _ (le-ltb _ _ (c .before .before .before .before .before .before .before .before .before .if1 .left)) (pick-no _ _ _ (sym (c .before .before .before .before .before .before .before .before .lacks-time-out .ensures) ∙ c .before .before .before .before .before .before .before .if2 .left) (pick-no _ _ _ (first-fails _ _ (ne-eqb _ _ (c .before .before .before .before .if4 .left))) (pick-no _ _ _ (le-ltb _ _ (c .before .before .before .before .before .if3 .left)) (c .wait-at .ensures s _ _ _))))
+returns-5 c = λ s serial live. pick-no _ _ _ (le-ltb _ _ (c .before .before .before .before .before .before .before .before .before .before .if1 .left)) (pick-no _ _ _ (sym (c .before .before .before .before .before .before .before .before .before .lacks-time-out .ensures) ∙ c .before .before .before .before .before .before .before .before .if2 .left) (pick-no _ _ _ (first-fails _ _ (ne-eqb _ _ (c .before .before .before .before .before .if4 .left))) (pick-no _ _ _ (le-ltb _ _ (c .before .before .before .before .before .before .if3 .left)) (c .wait-at .ensures s _ _ _))))
 
 pub claim-at-spec : {M : Type 1} → statement M
 claim-at-spec =

@@ -27,6 +27,9 @@ element-write-live c = search needs
 element-write-fifo : tie.Need-element-write-fifo
 element-write-fifo c = search needs
 
+element-copy-out-runner : tie.Need-element-copy-out-runner
+element-copy-out-runner c = search needs
+
 runner-requires : tie.Need-runner-requires
 runner-requires c κs = search needs
 
@@ -35,7 +38,7 @@ woke-requires c κs = search needs
 
 returns : tie.Need-returns
 unfolding semDeleteAt
-returns c = λ s serial running. woke-moved _ _ _ _ _ _ _ _ _ _ _ (c .woke .ensures) (c .before .runner .ensures) (rw (← c .before .before .before .before .before .before .before .before .pre .1) (c .before .before .before .wake-all .ensures (s .tasks)))
+returns c = λ s serial running. woke-moved _ _ _ _ _ _ _ _ _ _ _ (c .woke .ensures) (c .before .runner .ensures) (rw (← c .before .before .before .before .before .before .before .before .before .before .pre .1) (c .before .before .before .before .wake-all .ensures (s .tasks)))
 
 pub delete-at-spec : {M : Type 1} → statement M
 delete-at-spec =
@@ -48,6 +51,7 @@ delete-at-spec =
     element-write-units
     element-write-live
     element-write-fifo
+    element-copy-out-runner
     runner-requires
     woke-requires
     returns)

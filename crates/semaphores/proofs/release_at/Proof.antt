@@ -16,6 +16,9 @@ first-waiter-requires c κs = search needs
 wake-next-requires : tie.Need-wake-next-requires
 wake-next-requires c κs = search needs
 
+element-copy-out-runner : tie.Need-element-copy-out-runner
+element-copy-out-runner c = search needs
+
 runner-requires : tie.Need-runner-requires
 runner-requires c κs = search needs
 
@@ -24,7 +27,7 @@ woke-requires c κs = search needs
 
 returns : tie.Need-returns
 unfolding semReleaseAt
-returns c = λ s name serial live fifo. rw (← c .before .before .before .before .before .before .before .before .before .first-waiter .ensures) (pick-no _ _ _ (first-fails _ _ (not-of-true _ (lt-ltb _ _ (c .before .before .before .before .before .before .before .before .if1 .taken)))) (pick-yes _ _ _ (lt-ltb _ _ (c .before .before .before .before .before .before .before .before .if1 .taken)) (woke-moved _ _ _ _ _ _ _ _ _ _ _ (c .woke .ensures) (c .before .runner .ensures) (rw (← c .before .before .before .before .before .before .before .before .before .before .before .pre .1) (c .before .before .before .wake-next .ensures (s .tasks))))))
+returns c = λ s name serial live fifo. rw (← c .before .before .before .before .before .before .before .before .before .before .before .first-waiter .ensures) (pick-no _ _ _ (first-fails _ _ (not-of-true _ (lt-ltb _ _ (c .before .before .before .before .before .before .before .before .before .before .if1 .taken)))) (pick-yes _ _ _ (lt-ltb _ _ (c .before .before .before .before .before .before .before .before .before .before .if1 .taken)) (woke-moved _ _ _ _ _ _ _ _ _ _ _ (c .woke .ensures) (c .before .runner .ensures) (rw (← c .before .before .before .before .before .before .before .before .before .before .before .before .before .pre .1) (c .before .before .before .before .wake-next .ensures (s .tasks))))))
 
 mul-free : tie.Need-mul-free
 mul-free c = search needs
@@ -61,6 +64,7 @@ release-at-spec =
     (tie.spec
     first-waiter-requires
     wake-next-requires
+    element-copy-out-runner
     runner-requires
     woke-requires
     returns

@@ -24,6 +24,9 @@ element-copy-out-wait-2 c = search needs
 wait-requires : tie.Need-wait-requires
 wait-requires c κs = search needs
 
+element-copy-out-runner : tie.Need-element-copy-out-runner
+element-copy-out-runner c = search needs
+
 runner-requires : tie.Need-runner-requires
 runner-requires c κs = search needs
 
@@ -32,7 +35,7 @@ plain-requires-2 c κs = search needs
 
 returns-2 : tie.Need-returns-2
 unfolding semWaitAt
-returns-2 c = λ s serial units live. pick-no _ _ _ (lt-leb _ _ (c .before .before .before .before .before .before .before .before .before .if1 .left)) (plain-moved _ _ _ _ _ _ _ _ _ (c .plain2 .ensures) (c .before .runner .ensures) (c .before .before .before .wait .ensures))
+returns-2 c = λ s serial units live. pick-no _ _ _ (lt-leb _ _ (c .before .before .before .before .before .before .before .before .before .before .before .if1 .left)) (plain-moved _ _ _ _ _ _ _ _ _ (c .plain2 .ensures) (c .before .runner .ensures) (c .before .before .before .before .wait .ensures))
 
 pub wait-at-spec : {M : Type 1} → statement M
 wait-at-spec =
@@ -43,6 +46,7 @@ wait-at-spec =
     element-copy-out-wait
     element-copy-out-wait-2
     wait-requires
+    element-copy-out-runner
     runner-requires
     plain-requires-2
     returns-2)

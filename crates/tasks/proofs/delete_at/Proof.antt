@@ -24,8 +24,8 @@ element-write-suspended c = search needs
 element-write-priority : tie.Need-element-write-priority
 element-write-priority c = search needs
 
-leave-requires : tie.Need-leave-requires
-leave-requires c κs = search needs
+take-out-requires : tie.Need-take-out-requires
+take-out-requires c κs = search needs
 
 mul-left : tie.Need-mul-left
 mul-left c = search needs
@@ -36,6 +36,9 @@ element-write-left c = search needs
 element-write-joined : tie.Need-element-write-joined
 element-write-joined c = search needs
 
+element-copy-out-runner : tie.Need-element-copy-out-runner
+element-copy-out-runner c = search needs
+
 runner-requires : tie.Need-runner-requires
 runner-requires c κs = search needs
 
@@ -44,7 +47,7 @@ plain-requires c κs = search needs
 
 returns : tie.Need-returns
 unfolding taskDeleteAt
-returns c = λ s serial running. plain-moved _ _ _ _ _ _ _ _ _ (c .plain .ensures) (c .before .runner .ensures) (rw (c .before .before .before .leave .ensures))
+returns c = λ s serial running. plain-moved _ _ _ _ _ _ _ _ _ (c .plain .ensures) (c .before .runner .ensures) (rw (c .before .before .before .before .take-out .ensures .0, c .before .before .before .before .take-out .ensures .1))
 
 pub delete-at-spec : {M : Type 1} → statement M
 delete-at-spec =
@@ -56,10 +59,11 @@ delete-at-spec =
     element-write-started
     element-write-suspended
     element-write-priority
-    leave-requires
+    take-out-requires
     mul-left
     element-write-left
     element-write-joined
+    element-copy-out-runner
     runner-requires
     plain-requires
     returns)

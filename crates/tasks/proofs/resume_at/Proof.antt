@@ -47,11 +47,14 @@ returns-3 : tie.Need-returns-3
 unfolding taskResumeAt
 returns-3 c = λ s serial live. pick-no _ _ _ (c .before .before .before .before .before .before .if1 .left) (pick-no _ _ _ (c .before .before .before .before .if2 .left) (pick-yes _ _ _ (sym (c .before .before .waits-on .ensures) ∙ c .before .if3 .taken) (plain-of _ _ _ _ (c .plain3 .ensures))))
 
-element-copy-out-ready : tie.Need-element-copy-out-ready
-element-copy-out-ready c = search needs
+element-copy-out-put-in : tie.Need-element-copy-out-put-in
+element-copy-out-put-in c = search needs
 
-ready-requires : tie.Need-ready-requires
-ready-requires c κs = search needs
+put-in-requires : tie.Need-put-in-requires
+put-in-requires c κs = search needs
+
+element-copy-out-runner : tie.Need-element-copy-out-runner
+element-copy-out-runner c = search needs
 
 runner-requires : tie.Need-runner-requires
 runner-requires c κs = search needs
@@ -61,7 +64,7 @@ plain-requires-4 c κs = search needs
 
 returns-4 : tie.Need-returns-4
 unfolding taskResumeAt
-returns-4 c = λ s serial live. pick-no _ _ _ (c .before .before .before .before .before .before .before .before .before .before .before .if1 .left) (pick-no _ _ _ (c .before .before .before .before .before .before .before .before .before .if2 .left) (pick-no _ _ _ (sym (c .before .before .before .before .before .before .before .waits-on .ensures) ∙ c .before .before .before .before .before .before .if3 .left) (plain-moved _ _ _ _ _ _ _ _ _ (c .plain4 .ensures) (c .before .runner .ensures) (rw (c .before .before .before .ready .ensures)))))
+returns-4 c = λ s serial live. pick-no _ _ _ (c .before .before .before .before .before .before .before .before .before .before .before .before .before .if1 .left) (pick-no _ _ _ (c .before .before .before .before .before .before .before .before .before .before .before .if2 .left) (pick-no _ _ _ (sym (c .before .before .before .before .before .before .before .before .before .waits-on .ensures) ∙ c .before .before .before .before .before .before .before .before .if3 .left) (plain-moved _ _ _ _ _ _ _ _ _ (c .plain4 .ensures) (c .before .runner .ensures) (rw (c .before .before .before .before .put-in .ensures .0, c .before .before .before .before .put-in .ensures .1)))))
 
 pub resume-at-spec : {M : Type 1} → statement M
 resume-at-spec =
@@ -79,8 +82,9 @@ resume-at-spec =
     waits-on-requires
     plain-requires-3
     returns-3
-    element-copy-out-ready
-    ready-requires
+    element-copy-out-put-in
+    put-in-requires
+    element-copy-out-runner
     runner-requires
     plain-requires-4
     returns-4)

@@ -40,14 +40,17 @@ element-copy-out-is-ready-3 c = search needs
 is-ready-requires : tie.Need-is-ready-requires
 is-ready-requires c κs = search needs
 
-leave-requires : tie.Need-leave-requires
-leave-requires c κs = search needs
+take-out-requires : tie.Need-take-out-requires
+take-out-requires c κs = search needs
 
-ready-requires : tie.Need-ready-requires
-ready-requires c κs = search needs
+put-in-requires : tie.Need-put-in-requires
+put-in-requires c κs = search needs
 
 wide-requires : tie.Need-wide-requires
 wide-requires c κs = search needs
+
+element-copy-out-runner : tie.Need-element-copy-out-runner
+element-copy-out-runner c = search needs
 
 runner-requires : tie.Need-runner-requires
 runner-requires c κs = search needs
@@ -57,7 +60,7 @@ gives-requires c κs = search needs
 
 returns-2 : tie.Need-returns-2
 unfolding taskSetPriorityAt
-returns-2 c = λ s serial live. pick-no _ _ _ (le-ltb _ _ (c .before .before .before .before .before .before .before .before .before .before .before .before .before .before .if1 .left)) (pick-yes _ _ _ (sym (c .before .before .before .before .before .before .before .before .before .is-ready .ensures) ∙ c .before .before .before .before .before .before .before .before .if2 .taken) (gives-moved _ _ _ _ _ _ _ _ _ (rw (c .before .before .before .wide .ensures) at (c .gives .ensures)) (c .before .runner .ensures) (rw (c .before .before .before .before .ready .ensures, c .before .before .before .before .before .before .leave .ensures))))
+returns-2 c = λ s serial live. pick-no _ _ _ (le-ltb _ _ (c .before .before .before .before .before .before .before .before .before .before .before .before .before .before .before .before .before .if1 .left)) (pick-yes _ _ _ (sym (c .before .before .before .before .before .before .before .before .before .before .before .before .is-ready .ensures) ∙ c .before .before .before .before .before .before .before .before .before .before .before .if2 .taken) (gives-moved _ _ _ _ _ _ _ _ _ (rw (c .before .before .before .before .wide .ensures) at (c .gives .ensures)) (c .before .runner .ensures) (rw (c .before .before .before .before .before .put-in .ensures .0, c .before .before .before .before .before .put-in .ensures .1, c .before .before .before .before .before .before .before .before .take-out .ensures .0, c .before .before .before .before .before .before .before .before .take-out .ensures .1))))
 
 wide-requires-2 : tie.Need-wide-requires-2
 wide-requires-2 c κs = search needs
@@ -83,9 +86,10 @@ set-priority-at-spec =
     mul-is-ready
     element-copy-out-is-ready-3
     is-ready-requires
-    leave-requires
-    ready-requires
+    take-out-requires
+    put-in-requires
     wide-requires
+    element-copy-out-runner
     runner-requires
     gives-requires
     returns-2

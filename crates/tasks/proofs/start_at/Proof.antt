@@ -20,11 +20,14 @@ returns c = λ s serial live. pick-yes _ _ _ (c .before .if1 .taken) (plain-of _
 element-write-started : tie.Need-element-write-started
 element-write-started c = search needs
 
-element-copy-out-ready : tie.Need-element-copy-out-ready
-element-copy-out-ready c = search needs
+element-copy-out-put-in : tie.Need-element-copy-out-put-in
+element-copy-out-put-in c = search needs
 
-ready-requires : tie.Need-ready-requires
-ready-requires c κs = search needs
+put-in-requires : tie.Need-put-in-requires
+put-in-requires c κs = search needs
+
+element-copy-out-runner : tie.Need-element-copy-out-runner
+element-copy-out-runner c = search needs
 
 runner-requires : tie.Need-runner-requires
 runner-requires c κs = search needs
@@ -34,7 +37,7 @@ plain-requires-2 c κs = search needs
 
 returns-2 : tie.Need-returns-2
 unfolding taskStartAt
-returns-2 c = λ s serial live. pick-no _ _ _ (c .before .before .before .before .before .before .if1 .left) (plain-moved _ _ _ _ _ _ _ _ _ (c .plain2 .ensures) (c .before .runner .ensures) (rw (c .before .before .before .ready .ensures)))
+returns-2 c = λ s serial live. pick-no _ _ _ (c .before .before .before .before .before .before .before .before .if1 .left) (plain-moved _ _ _ _ _ _ _ _ _ (c .plain2 .ensures) (c .before .runner .ensures) (rw (c .before .before .before .before .put-in .ensures .0, c .before .before .before .before .put-in .ensures .1)))
 
 pub start-at-spec : {M : Type 1} → statement M
 start-at-spec =
@@ -44,8 +47,9 @@ start-at-spec =
     plain-requires
     returns
     element-write-started
-    element-copy-out-ready
-    ready-requires
+    element-copy-out-put-in
+    put-in-requires
+    element-copy-out-runner
     runner-requires
     plain-requires-2
     returns-2)

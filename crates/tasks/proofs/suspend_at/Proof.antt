@@ -47,8 +47,11 @@ returns-3 : tie.Need-returns-3
 unfolding taskSuspendAt
 returns-3 c = λ s serial live. pick-no _ _ _ (c .before .before .before .before .before .before .if1 .left) (pick-no _ _ _ (c .before .before .before .before .if2 .left) (pick-yes _ _ _ (sym (c .before .before .waits-on .ensures) ∙ c .before .if3 .taken) (plain-of _ _ _ _ (c .plain3 .ensures))))
 
-leave-requires : tie.Need-leave-requires
-leave-requires c κs = search needs
+take-out-requires : tie.Need-take-out-requires
+take-out-requires c κs = search needs
+
+element-copy-out-runner : tie.Need-element-copy-out-runner
+element-copy-out-runner c = search needs
 
 runner-requires : tie.Need-runner-requires
 runner-requires c κs = search needs
@@ -58,7 +61,7 @@ plain-requires-4 c κs = search needs
 
 returns-4 : tie.Need-returns-4
 unfolding taskSuspendAt
-returns-4 c = λ s serial live. pick-no _ _ _ (c .before .before .before .before .before .before .before .before .before .before .if1 .left) (pick-no _ _ _ (c .before .before .before .before .before .before .before .before .if2 .left) (pick-no _ _ _ (sym (c .before .before .before .before .before .before .waits-on .ensures) ∙ c .before .before .before .before .before .if3 .left) (plain-moved _ _ _ _ _ _ _ _ _ (c .plain4 .ensures) (c .before .runner .ensures) (rw (c .before .before .before .leave .ensures)))))
+returns-4 c = λ s serial live. pick-no _ _ _ (c .before .before .before .before .before .before .before .before .before .before .before .before .if1 .left) (pick-no _ _ _ (c .before .before .before .before .before .before .before .before .before .before .if2 .left) (pick-no _ _ _ (sym (c .before .before .before .before .before .before .before .before .waits-on .ensures) ∙ c .before .before .before .before .before .before .before .if3 .left) (plain-moved _ _ _ _ _ _ _ _ _ (c .plain4 .ensures) (c .before .runner .ensures) (rw (c .before .before .before .before .take-out .ensures .0, c .before .before .before .before .take-out .ensures .1)))))
 
 pub suspend-at-spec : {M : Type 1} → statement M
 suspend-at-spec =
@@ -76,7 +79,8 @@ suspend-at-spec =
     waits-on-requires
     plain-requires-3
     returns-3
-    leave-requires
+    take-out-requires
+    element-copy-out-runner
     runner-requires
     plain-requires-4
     returns-4)

@@ -16,7 +16,7 @@ abbrev μ-loop : tie.MeasureT-loop
 μ-loop seat left any₀ k₀ any k = 32 - k
 
 loop-holds : tie.Need-loop-holds Inv-loop μ-loop
-loop-holds c = (search needs, λ e joined j l. absurd (omega arith))
+loop-holds c = (search needs, λ e joined rings j l. absurd (omega arith))
 
 mul-is-due : tie.Need-mul-is-due Inv-loop μ-loop
 mul-is-due c = search needs
@@ -43,7 +43,7 @@ loop-again : tie.Need-loop-again Inv-loop μ-loop
 loop-again c = (search needs, none-due-more _ _ (c .before .before .loop .k) (c .before .before .loop .any) _ (c .is-due .ensures) (c .before .before .loop .inv .1))
 
 returns : tie.Need-returns Inv-loop μ-loop
-returns c = λ e joined t l. c .before .loop .inv .1 e joined t (omega arith)
+returns c = λ e joined rings t l. c .before .loop .inv .1 e joined rings t (omega arith)
 
 pub any-due-spec : {M : Type 1} → statement M
 any-due-spec =

@@ -12,6 +12,9 @@ times-left-requires c κs = search needs
 wake-due-requires : tie.Need-wake-due-requires
 wake-due-requires c κs = search needs
 
+element-copy-out-runner : tie.Need-element-copy-out-runner
+element-copy-out-runner c = search needs
+
 runner-requires : tie.Need-runner-requires
 runner-requires c κs = search needs
 
@@ -20,9 +23,15 @@ woke-requires c κs = search needs
 
 returns : tie.Need-returns
 unfolding tick
-returns c = λ s running. woke-moved _ _ _ _ _ _ _ _ _ _ _ (c .woke .ensures) (c .before .runner .ensures) (rw (← c .before .before .before .before .before .before .before .before .times-left .ensures) (c .before .before .before .wake-due .ensures (s .tasks)))
+returns c = λ s running. woke-moved _ _ _ _ _ _ _ _ _ _ _ (c .woke .ensures) (c .before .runner .ensures) (rw (← c .before .before .before .before .before .before .before .before .before .before .times-left .ensures) (c .before .before .before .before .wake-due .ensures (s .tasks)))
 
 pub tick-spec : {M : Type 1} → statement M
 tick-spec =
     tie.close
-    (tie.spec times-left-requires wake-due-requires runner-requires woke-requires returns)
+    (tie.spec
+    times-left-requires
+    wake-due-requires
+    element-copy-out-runner
+    runner-requires
+    woke-requires
+    returns)

@@ -13,17 +13,17 @@ use Rattle.ticks.proofs.wake_due.Statement.{statement}
 use Rattle.ticks.proofs.wake_due.Tie as tie
 
 abbrev Inv-loop : tie.InvT-loop
-Inv-loop left₀ seat₀ joined₀ serial suspended priority wakes₀ woken₀ t₀ left seat joined wakes woken t =
-    (woken ≤ t) × ((k : Tasks) → Looked (wakers k serial suspended priority) (wakingOf left₀ seat₀ joined₀ wakes₀ 0) (wakingOf left seat joined wakes woken) t)
+Inv-loop left₀ seat₀ joined₀ rings₀ serial suspended priority wakes₀ woken₀ t₀ left seat joined rings wakes woken t =
+    (woken ≤ t) × ((k : Tasks) → Looked (wakers k serial suspended priority) (wakingOf left₀ seat₀ joined₀ rings₀ wakes₀ 0) (wakingOf left seat joined rings wakes woken) t)
 
 abbrev μ-loop : tie.MeasureT-loop
-μ-loop left₀ seat₀ joined₀ serial suspended priority wakes₀ woken₀ t₀ left seat joined wakes woken t = 32 - t
+μ-loop left₀ seat₀ joined₀ rings₀ serial suspended priority wakes₀ woken₀ t₀ left seat joined rings wakes woken t = 32 - t
 
 any-due-requires : tie.Need-any-due-requires Inv-loop μ-loop
 any-due-requires c κs = search needs
 
 returns : tie.Need-returns Inv-loop μ-loop
-returns c = λ k. none-due _ _ 32 0 (λ j l. c .before .any-due .ensures (not-true _ (c .if1 .taken)) (now (c .before .before .before .before .args .joined)) j l)
+returns c = λ k. none-due _ _ 32 0 (λ j l. c .before .any-due .ensures (not-true _ (c .if1 .taken)) (now (c .before .before .before .before .args .joined)) (now (c .before .before .before .before .args .rings)) j l)
 
 loop-holds : tie.Need-loop-holds Inv-loop μ-loop
 loop-holds c = (search needs, λ k. (omega arith, omega arith, refl))
@@ -38,7 +38,7 @@ loop-less : tie.Need-loop-less Inv-loop μ-loop
 loop-less c = search needs
 
 loop-again : tie.Need-loop-again Inv-loop μ-loop
-loop-again c = (omega (arith, c .wake-if-due .ensures .0, c .before .before .before .before .before .before .loop .inv .0), λ k. due-looked _ _ _ _ (c .before .before .before .before .before .before .loop .t) (c .before .before .before .before .before .before .loop .inv .1 k) (search needs) (c .wake-if-due .ensures .0) (c .wake-if-due .ensures .1 k))
+loop-again c = (omega (arith, c .wake-if-due .ensures .0, c .before .before .before .before .before .before .before .loop .inv .0), λ k. due-looked _ _ _ _ (c .before .before .before .before .before .before .before .loop .t) (c .before .before .before .before .before .before .before .loop .inv .1 k) (search needs) (c .wake-if-due .ensures .0) (c .wake-if-due .ensures .1 k))
 
 returns-2 : tie.Need-returns-2 Inv-loop μ-loop
 returns-2 c = λ k. due-done _ _ _ (c .before .loop .t) (c .before .loop .inv .1 k) (search needs)

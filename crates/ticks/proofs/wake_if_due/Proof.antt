@@ -31,7 +31,7 @@ add-result c = search needs
 
 returns : tie.Need-returns
 unfolding isDue
-returns c = (omega arith, λ k. pick-yes _ _ _ (sym (c .before .before .before .before .before .before .is-due .ensures) ∙ c .before .before .before .before .before .if1 .taken) (c .wake-next .ensures k))
+returns c = (omega arith, λ k. pick-yes _ _ _ (sym (c .before .before .before .before .before .before .before .is-due .ensures) ∙ c .before .before .before .before .before .before .if1 .taken) (c .wake-next .ensures k))
 
 returns-2 : tie.Need-returns-2
 unfolding isDue

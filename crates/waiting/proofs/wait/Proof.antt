@@ -5,8 +5,8 @@ use borrow.Author.Needs.{needs}
 use Rattle.waiting.proofs.wait.Statement.{statement}
 use Rattle.waiting.proofs.wait.Tie as tie
 
-leave-requires : tie.Need-leave-requires
-leave-requires c κs = search needs
+take-out-requires : tie.Need-take-out-requires
+take-out-requires c κs = search needs
 
 mul-base : tie.Need-mul-base
 mul-base c = search needs
@@ -34,13 +34,13 @@ element-write-joined c = search needs
 
 returns : tie.Need-returns
 unfolding waits
-returns c = rw (c .join .ensures, c .before .queue-key .ensures, c .before .before .leave .ensures)
+returns c = rw (c .join .ensures, c .before .before .before .queue-key .ensures, c .before .before .before .before .take-out .ensures .0, c .before .before .before .before .take-out .ensures .1)
 
 pub wait-spec : {M : Type 1} → statement M
 wait-spec =
     tie.close
     (tie.spec
-    leave-requires
+    take-out-requires
     mul-base
     add-base
     cast-base

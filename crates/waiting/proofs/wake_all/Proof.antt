@@ -11,11 +11,11 @@ use Rattle.waiting.proofs.wake_all.Statement.{statement}
 use Rattle.waiting.proofs.wake_all.Tie as tie
 
 abbrev Inv-loop : tie.InvT-loop
-Inv-loop left₀ seat₀ joined₀ serial suspended priority wakes₀ i n₀ left seat joined wakes n =
-    (n ≤ 32) × ((k : Tasks) → wakeAll (wakers k serial suspended priority) i (32 - n) (wakingOf left seat joined wakes n) ≡ wakeAll (wakers k serial suspended priority) i 32 (wakingOf left₀ seat₀ joined₀ wakes₀ 0))
+Inv-loop left₀ seat₀ joined₀ rings₀ serial suspended priority wakes₀ i n₀ left seat joined rings wakes n =
+    (n ≤ 32) × ((k : Tasks) → wakeAll (wakers k serial suspended priority) i (32 - n) (wakingOf left seat joined rings wakes n) ≡ wakeAll (wakers k serial suspended priority) i 32 (wakingOf left₀ seat₀ joined₀ rings₀ wakes₀ 0))
 
 abbrev μ-loop : tie.MeasureT-loop
-μ-loop left₀ seat₀ joined₀ serial suspended priority wakes₀ i n₀ left seat joined wakes n = 32 - n
+μ-loop left₀ seat₀ joined₀ rings₀ serial suspended priority wakes₀ i n₀ left seat joined rings wakes n = 32 - n
 
 loop-holds : tie.Need-loop-holds Inv-loop μ-loop
 loop-holds c = (search needs, λ k. refl)
@@ -36,7 +36,7 @@ loop-less : tie.Need-loop-less Inv-loop μ-loop
 loop-less c = search needs
 
 loop-again : tie.Need-loop-again Inv-loop μ-loop
-loop-again c = (search needs, λ k. wake-all-more _ _ (c .before .before .before .before .before .before .before .before .before .loop .n) (c .before .before .before .before .before .before .first-waiter .result) _ _ (search needs) (c .before .before .before .before .before .before .first-waiter .ensures) (search needs) (c .wake-next .ensures k) ∙ c .before .before .before .before .before .before .before .before .before .loop .inv .1 k)
+loop-again c = (search needs, λ k. wake-all-more _ _ (c .before .before .before .before .before .before .before .before .before .before .loop .n) (c .before .before .before .before .before .before .before .first-waiter .result) _ _ (search needs) (c .before .before .before .before .before .before .before .first-waiter .ensures) (search needs) (c .wake-next .ensures k) ∙ c .before .before .before .before .before .before .before .before .before .before .loop .inv .1 k)
 
 returns-2 : tie.Need-returns-2 Inv-loop μ-loop
 returns-2 c = λ k. wake-all-done _ _ (c .before .loop .n) _ (search needs) ∙ c .before .loop .inv .1 k

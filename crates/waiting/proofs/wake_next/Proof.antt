@@ -2,7 +2,9 @@
 -- Assumes nothing.
 use denote.Ref.{now}
 use borrow.Author.Needs.{needs}
-use Rattle.scope.specs.Waiting.{wakeNext, wake}
+use Rattle.scope.specs.Seats.{ringsReady}
+use Rattle.scope.specs.Waiting.{wakeNext, wake, wokenRings}
+use Rattle.waiting.proofs.Laws.{woken-rings}
 use Rattle.waiting.proofs.wake_next.Statement.{statement}
 use Rattle.waiting.proofs.wake_next.Tie as tie
 
@@ -14,6 +16,21 @@ element-copy-out-woken-seats-2 c = search needs
 
 woken-seats-requires : tie.Need-woken-seats-requires
 woken-seats-requires c κs = search needs
+
+element-copy-out-woken-mask : tie.Need-element-copy-out-woken-mask
+element-copy-out-woken-mask c = search needs
+
+element-copy-out-woken-mask-2 : tie.Need-element-copy-out-woken-mask-2
+element-copy-out-woken-mask-2 c = search needs
+
+element-copy-out-woken-mask-3 : tie.Need-element-copy-out-woken-mask-3
+element-copy-out-woken-mask-3 c = search needs
+
+woken-mask-requires : tie.Need-woken-mask-requires
+woken-mask-requires c κs = search needs
+
+element-write-rings : tie.Need-element-write-rings
+element-write-rings c = search needs
 
 mul-left : tie.Need-mul-left
 mul-left c = search needs
@@ -40,8 +57,15 @@ element-write-wakes : tie.Need-element-write-wakes
 element-write-wakes c = search needs
 
 returns : tie.Need-returns
-unfolding wakeNext wake
-returns c = λ k. rw (c .before .before .woken-seats .ensures (now (c .before .before .before .before .before .before .before .args .left)), c .identifier .ensures)
+unfolding wakeNext wake wokenRings ringsReady
+returns c =
+    let a = c .before .before .before .before .before .before .before .before .before .before .before .args in
+    λ k. rw (
+      c .before .before .before .before .before .before .woken-seats .ensures (now (a .left)) (now (a .rings)),
+      c .before .before .woken-mask .ensures,
+      woken-rings (now (a .rings)),
+      c .identifier .ensures,
+    )
 
 pub wake-next-spec : {M : Type 1} → statement M
 wake-next-spec =
@@ -50,6 +74,11 @@ wake-next-spec =
     element-copy-out-woken-seats
     element-copy-out-woken-seats-2
     woken-seats-requires
+    element-copy-out-woken-mask
+    element-copy-out-woken-mask-2
+    element-copy-out-woken-mask-3
+    woken-mask-requires
+    element-write-rings
     mul-left
     element-write-left
     element-write-joined
