@@ -6,8 +6,7 @@ use native.Mathlib.Omega.{arith}
 use native.Mathlib.Nat.{eq-or-lt-of-le, div-eq-of-lt, lt-of-lt-of-le, pow-suc, mod-lt, mod-eq-of-lt, add-mul, one-mul}
 use mathlib.Core.Path.{_≡_, refl, sym, subst, ap, _∙_}
 use mathlib.Core.Logic.{_⊎_, inl, inr, ⊎-elim}
-use mathlib.Core.Bool.{Bool, true, false, not}
-use lib.Dec.{eqb}
+use mathlib.Core.Bool.{Bool, true, false}
 use lib.Arith.{digits-lt}
 use lib.Pow.{pow-pos, pow-lt, pow-mono, pow-add, shr-lt, split}
 use lib.Count.{leadingZeros, leading-top}
@@ -15,7 +14,7 @@ use borrow.Author.Tests.{ne-eqb}
 use Rattle.scope.specs.Choice.{pick, hasBit, bits}
 use Rattle.scope.specs.Areas.{isOut, isFree}
 use Rattle.scope.proofs.Marks.{free-even, take-same, take-other}
-use Rattle.laws.proofs.Branches.{picked-yes, picked-no, lt-or-le, eq-or-not, true-false, true-or-false, not-of-false}
+use Rattle.laws.proofs.Branches.{picked-yes, picked-no, lt-or-le, true-or-false, not-of-false}
 
 -- an even number below an even bound leaves room for one more
 room : (q m : ℕ) → q % 2 ≡ 0 → q < m * 2 → q + 1 < m * 2

@@ -11,8 +11,7 @@ use lib.ListN.{length}
 use lib.Dec.{ltb, eqb}
 use borrow.Author.Tests.{eq-eqb, ltb-false}
 use Rattle.scope.specs.declared.State.{State}
-use Rattle.scope.specs.declared.Line.{Line}
-use Rattle.scope.specs.Choice.{pick, hasBit, bits}
+use Rattle.scope.specs.Choice.{hasBit}
 use Rattle.scope.specs.Lists.{keep}
 use Rattle.scope.specs.Seats.{ringSeats, standing, maskOf, holdsTask, ringMask, readyBelow, readyOrder}
 use Rattle.scope.specs.Objects.{objectsOf}
@@ -20,16 +19,13 @@ use Rattle.scope.specs.Rules.{ringsRight, keeps, sound}
 use Rattle.scope.specs.Step.{stepped}
 use Rattle.laws.proofs.Branches.{picked-yes, picked-no, true-or-false}
 use Rattle.laws.proofs.Bits.{bits-at, bits-same}
-use Rattle.seats.proofs.First.{on-seat-le}
 use Rattle.seats.proofs.Rings.{holds-standing}
 use Rattle.histories.specs.Sound.{Sound, Sized}
 use Rattle.histories.specs.History.{Event, after}
 use Rattle.histories.proofs.Stays.{step-keeps}
 use Rattle.histories.proofs.Fresh.{fresh-always}
 use Rattle.histories.proofs.Order.{after-sound}
-use Rattle.scope.specs.declared.Fresh.{Fresh}
 use Rattle.scope.specs.Fresh.{fresh}
-use Rattle.lists.specs.Along.{queueAbove}
 use Rattle.lists.specs.Rules.{readyOf, OldRule, ring, ringsBelow, ringsRead}
 use Rattle.lists.proofs.Members.{from-no, queue-length}
 use Rattle.lists.proofs.Again.{own-line}

@@ -10,3 +10,4 @@ pub mod Marks
 pub mod Buffers
 pub mod Gets
 pub mod Named
+pub mod Rings

@@ -111,7 +111,7 @@ pub struct State {
     pub tasks: Tasks,
     pub semaphores: Semaphores,
     pub pools: Pools,
-    // The slot of the running task, 32 where nothing runs. It follows from the seats, and is kept so that it is found once.
+    // The slot of the running task, 32 where nothing runs. It follows from the seats and the mask, and is kept so that it is found once.
     pub running: usize,
 }
 

@@ -1,22 +1,22 @@
 -- The mask follows the seats: whoever leaves, joins a wait queue or becomes ready, the mask with one bit changed at most is the mask
 -- of the seats after it. A ring holds a task just if somebody stands in it, and only one ring's number of tasks changes.
 -- Assumes nothing.
-use Prim.Native.Nat.{ℕ, _+_, _-_, _*_, _/_, _%_, _^_, _≤_, _<_}
+use Prim.Native.Nat.{ℕ, _+_, _-_, _*_, _/_, _%_, _^_, _<_}
 use native.Mathlib.Omega.{arith}
 use mathlib.Core.Path.{_≡_, refl, sym, subst, ap, _∙_}
 use mathlib.Core.Logic.{⊎-elim}
 use mathlib.Core.Bool.{true, false}
 use mathlib.Core.List.{List, [], _∷_}
-use lib.ListN.{length, getD}
+use lib.ListN.{getD}
 use lib.Dec.{ltb}
 use borrow.Author.Tests.{lt-ltb, le-ltb}
 use Rattle.laws.proofs.Branches.{picked-yes, picked-no, lt-or-le, eq-or-not, true-or-false}
 use Rattle.laws.proofs.Bits.{bits-past, bits-at, bits-same, bits-turned}
 use Rattle.scope.specs.Choice.{hasBit, bits}
 use Rattle.scope.specs.Seats.{standing, leaves, joins, ringSeats, holdsTask, ringMask, maskFilled, maskEmptied, maskLeft, ringOf, ringsLeft, ringsReady}
-use Rattle.seats.specs.Rule.{In, Seated, Queues}
+use Rattle.seats.specs.Rule.{In, Queues}
 use Rattle.seats.proofs.Counting.{standing-is}
-use Rattle.seats.proofs.Leaving.{length-leaves, leaves-nowhere, leaves-seated, leaves-others}
+use Rattle.seats.proofs.Leaving.{length-leaves, leaves-nowhere, leaves-others}
 use Rattle.seats.proofs.Joining.{length-joins, joins-seated, joins-others}
 use Rattle.seats.proofs.First.{first-test}
 use Rattle.seats.proofs.Rule.{stands-in, leaves-keeps, joins-queues}

@@ -1,9 +1,9 @@
 -- `rules::ring_mask`: before each turn the loop holds the mask of the rings passed.
 -- Assumes nothing.
-use Prim.Native.Nat.{ℕ, _+_, _-_, _^_, _≤_, _<_}
+use Prim.Native.Nat.{ℕ, _+_, _-_, _^_, _≤_}
 use native.Mathlib.Omega.{arith}
 use native.Mathlib.Numerals.{add-one}
-use mathlib.Core.Path.{_≡_, refl, sym, ap, _∙_}
+use mathlib.Core.Path.{_≡_, refl, ap, _∙_}
 use lib.Pow.{pow-mono}
 use borrow.Author.Needs.{needs}
 use Rattle.laws.proofs.Bits.{bits-lt}
