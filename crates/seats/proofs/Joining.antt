@@ -9,7 +9,7 @@ use mathlib.Core.Logic.{_⊎_, inl, inr, ⊎-elim}
 use mathlib.Core.Bool.{Bool, true, false}
 use mathlib.Core.List.{List, map}
 use lib.ListN.{length, getD, set, length-map, length-set, List·getD-map}
-use lib.Seq.{getD-set-same, getD-set-other}
+use lib.Seq.{getD-set-same, getD-set-other, ext-getD}
 use lib.Dec.{ltb, leb}
 use borrow.Author.Tests.{ltb-true, ltb-false, leb-true, leb-false}
 use Rattle.laws.proofs.Branches.{lt-or-le, eq-or-not}
@@ -17,7 +17,7 @@ use Rattle.laws.proofs.Arrays.{inside}
 use Rattle.scope.specs.Choice.{pick}
 use Rattle.scope.specs.Seats.{raise, joins, laterOf, aheadOf, seatBehind}
 use Rattle.seats.specs.Rule.{In, Seated, Sorted}
-use Rattle.scope.proofs.Seats.{later-from, ahead-from}
+use Rattle.scope.proofs.Seats.{later-from, ahead-from, mapped}
 use Rattle.seats.proofs.Counting.{seated-le}
 use Rattle.seats.proofs.Apart.{Untouched, Apart, apart, untouched-seated, untouched-sorted, sorted-without}
 
@@ -80,6 +80,32 @@ module _ (q key : List ℕ) (b e p : ℕ) where
       (λ d. ⊎-elim (λ g. inl (d ∙ g)) (λ g. inr (g .0, g .1 ∙ sym d, g .2, g .3, g .4)) (ahead-hit n))
       (λ d. inr (n, sym (d .0), omega arith, d .2, d .3))
       (later-comes (aheadOf q key b e p n) (getD q n 0) e (getD key n 0) p)
+
+-- behind all nobody stands, so nobody goes back when one joins there
+module _ (q key : List ℕ) (t b : ℕ) (long : length q ≡ 32) where
+  abbrev hindmost : ℕ
+  hindmost = aheadOf q key b (b + 63) 0 32
+
+  none-behind : (u : ℕ) → raise (hindmost + 1) (b + 63) (getD q u 0) ≡ getD q u 0
+  none-behind u =
+      ⊎-elim
+      (λ r. absurd (omega (
+        arith,
+        r .0,
+        ahead-top q key b (b + 63) 0 32 u (inside 32 q u long (λ z. omega (arith, r .0, z))) (r .1) (omega arith),
+      )))
+      (λ r. r .1)
+      (raise-is (hindmost + 1) (b + 63) (getD q u 0))
+
+  raise-nowhere : raise (hindmost + 1) (b + 63) 0 ≡ 0
+  raise-nowhere = ⊎-elim (λ r. absurd (omega (arith, r .0))) (λ r. r .1) (raise-is (hindmost + 1) (b + 63) 0)
+
+  pub joins-end : set q t (hindmost + 1) ≡ joins q key t b 0
+  unfolding joins
+  joins-end =
+      ap (λ (r : List ℕ). set r t (hindmost + 1))
+      (sym (ext-getD 0 (map (raise (hindmost + 1) (b + 63)) q) q (length-map q (raise (hindmost + 1) (b + 63)))
+      (λ u h. mapped (raise (hindmost + 1) (b + 63)) raise-nowhere q u ∙ none-behind u)))
 
 -- seats q became seats r when task i, which stood nowhere, took seat x of the queue above o
 module _ (q r : List ℕ) (o x i : ℕ) (lo : o < x) (hi : x < o + 63) (out : getD q i 0 ≡ 0) (here : getD r i 0 ≡ x)

@@ -112,12 +112,16 @@ fn wide(p: u8) -> u16
     p as u16
 }
 
-// Task `t`, which stands nowhere, goes behind all ready tasks of priority `p`.
+// Task `t`, which stands nowhere, goes behind all ready tasks of priority `p`: nobody there has to go back.
 pub fn make_ready(q: [u16; 32], key: [u8; 32], t: usize, p: u8) -> [u16; 32]
     requires { ⌜ t < 32 ⌝ }
     ensures { λ r. ⌜ r ≡ becomesReady q key t p ⌝ }
 {
-    join(q, key, t, wide(p) * 64 + 2048, 0)
+    let base = wide(p) * 64 + 2048;
+    let x = ahead(q, key, base, base + 63, 0) + 1;
+    let mut r = q;
+    r[t] = x;
+    r
 }
 
 // The task on seat `x`; 32 if there is none.
