@@ -48,7 +48,7 @@ fn is_led(q: [u16; 32], x: u16) -> bool
         return true;
     }
     if 1 < x % 64 {
-        return 0 < number_on(q, x - 1);
+        return seats::is_taken(q, x - 1);
     }
     false
 }
