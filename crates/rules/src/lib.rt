@@ -194,7 +194,7 @@ fn waits_right(l: Line, live: [bool; 16]) -> bool
 fn joined_on(q: [u16; 32], joined: [u8; 32], x: u16) -> u8
     ensures { λ r. ⌜ r ≡ getD joined (onSeat q x) 0 ⌝ }
 {
-    let t = seats::on_seat(q, x);
+    let t = seats::on_seat(&q, x);
     if t < 32 {
         return joined[t];
     }
@@ -434,7 +434,7 @@ fn running_right(s: State) -> bool
     let l = s.line;
     let q = l.seat;
     let rings = l.rings;
-    s.running == seats::runner(q, rings[0])
+    s.running == seats::runner(&q, rings[0])
 }
 
 // Whether no rule is broken.

@@ -3,6 +3,8 @@
 // A seat is queue × 64 + place; slot 32 is nobody. (scope's specs/Seats.antt.)
 ghost use mathlib.Core.Path.{_≡_};
 ghost use mathlib.Core.Bool.{_&&_};
+ghost use mathlib.Core.List.{map};
+ghost use lib.ListN.{set};
 ghost use Prim.Native.Nat.{ℕ, _<_};
 ghost use lib.Dec.{ltb};
 ghost use Rattle.scope.specs.Choice.{pick, hasBit};
@@ -88,13 +90,10 @@ fn ahead(q: [u16; 32], key: [u8; 32], base: u16, end: u16, p: u8) -> u16
     larger(base, top(s))
 }
 
-// Task `t`, which stands nowhere, joins the queue whose seats begin above `base`, behind all whose key is `p` or more.
-pub fn join(q: [u16; 32], key: [u8; 32], t: usize, base: u16, p: u8) -> [u16; 32]
-    requires { ⌜ (t < 32) × (base < 65000) ⌝ }
-    ensures { λ r. ⌜ r ≡ joins q key t base p ⌝ }
+// The seats after another task took seat `x`; `end` is the end of its queue's seats.
+fn make_room(q: [u16; 32], x: u16, end: u16) -> [u16; 32]
+    ensures { λ r. ⌜ r ≡ map (raise x end) q ⌝ }
 {
-    let end = base + 63;
-    let x = ahead(q, key, base, end, p) + 1;
     let mut r = q;
     let mut k: usize = 0;
     while k < 32 {
@@ -102,8 +101,19 @@ pub fn join(q: [u16; 32], key: [u8; 32], t: usize, base: u16, p: u8) -> [u16; 32
         r[k] = y;
         k += 1;
     }
-    r[t] = x;
     r
+}
+
+// Task `t`, which stands nowhere, joins the queue whose seats begin above `base`, behind all whose key is `p` or more.
+// Its own seat is written last, where it lies: a copy made behind that store would wait for it.
+pub fn join(seat: &mut [u16; 32], key: &[u8; 32], t: usize, base: u16, p: u8)
+    requires { ⌜ (t < 32) × (base < 65000) ⌝ }
+    ensures { λ r. ⌜ now (seat .exit) ≡ joins (now (seat .entry)) (now (key .entry)) t base p ⌝ }
+{
+    let end = base + 63;
+    let x = ahead(*seat, *key, base, end, p) + 1;
+    *seat = make_room(*seat, x, end);
+    seat[t] = x;
 }
 
 fn wide(p: u8) -> u16
@@ -112,21 +122,26 @@ fn wide(p: u8) -> u16
     p as u16
 }
 
-// Task `t`, which stands nowhere, goes behind all ready tasks of priority `p`: nobody there has to go back.
-pub fn make_ready(q: [u16; 32], key: [u8; 32], t: usize, p: u8) -> [u16; 32]
-    requires { ⌜ t < 32 ⌝ }
-    ensures { λ r. ⌜ r ≡ becomesReady q key t p ⌝ }
+// The seat behind all ready tasks of priority `p`. Nobody there has to go back for who takes it.
+fn seat_behind(q: [u16; 32], key: [u8; 32], p: u8) -> u16
+    ensures { λ r. ⌜ ((t : ℕ) → set q t r ≡ becomesReady q key t p) ⌝ }
 {
     let base = wide(p) * 64 + 2048;
-    let x = ahead(q, key, base, base + 63, 0) + 1;
-    let mut r = q;
-    r[t] = x;
-    r
+    ahead(q, key, base, base + 63, 0) + 1
+}
+
+// Task `t`, which stands nowhere, goes there.
+pub fn make_ready(seat: &mut [u16; 32], key: &[u8; 32], t: usize, p: u8)
+    requires { ⌜ t < 32 ⌝ }
+    ensures { λ r. ⌜ now (seat .exit) ≡ becomesReady (now (seat .entry)) (now (key .entry)) t p ⌝ }
+{
+    let x = seat_behind(*seat, *key, p);
+    seat[t] = x;
 }
 
 // The task on seat `x`; 32 if there is none.
-pub fn on_seat(q: [u16; 32], x: u16) -> usize
-    ensures { λ r. ⌜ r ≡ onSeat q x ⌝ }
+pub fn on_seat(q: &[u16; 32], x: u16) -> usize
+    ensures { λ r. ⌜ r ≡ onSeat (now (q .entry)) x ⌝ }
 {
     let mut t: usize = 0;
     while t < 32 {
@@ -152,12 +167,12 @@ pub fn is_taken(q: [u16; 32], x: u16) -> bool
 }
 
 // The first waiter of object `i`; 32 if there is none, which is most often so.
-pub fn first_waiter(q: [u16; 32], i: usize) -> usize
+pub fn first_waiter(q: &[u16; 32], i: usize) -> usize
     requires { ⌜ i < 31 ⌝ }
-    ensures { λ r. ⌜ r ≡ firstOf q (queueSeats i) ⌝ }
+    ensures { λ r. ⌜ r ≡ firstOf (now (q .entry)) (queueSeats i) ⌝ }
 {
     let x = (i * 64 + 65) as u16;
-    if is_taken(q, x) {
+    if is_taken(*q, x) {
         return on_seat(q, x);
     }
     32
@@ -280,14 +295,14 @@ pub fn put_in(seat: &mut [u16; 32], key: &[u8; 32], rings: &mut [u16; 1], t: usi
     ensures { λ r. ⌜ (now (seat .exit) ≡ becomesReady (now (seat .entry)) (now (key .entry)) t p)
         × (now (rings .exit) ≡ ringsReady (now (rings .entry)) p) ⌝ }
 {
-    *seat = make_ready(*seat, *key, t, p);
+    make_ready(seat, key, t, p);
     let mask = mask_filled(rings[0], p);
     rings[0] = mask;
 }
 
 // The running task: the first of the ring that the leading zeros of the mask name; 32 if no ring holds a task.
-pub fn runner(q: [u16; 32], mask: u16) -> usize
-    ensures { λ r. ⌜ r ≡ runnerOf q mask ⌝ }
+pub fn runner(q: &[u16; 32], mask: u16) -> usize
+    ensures { λ r. ⌜ r ≡ runnerOf (now (q .entry)) mask ⌝ }
 {
     if mask == 0 {
         return 32;

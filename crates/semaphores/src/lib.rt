@@ -132,7 +132,7 @@ fn delete_at(
     answers::woke(
         woken,
         scope::SEMAPHORE_DELETED,
-        seats::runner(*seat, rings[0]),
+        seats::runner(seat, rings[0]),
     )
 }
 
@@ -245,7 +245,7 @@ fn wait_at(
         ticks,
         running,
     );
-    answers::plain(scope::PENDING, seats::runner(*seat, rings[0]))
+    answers::plain(scope::PENDING, seats::runner(seat, rings[0]))
 }
 
 fn claim_at(
@@ -349,7 +349,7 @@ fn release_at(
         ≡ semReleaseAt (lentSemaphores s (now (left .entry)) (now (seat .entry)) (now (joined .entry)) (now (rings .entry)) (now (waker .entry))
         (now (suspended .entry)) (now (priority .entry)) name serial (now (units .entry)) live fifo running) i) ⌝ }
 {
-    let t = seats::first_waiter(*seat, i);
+    let t = seats::first_waiter(seat, i);
     if t < 32 {
         waiting::wake_next(
             left,
@@ -363,7 +363,7 @@ fn release_at(
             0,
             t,
         );
-        return answers::woke(1, scope::OK, seats::runner(*seat, rings[0]));
+        return answers::woke(1, scope::OK, seats::runner(seat, rings[0]));
     }
     let free = units[i];
     if 32767 <= free {

@@ -129,7 +129,7 @@ fn delete_at(
     seats::take_out(seat, rings, t);
     left[t] = 0;
     joined[t] = 0;
-    answers::plain(scope::OK, seats::runner(*seat, rings[0]))
+    answers::plain(scope::OK, seats::runner(seat, rings[0]))
 }
 
 pub fn task_delete(
@@ -209,7 +209,7 @@ fn start_at(
     }
     started[t] = true;
     seats::put_in(seat, joined, rings, t, priority[t]);
-    answers::plain(scope::OK, seats::runner(*seat, rings[0]))
+    answers::plain(scope::OK, seats::runner(seat, rings[0]))
 }
 
 pub fn task_start<'a>(
@@ -263,7 +263,7 @@ fn suspend_at(
         return answers::plain(scope::OK, running);
     }
     seats::take_out(seat, rings, t);
-    answers::plain(scope::OK, seats::runner(*seat, rings[0]))
+    answers::plain(scope::OK, seats::runner(seat, rings[0]))
 }
 
 pub fn task_suspend<'a>(
@@ -317,7 +317,7 @@ fn resume_at(
         return answers::plain(scope::OK, running);
     }
     seats::put_in(seat, joined, rings, t, priority[t]);
-    answers::plain(scope::OK, seats::runner(*seat, rings[0]))
+    answers::plain(scope::OK, seats::runner(seat, rings[0]))
 }
 
 pub fn task_resume<'a>(
@@ -400,7 +400,7 @@ fn set_priority_at(
     if is_ready(started[t], suspended[t], seat[t]) {
         seats::take_out(seat, rings, t);
         seats::put_in(seat, joined, rings, t, after);
-        return answers::gives(wide(before), seats::runner(*seat, rings[0]));
+        return answers::gives(wide(before), seats::runner(seat, rings[0]));
     }
     answers::gives(wide(before), running)
 }

@@ -156,5 +156,5 @@ pub fn tick(
         priority,
         wakes,
     );
-    answers::woke(woken, scope::TIME_OUT, seats::runner(*seat, rings[0]))
+    answers::woke(woken, scope::TIME_OUT, seats::runner(seat, rings[0]))
 }

@@ -38,21 +38,22 @@ pub fn wait(
     seats::take_out(seat, rings, t);
     let base = (i * 64 + 64) as u16;
     let key = queue_key(fifo, priority);
-    *seat = seats::join(*seat, *joined, t, base, key);
+    seats::join(seat, joined, t, base, key);
     left[t] = ticks;
     joined[t] = priority;
 }
 
 // Where the tasks stand once task `t` is woken: "it becomes ready when it neither waits nor is suspended".
-fn woken_seats(q: [u16; 32], joined: [u8; 32], suspended: bool, priority: u8, t: usize) -> [u16; 32]
+fn leave_queue(seat: &mut [u16; 32], joined: &[u8; 32], suspended: bool, priority: u8, t: usize)
     requires { ⌜ t < 32 ⌝ }
-    ensures { λ r. ⌜ ((left rings : List ℕ) → r ≡ wokenSeats (lineOf left q joined rings) suspended priority t) ⌝ }
+    ensures { λ r. ⌜ ((left rings : List ℕ) → now (seat .exit)
+        ≡ wokenSeats (lineOf left (now (seat .entry)) (now (joined .entry)) rings) suspended priority t) ⌝ }
 {
-    let r = seats::leave(q, t);
+    *seat = seats::leave(*seat, t);
     if suspended {
-        return r;
+        return;
     }
-    seats::make_ready(r, joined, t, priority)
+    seats::make_ready(seat, joined, t, priority);
 }
 
 // The mask of the rings then: the queue that the task leaves is no ring.
@@ -83,7 +84,7 @@ pub fn wake_next(
         (now (wakes .exit)) (woken + 1) ≡ wakeNext (wakers k (now (serial .entry)) (now (suspended .entry))
         (now (priority .entry))) (wakingOf (now (left .entry)) (now (seat .entry)) (now (joined .entry)) (now (rings .entry)) (now (wakes .entry)) woken) t) ⌝ }
 {
-    *seat = woken_seats(*seat, *joined, suspended[t], priority[t], t);
+    leave_queue(seat, joined, suspended[t], priority[t], t);
     let mask = woken_mask(rings[0], suspended[t], priority[t]);
     rings[0] = mask;
     left[t] = 0;
@@ -111,7 +112,7 @@ pub fn wake_all(
 {
     let mut n: usize = 0;
     while n < 32 {
-        let t = seats::first_waiter(*seat, i);
+        let t = seats::first_waiter(seat, i);
         if 32 <= t {
             return n;
         }

@@ -24,11 +24,11 @@ on-seat-requires : tie.Need-on-seat-requires
 on-seat-requires c κs = search needs
 
 returns : tie.Need-returns
-returns c = c .on-seat .ensures ∙ ap (onSeat (c .before .before .before .args .q)) (omega arith)
+returns c = c .on-seat .ensures ∙ ap (onSeat (c .before .before .before .before .args .q .now)) (omega arith)
 
 returns-2 : tie.Need-returns-2
 returns-2 c =
-    on-seat-none _ _ (sym (c .before .is-taken .ensures) ∙ c .if1 .left) ∙ ap (onSeat (c .before .before .args .q)) (omega arith)
+    on-seat-none _ _ (sym (c .before .is-taken .ensures) ∙ c .if1 .left) ∙ ap (onSeat (c .before .before .before .args .q .now)) (omega arith)
 
 pub first-waiter-spec : {M : Type 1} → statement M
 first-waiter-spec =

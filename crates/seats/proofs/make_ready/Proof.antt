@@ -1,55 +1,20 @@
--- `seats::make_ready`: it takes the seat behind the ring's last; all others stay where they are.
+-- `seats::make_ready`: the task takes the seat behind its ring's last.
 -- Assumes nothing.
-use native.Mathlib.Omega.{arith}
-use mathlib.Core.Path.{_≡_, refl}
-use lib.ListN.{length}
 use borrow.Author.Needs.{needs}
-use Rattle.scope.specs.Seats.{ringSeats}
-use Rattle.seats.proofs.Laws.{small}
-use Rattle.seats.proofs.Joining.{joins-end}
 use Rattle.seats.proofs.make_ready.Statement.{statement}
 use Rattle.seats.proofs.make_ready.Tie as tie
 
-wide-requires : tie.Need-wide-requires
-wide-requires c κs = search needs
+seat-behind-requires : tie.Need-seat-behind-requires
+seat-behind-requires c κs = search needs
 
-mul-base : tie.Need-mul-base
-mul-base c = search needs
+mul-seat : tie.Need-mul-seat
+mul-seat c = search needs
 
-add-base : tie.Need-add-base
-add-base c = search needs
-
-add-ahead : tie.Need-add-ahead
-add-ahead c = search needs
-
-ahead-requires : tie.Need-ahead-requires
-ahead-requires c κs = search needs
-
-add-x : tie.Need-add-x
-add-x c = omega (arith, small (c .before .before .args .q) (c .before .before .args .key) _ _ 0 _ (omega arith) refl (c .ahead .ensures))
-
-mul-r : tie.Need-mul-r
-mul-r c = search needs
-
-array-write-r : tie.Need-array-write-r
-array-write-r c = search needs
+element-write-seat : tie.Need-element-write-seat
+element-write-seat c = search needs
 
 returns : tie.Need-returns
-returns c =
-    let a = c .before .before .args in
-    let long : length (a .q) ≡ 32 = search needs in
-    rw (c .ahead .ensures, c .before .wide .ensures) (joins-end (a .q) (a .key) (a .t) (ringSeats (a .p)) long)
+returns c = c .seat-behind .ensures (c .before .before .before .args .t)
 
 pub make-ready-spec : {M : Type 1} → statement M
-make-ready-spec =
-    tie.close
-    (tie.spec
-    wide-requires
-    mul-base
-    add-base
-    add-ahead
-    ahead-requires
-    add-x
-    mul-r
-    array-write-r
-    returns)
+make-ready-spec = tie.close (tie.spec seat-behind-requires mul-seat element-write-seat returns)

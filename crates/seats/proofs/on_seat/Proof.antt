@@ -12,10 +12,10 @@ use Rattle.seats.proofs.on_seat.Statement.{statement}
 use Rattle.seats.proofs.on_seat.Tie as tie
 
 abbrev Inv-loop : tie.InvT-loop
-Inv-loop x q t₀ t = (t ≤ 32) × ((j : ℕ) → j < t → isOn q x j ≡ false)
+Inv-loop q x t₀ t = (t ≤ 32) × ((j : ℕ) → j < t → isOn q x j ≡ false)
 
 abbrev μ-loop : tie.MeasureT-loop
-μ-loop x q t₀ t = 32 - t
+μ-loop q x t₀ t = 32 - t
 
 loop-holds : tie.Need-loop-holds Inv-loop μ-loop
 loop-holds c = (search needs, below-none _)
@@ -23,12 +23,12 @@ loop-holds c = (search needs, below-none _)
 mul-if1 : tie.Need-mul-if1 Inv-loop μ-loop
 mul-if1 c = search needs
 
-array-read-if1 : tie.Need-array-read-if1 Inv-loop μ-loop
-array-read-if1 c = search needs
+element-copy-out-if1 : tie.Need-element-copy-out-if1 Inv-loop μ-loop
+element-copy-out-if1 c = search needs
 
 returns : tie.Need-returns Inv-loop μ-loop
 unfolding onSeat
-returns c = least-hit _ (search needs) (c .before .before .loop .inv .1) (eq-eqb _ _ (c .if1 .taken))
+returns c = least-hit _ (search needs) (c .before .before .before .loop .inv .1) (eq-eqb _ _ (c .if1 .taken))
 
 add-t : tie.Need-add-t Inv-loop μ-loop
 add-t c = search needs
@@ -37,7 +37,7 @@ loop-less : tie.Need-loop-less Inv-loop μ-loop
 loop-less c = search needs
 
 loop-again : tie.Need-loop-again Inv-loop μ-loop
-loop-again c = (search needs, below-more _ _ (c .before .before .loop .inv .1) (ne-eqb _ _ (c .if1 .left)))
+loop-again c = (search needs, below-more _ _ (c .before .before .before .loop .inv .1) (ne-eqb _ _ (c .if1 .left)))
 
 returns-2 : tie.Need-returns-2 Inv-loop μ-loop
 unfolding onSeat
@@ -51,7 +51,7 @@ on-seat-spec =
     μ-loop
     loop-holds
     mul-if1
-    array-read-if1
+    element-copy-out-if1
     returns
     add-t
     loop-less

@@ -33,7 +33,7 @@ on-seat-requires c κs = search needs
 
 returns-2 : tie.Need-returns-2
 unfolding runnerOf
-returns-2 c = pick-no _ _ _ (ne-eqb _ _ (c .before .if1 .left)) (c .on-seat .ensures ∙ ap (onSeat (c .before .before .args .q)) (omega arith))
+returns-2 c = pick-no _ _ _ (ne-eqb _ _ (c .before .if1 .left)) (c .on-seat .ensures ∙ ap (onSeat (c .before .before .args .q .now)) (omega arith))
 
 pub runner-spec : {M : Type 1} → statement M
 runner-spec =

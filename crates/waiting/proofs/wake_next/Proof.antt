@@ -8,14 +8,14 @@ use Rattle.waiting.proofs.Laws.{woken-rings}
 use Rattle.waiting.proofs.wake_next.Statement.{statement}
 use Rattle.waiting.proofs.wake_next.Tie as tie
 
-element-copy-out-woken-seats : tie.Need-element-copy-out-woken-seats
-element-copy-out-woken-seats c = search needs
+element-copy-out-leave-queue : tie.Need-element-copy-out-leave-queue
+element-copy-out-leave-queue c = search needs
 
-element-copy-out-woken-seats-2 : tie.Need-element-copy-out-woken-seats-2
-element-copy-out-woken-seats-2 c = search needs
+element-copy-out-leave-queue-2 : tie.Need-element-copy-out-leave-queue-2
+element-copy-out-leave-queue-2 c = search needs
 
-woken-seats-requires : tie.Need-woken-seats-requires
-woken-seats-requires c κs = search needs
+leave-queue-requires : tie.Need-leave-queue-requires
+leave-queue-requires c κs = search needs
 
 element-copy-out-woken-mask : tie.Need-element-copy-out-woken-mask
 element-copy-out-woken-mask c = search needs
@@ -61,7 +61,7 @@ unfolding wakeNext wake wokenRings ringsReady
 returns c =
     let a = c .before .before .before .before .before .before .before .before .before .before .before .args in
     λ k. rw (
-      c .before .before .before .before .before .before .woken-seats .ensures (now (a .left)) (now (a .rings)),
+      c .before .before .before .before .before .before .leave-queue .ensures (now (a .left)) (now (a .rings)),
       c .before .before .woken-mask .ensures,
       woken-rings (now (a .rings)),
       c .identifier .ensures,
@@ -71,9 +71,9 @@ pub wake-next-spec : {M : Type 1} → statement M
 wake-next-spec =
     tie.close
     (tie.spec
-    element-copy-out-woken-seats
-    element-copy-out-woken-seats-2
-    woken-seats-requires
+    element-copy-out-leave-queue
+    element-copy-out-leave-queue-2
+    leave-queue-requires
     element-copy-out-woken-mask
     element-copy-out-woken-mask-2
     element-copy-out-woken-mask-3

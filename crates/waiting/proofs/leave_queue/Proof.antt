@@ -1,10 +1,10 @@
--- `waiting::woken_seats`: it leaves its queue, and becomes ready unless suspended.
+-- `waiting::leave_queue`: it leaves its queue, and becomes ready unless suspended.
 -- Assumes nothing.
 use borrow.Author.Needs.{needs}
 use Rattle.laws.proofs.Branches.{pick-yes, pick-no}
 use Rattle.scope.specs.Waiting.{wokenSeats}
-use Rattle.waiting.proofs.woken_seats.Statement.{statement}
-use Rattle.waiting.proofs.woken_seats.Tie as tie
+use Rattle.waiting.proofs.leave_queue.Statement.{statement}
+use Rattle.waiting.proofs.leave_queue.Tie as tie
 
 leave-requires : tie.Need-leave-requires
 leave-requires c κs = search needs
@@ -18,7 +18,7 @@ make-ready-requires c κs = search needs
 
 returns-2 : tie.Need-returns-2
 unfolding wokenSeats
-returns-2 c = λ left rings. pick-no _ _ _ (c .before .if1 .left) (rw (c .make-ready .ensures, c .before .before .leave .ensures))
+returns-2 c = λ left rings. pick-no _ _ _ (c .before .before .if1 .left) (rw (c .make-ready .ensures, c .before .before .before .leave .ensures))
 
-pub woken-seats-spec : {M : Type 1} → statement M
-woken-seats-spec = tie.close (tie.spec leave-requires returns make-ready-requires returns-2)
+pub leave-queue-spec : {M : Type 1} → statement M
+leave-queue-spec = tie.close (tie.spec leave-requires returns make-ready-requires returns-2)
