@@ -1,5 +1,5 @@
--- What the rules lean on. A loop that tests without stopping holds the test of all that it passed, and one that counts their
--- number; a number found is a number counted; a mark past the last buffer is a bit above the power of two.
+-- What the rules lean on. A loop that counts holds the number of those that it passed; a number found is a number counted; a mark past the
+-- last buffer is a bit above the power of two.
 -- Assumes nothing.
 use Prim.Native.Nat.{ℕ, zero, suc, _+_, _/_, _%_, _^_, _≤_, _<_}
 use native.Mathlib.Omega.{arith}
@@ -12,36 +12,14 @@ use mathlib.Core.List.{List}
 use lib.Dec.{eqb, ltb}
 use lib.Pow.{pow-pos, pow-mono}
 use borrow.Author.Tests.{ltb-true, lt-ltb, le-ltb, eq-eqb, ne-eqb}
-use Rattle.scope.specs.Choice.{pick, least, every, number}
+use Rattle.scope.specs.Choice.{pick, least, number}
 use Rattle.scope.specs.Seats.{isOn, onSeat}
 use Rattle.laws.proofs.Branches.{both-true, lt-or-le, picked-yes, picked-no}
 use Rattle.laws.proofs.Searches.{least-true, least-below, number-le}
 use Rattle.laws.proofs.Arrays.{at-end}
+pub use Rattle.laws.proofs.Testing.{Testing, testing-start, testing-more, testing-done}
 
--- a loop over the numbers below n that tests them all, and does not stop at one that fails
-pub record Testing (n : ℕ) (p : ℕ → Bool) (ok : Bool) (t : ℕ) : Type 0 where
-  pub upto : t ≤ n
-  pub sofar : ok ≡ every p t
-
-pub every-more : (p : ℕ → Bool) (t : ℕ) → (p t && every p t) ≡ every p (t + 1)
-unfolding every
-every-more p t = rw (add-one t, every) (go (p t))
-  where
-    go : (b : Bool) → (b && every p t) ≡ elim b as (λ x. Bool) [ true ↦ every p t | false ↦ false ]
-    go true = refl
-    go false = refl
-
-pub testing-start : (n : ℕ) (p : ℕ → Bool) → Testing n p true 0
-unfolding every
-testing-start n p = record { upto = omega arith; sofar = refl }
-
-pub testing-more : {n : ℕ} {p : ℕ → Bool} {ok : Bool} {t : ℕ} {here : Bool} → Testing n p ok t → t < n → here ≡ p t → Testing n p (here && ok) (t + 1)
-testing-more {n} {p} {ok} {t} m h e = record { upto = omega arith; sofar = rw (e, m .sofar) (every-more p t) }
-
-pub testing-done : {n : ℕ} {p : ℕ → Bool} {ok : Bool} {t : ℕ} → Testing n p ok t → n ≤ t → ok ≡ every p n
-testing-done {n} {p} {ok} {t} m h = at-end (λ (x : ℕ). ok ≡ every p x) n t (m .upto) h (m .sofar)
-
--- the same of a loop that counts those that pass
+-- a loop that counts the numbers below n that pass
 pub record Counting (n : ℕ) (p : ℕ → Bool) (k t : ℕ) : Type 0 where
   pub upto : t ≤ n
   pub sofar : k ≡ number p t

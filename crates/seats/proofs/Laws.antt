@@ -11,9 +11,8 @@ use mathlib.Core.List.{List, map}
 use lib.ListN.{getD, set}
 use lib.Dec.{ltb, leb}
 use borrow.Author.Tests.{lt-ltb, le-ltb, ltb-true}
-use Rattle.scope.specs.Choice.{pick, number}
+use Rattle.scope.specs.Choice.{pick, number, greater, topOf}
 use Rattle.scope.specs.Seats.{lower, leaves, seatsEnd, laterOf, aheadOf, raise, joins, standsIn}
-use Rattle.seats.specs.Passes.{greater, topOf}
 use Rattle.laws.proofs.Arrays.{Changing}
 use Rattle.laws.proofs.Branches.{lt-or-le, pick-yes, pick-no, picked-yes, picked-no}
 

@@ -7,10 +7,9 @@ ghost use mathlib.Core.List.{map};
 ghost use lib.ListN.{set};
 ghost use Prim.Native.Nat.{ℕ, _<_};
 ghost use lib.Dec.{ltb};
-ghost use Rattle.scope.specs.Choice.{pick, hasBit};
+ghost use Rattle.scope.specs.Choice.{pick, hasBit, greater, topOf};
 ghost use Rattle.scope.specs.Seats.{lower, raise, leaves, joins, becomesReady, laterOf, aheadOf, onSeat, firstOf, standing, runnerOf, waitsOn, queueSeats, seatsEnd};
 ghost use Rattle.scope.specs.Seats.{maskFilled, maskEmptied, maskLeft, ringsLeft, ringsReady};
-ghost use Rattle.seats.specs.Passes.{greater, topOf};
 
 // A seat after seat `x` was left; `end` is the end of its queue's seats.
 fn lowered(y: u16, x: u16, end: u16) -> u16

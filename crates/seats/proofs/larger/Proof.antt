@@ -3,7 +3,7 @@
 use mathlib.Core.Path.{refl}
 use borrow.Author.Tests.{lt-ltb, le-ltb}
 use Rattle.laws.proofs.Branches.{pick-yes, pick-no}
-use Rattle.seats.specs.Passes.{greater}
+use Rattle.scope.specs.Choice.{greater}
 use Rattle.seats.proofs.larger.Statement.{statement}
 use Rattle.seats.proofs.larger.Tie as tie
 

@@ -5,7 +5,7 @@ use native.Mathlib.Omega.{arith}
 use native.Mathlib.Numerals.{add-one}
 use mathlib.Core.Path.{_≡_, refl, _∙_}
 use borrow.Author.Needs.{needs}
-use Rattle.seats.specs.Passes.{topOf}
+use Rattle.scope.specs.Choice.{topOf}
 use Rattle.seats.proofs.top.Statement.{statement}
 use Rattle.seats.proofs.top.Tie as tie
 
