@@ -4,10 +4,10 @@ TABLES = [
     ('L', 'Line', 'line', 32, [('left', 4), ('seat', 2), ('joined', 1), ('rings', 2)]),
     ('K', 'Tasks', 'tasks', 32, [('name', 4), ('serial', 2), ('live', 0), ('started', 0), ('suspended', 0), ('priority', 1)]),
     ('Q', 'Semaphores', 'semaphores', 16, [('name', 4), ('serial', 2), ('units', 2), ('live', 0), ('fifo', 0)]),
-    ('P', 'Pools', 'pools', 8, [('out', 8), ('name', 4), ('address', 4), ('length', 4), ('size', 4), ('serial', 2), ('live', 0), ('forced', 0)]),
+    ('P', 'Pools', 'pools', 8, [('out', 8), ('name', 4), ('address', 4), ('length', 4), ('size', 4), ('serial', 2), ('live', 0), ('forced', 0), ('place', 1)]),
 ]
 # A column that does not have one place for each slot: table, column, length.
-LENGTHS = {('L', 'rings'): 1}
+LENGTHS = {('L', 'rings'): 1, ('P', 'place'): 512}
 # name, what the promise is stated with, what is lent in order (table, 'mut' or 'shr', columns or None for all), what it requires
 WAKING = ['serial', 'suspended', 'priority']
 CHAPTERS = [

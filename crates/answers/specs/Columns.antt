@@ -21,8 +21,8 @@ tasksOf name serial live started suspended priority =
 abbrev pub semaphoresOf : List ℕ → List ℕ → List ℕ → List Bool → List Bool → Semaphores
 semaphoresOf name serial units live fifo = record { name = name; serial = serial; units = units; live = live; fifo = fifo }
 
-abbrev pub poolsOf : List ℕ → List ℕ → List ℕ → List ℕ → List ℕ → List ℕ → List Bool → List Bool → Pools
-poolsOf out name address length size serial live forced =
+abbrev pub poolsOf : List ℕ → List ℕ → List ℕ → List ℕ → List ℕ → List ℕ → List Bool → List Bool → List ℕ → Pools
+poolsOf out name address length size serial live forced place =
     record {
       out = out;
       name = name;
@@ -32,6 +32,7 @@ poolsOf out name address length size serial live forced =
       serial = serial;
       live = live;
       forced = forced;
+      place = place;
     }
 
 abbrev pub stateOf : Line → Tasks → Semaphores → Pools → ℕ → State
@@ -61,6 +62,6 @@ lentSemaphores s left seat joined rings waker suspended priority name serial uni
     stateOf (lineOf left seat joined rings) (wakers (s .tasks) waker suspended priority) (semaphoresOf name serial units live fifo) (s .pools) running
 
 -- what the pool calls are lent
-abbrev pub lentPools : State → List ℕ → List ℕ → List ℕ → List ℕ → List ℕ → List ℕ → List Bool → List Bool → ℕ → State
-lentPools s out name address length size serial live forced running =
-    stateOf (s .line) (s .tasks) (s .semaphores) (poolsOf out name address length size serial live forced) running
+abbrev pub lentPools : State → List ℕ → List ℕ → List ℕ → List ℕ → List ℕ → List ℕ → List Bool → List Bool → List ℕ → ℕ → State
+lentPools s out name address length size serial live forced place running =
+    stateOf (s .line) (s .tasks) (s .semaphores) (poolsOf out name address length size serial live forced place) running

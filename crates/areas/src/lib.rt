@@ -4,7 +4,7 @@ ghost use mathlib.Core.Path.{_≡_};
 ghost use mathlib.Core.Bool.{true, _&&_};
 ghost use Prim.Native.Nat.{_+_, _-_, _^_, _<_, _≤_};
 ghost use Rattle.scope.specs.declared.Pools.{Pools};
-ghost use Rattle.scope.specs.Areas.{isArea, isSize, buffersOf, shareByte, isOut, isFree, lowestFree, freeOf, bufferAddress, bufferAt};
+ghost use Rattle.scope.specs.Areas.{isArea, isSize, buffersOf, shareByte, isOut, isFree, freeOf, bufferAddress, bufferAt};
 ghost use Rattle.scope.specs.Pools.{overlapped};
 ghost use Rattle.scope.specs.Rules.{poolsApart};
 
@@ -75,21 +75,6 @@ pub fn is_out(out: u64, k: u32) -> bool
     ensures { λ r. ⌜ r ≡ isOut out k ⌝ }
 {
     (out >> k) % 2 == 1
-}
-
-// The lowest free buffer of `n`, `n` where there is none.
-pub fn lowest_free(out: u64, n: u32) -> u32
-    requires { ⌜ n ≤ 64 ⌝ }
-    ensures { λ r. ⌜ r ≡ lowestFree out n ⌝ }
-{
-    let mut k: u32 = 0;
-    while k < n {
-        if !is_out(out, k) {
-            return k;
-        }
-        k += 1;
-    }
-    k
 }
 
 // How many of `n` buffers are free.

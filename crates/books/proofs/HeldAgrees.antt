@@ -12,11 +12,12 @@ use Rattle.scope.specs.declared.Pools.{Pools}
 use Rattle.scope.specs.declared.Found.{Found}
 use Rattle.scope.specs.declared.Found.the-variants.{At, Deleted, Invalid}
 use Rattle.scope.specs.Identifiers.{identifier, found}
-use Rattle.scope.specs.Pools.{poolBuffers}
+use Rattle.scope.specs.Pools.{poolBuffers, poolRow}
 use Rattle.tables.proofs.Laws.{Names, found-names, found-identifier, identifier-found}
 use Rattle.books.specs.Past.{Turn}
-use Rattle.books.specs.Held.{addressIn, lengthIn, sizeIn, isForced, poolLives, held}
+use Rattle.books.specs.Held.{addressIn, lengthIn, sizeIn, isForced, poolLives, held, freeLonger}
 use Rattle.books.proofs.HeldMarks.{Listed}
+use Rattle.books.proofs.HeldOrder.{Ranked, ranked-at, ranked-same}
 use Rattle.books.proofs.HeldTurns.{Quiet, address-same, length-same, size-same, forced-same, lives-same, held-same}
 
 -- the identifier names the live pool in slot i
@@ -31,6 +32,7 @@ pub record Holds (p : Pools) (past : List Turn) (id i : ℕ) : Type 0 where
   pub size : sizeIn past id ≡ getD (p .size) i 0
   pub forced : isForced past id ≡ getD (p .forced) i false
   pub listed : Listed (getD (p .address) i 0) (getD (p .size) i 0) (poolBuffers p i) (getD (p .out) i 0) (held past id)
+  pub order : Ranked (getD (p .address) i 0) (getD (p .size) i 0) (poolBuffers p i) (getD (p .out) i 0) (poolRow p i) (freeLonger past id)
 
 -- nothing is told of it
 pub record Nothing (past : List Turn) (id : ℕ) : Type 0 where
@@ -73,6 +75,7 @@ pub record SameRow (p q : Pools) (i : ℕ) : Type 0 where
   pub size : getD (q .size) i 0 ≡ getD (p .size) i 0
   pub forced : getD (q .forced) i false ≡ getD (p .forced) i false
   pub out : getD (q .out) i 0 ≡ getD (p .out) i 0
+  pub row : poolRow q i ≡ poolRow p i
 
 -- a turn that is nothing to pool id
 module _ (p q : Pools) (past : List Turn) (t : Turn) (id : ℕ) (quiet : Quiet id t) where
@@ -86,6 +89,9 @@ module _ (p q : Pools) (past : List Turn) (t : Turn) (id : ℕ) (quiet : Quiet i
         forced = forced-same id t past (quiet .made) ∙ h .forced ∙ sym (r .forced);
         listed =
             listed-at _ _ _ _ _ _ _ _ _ _ (r .address) (r .size) (rw (r .long, r .size)) (r .out) (held-same id t past quiet) (h .listed);
+        order =
+            ranked-at _ _ _ _ _ _ _ _ (poolRow q i) (poolRow p i) (freeLonger (t ∷ past) id) (r .address) (r .size) (rw (r .long, r .size)) (r .out) (r .row)
+            (ranked-same (getD (p .address) i 0) (getD (p .size) i 0) (poolBuffers p i) (getD (p .out) i 0) (poolRow p i) id t past (quiet .made) (quiet .back) (h .order));
       }
 
   pub nothing-same : Nothing past id → Nothing (t ∷ past) id

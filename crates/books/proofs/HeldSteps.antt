@@ -1,7 +1,7 @@
 -- Each answer keeps the pools' table and the past in agreement. A creation's pool has nothing held, a deletion's is gone, a get
 -- puts its address on the list and a return takes it off; whatever else is answered is nothing to any pool.
 -- Assumes nothing.
-use Prim.Native.Nat.{ℕ, _+_, _-_, _^_, _<_}
+use Prim.Native.Nat.{ℕ, _+_, _-_, _*_, _^_, _≤_, _<_}
 use native.Mathlib.Omega.{arith}
 use mathlib.Core.Path.{_≡_, refl, sym, subst, ap, _∙_}
 use mathlib.Core.Logic.{⊎-elim}
@@ -17,16 +17,20 @@ use Rattle.scope.specs.declared.Pools.{Pools}
 use Rattle.scope.specs.Lists.{without}
 use Rattle.scope.specs.Statuses.{OK}
 use Rattle.scope.specs.Identifiers.{identifier, lowestUsable}
-use Rattle.scope.specs.Areas.{isArea, isSize, isOut, isFree, lowestFree, bufferAddress, bufferAt}
+use Rattle.scope.specs.Areas.{isArea, isSize, buffersOf, isOut, isFree, bufferAddress, bufferAt}
+use Rattle.scope.specs.Places.{longestFree, firstLeaves, joinsLast, newRow, noRow}
 use Rattle.scope.specs.Views.{withPools}
 use Rattle.scope.specs.Answers.{answer, plain, gives, badState, onFound}
 use Rattle.scope.specs.Calls.{callAt}
-use Rattle.scope.specs.Pools.{poolFound, poolBuffers, poolBorn, poolGone, withOut, poolCreateAt, poolCreate, poolDeleteAt, poolGetBuffer, poolGetBuffAt, poolRetBuffer, poolRetBuffAt}
+use Rattle.scope.specs.Pools.{poolFound, poolBuffers, poolRow, poolBorn, poolGone, withOut, poolCreateAt, poolCreate, poolDeleteAt, poolGetBuffer, poolGetBuffAt, poolRetBuffer, poolRetBuffAt}
 use Rattle.scope.proofs.Rows.{by-choice}
 use Rattle.laws.proofs.Branches.{both-true, true-false, picked-yes, picked-no, eq-or-not}
-use Rattle.laws.proofs.Searches.{least-true}
+use Rattle.scope.proofs.Places.{row-same, row-other, length-new}
+use Rattle.scope.proofs.Gets.{on-place}
 use Rattle.tables.proofs.Laws.{found-names, found-live, found-slot, usable-at, usable-free}
 use Rattle.areas.proofs.Buffers.{found-is}
+use Rattle.places.specs.Order.{Ordered}
+use Rattle.places.proofs.Orders.{leaves-ordered, joins-ordered}
 use Rattle.histories.specs.Sound.{Sound}
 use Rattle.histories.specs.History.{Event, answerTo}
 use Rattle.histories.proofs.Pools.{row-says}
@@ -34,8 +38,9 @@ use Rattle.histories.proofs.Tables.{later-gone, came-kept, came-born, born-foun
 use Rattle.histories.proofs.Answered.{by-name, by-number}
 use Rattle.histories.proofs.Alone.{SamePools, pools-alone}
 use Rattle.books.specs.Past.{Turn, isAnswerOf, creates}
-use Rattle.books.specs.Held.{held}
+use Rattle.books.specs.Held.{held, freeLonger}
 use Rattle.books.proofs.HeldMarks.{Listed, listed-none, listed-get, listed-ret}
+use Rattle.books.proofs.HeldOrder.{Ranked, ranked-at, ranked-new, ranked-get, ranked-ret}
 use Rattle.books.proofs.HeldTurns.{turnOf, Quiet, is-answer, not-call, is-of, not-answer, makes, not-makes, address-same, length-same, size-same, forced-same, lives-same, quiet-refused, quiet-call, quiet-other, quiet-create}
 use Rattle.books.proofs.HeldAgrees.{NamedAt, Holds, Nothing, Agrees, SameRow, one-name, still-named, listed-at, holds-same, nothing-same}
 
@@ -56,7 +61,7 @@ module _ (s : State) (ok : Sound s) (past : List Turn) (agrees : Agrees (s .pool
       })
     where
       row : {i : ℕ} → SameRow p p i
-      row {i} = record { address = refl; long = refl; size = refl; forced = refl; out = refl }
+      row {i} = record { address = refl; long = refl; size = refl; forced = refl; out = refl; row = refl }
 
   plain-fair : (status : ℕ) → eqb status OK ≡ false → Fair (plain s status)
   unfolding plain answer
@@ -71,7 +76,8 @@ module _ (s : State) (ok : Sound s) (past : List Turn) (agrees : Agrees (s .pool
   slot id i e = omega (arith, found-names (p .serial) (p .live) id e .below, ok .pools .sized .serials)
 
   -- slot i, where none lived, holds a new pool
-  module _ (at : x .call ≡ 14) (i : ℕ) (room : i < 8) (free : getD (p .live) i false ≡ false) where
+  module _ (at : x .call ≡ 14) (area : isArea (x .b) (x .c) ≡ true) (sized : isSize (x .c) (x .d) ≡ true) (i : ℕ) (room : i < 8)
+      (free : getD (p .live) i false ≡ false) where
     abbrev born : Pools
     born = poolBorn p i (x .a) (x .b) (x .c) (x .d) (eqb (x .e) 1)
 
@@ -110,6 +116,15 @@ module _ (s : State) (ok : Sound s) (past : List Turn) (agrees : Agrees (s .pool
               ∙ picked-no _ _ _ (not-answer 18 id creation (not-call 18 x a (λ d. omega arith)))
               ∙ agrees .dead id (λ j d. not-new id j d e) .held)
               (listed-none _ _ _);
+          order =
+              ranked-at _ (x .b) _ (x .d) _ (buffersOf (x .c) (x .d)) _ 0 (poolRow born i) (newRow (buffersOf (x .c) (x .d)))
+              (freeLonger (creation ∷ past) id)
+              (getD-set-same (p .address) i (x .b) 0 (omega (arith, ok .pools .sized .addresses)))
+              (getD-set-same (p .size) i (x .d) 0 (omega (arith, ok .pools .sized .sizes)))
+              (rw (getD-set-same (p .length) i (x .c) 0 (omega (arith, ok .pools .sized .lengths)), getD-set-same (p .size) i (x .d) 0 (omega (arith, ok .pools .sized .sizes))))
+              (getD-set-same (p .out) i 0 0 (omega (arith, ok .pools .sized .outs)))
+              (row-same (p .place) i (omega (arith, ok .pools .sized .places)) (newRow (buffersOf (x .c) (x .d))) (length-new _))
+              (ranked-new (x .b) (x .c) (x .d) area sized id creation past m);
         }
 
     quiet-new : (id : ℕ) → (new ≡ id → ⊥) → Quiet id creation
@@ -126,6 +141,9 @@ module _ (s : State) (ok : Sound s) (past : List Turn) (agrees : Agrees (s .pool
           size = getD-set-other (p .size) i j (x .d) 0 ne;
           forced = getD-set-other (p .forced) i j (eqb (x .e) 1) false ne;
           out = getD-set-other (p .out) i j 0 0 ne;
+          row =
+              row-other (p .place) i (omega (arith, ok .pools .sized .places)) (newRow (buffersOf (x .c) (x .d))) (length-new _) j
+              (omega (arith, slot id j e, ok .pools .sized .places)) ne;
         })
         (agrees .live id j e)
 
@@ -201,6 +219,9 @@ module _ (s : State) (ok : Sound s) (past : List Turn) (agrees : Agrees (s .pool
                   size = getD-set-other (p .size) i j 0 0 ne;
                   forced = getD-set-other (p .forced) i j false false ne;
                   out = getD-set-other (p .out) i j 0 0 ne;
+                  row =
+                      row-other (p .place) i (omega (arith, slot (x .a) i names, ok .pools .sized .places)) noRow refl j
+                      (omega (arith, slot id j b, ok .pools .sized .places)) ne;
                 })
                 (agrees .live id j b);
             dead = λ id d.
@@ -219,11 +240,15 @@ module _ (s : State) (ok : Sound s) (past : List Turn) (agrees : Agrees (s .pool
               (getD-set-other (p .live) i j false false (other-slot id j e ne) ∙ found-live (p .serial) (p .live) id e)
 
     -- its marks change, and its list with them
-    module _ (marks : ℕ) (t : Turn) (quiet : (id : ℕ) → (x .a ≡ id → ⊥) → Quiet id t) (made : creates 14 (x .a) t ≡ false)
+    module _ (marks : ℕ) (places : List ℕ) (wide : length places ≡ 64) (t : Turn) (quiet : (id : ℕ) → (x .a ≡ id → ⊥) → Quiet id t) (made : creates 14 (x .a) t ≡ false)
         (gone : isAnswerOf 15 (x .a) OK t ≡ false)
-        (listed : Listed (getD (p .address) i 0) (getD (p .size) i 0) (poolBuffers p i) marks (held (t ∷ past) (x .a))) where
+        (listed : Listed (getD (p .address) i 0) (getD (p .size) i 0) (poolBuffers p i) marks (held (t ∷ past) (x .a)))
+        (ranked : Ranked (getD (p .address) i 0) (getD (p .size) i 0) (poolBuffers p i) marks places (freeLonger (t ∷ past) (x .a))) where
       abbrev changed : Pools
-      changed = withOut p i marks
+      changed = withOut p i marks places
+
+      fits : i * 64 + 64 ≤ length (p .place)
+      fits = omega (arith, slot (x .a) i names, ok .pools .sized .places)
 
       marks-hold : Holds changed (t ∷ past) (x .a) i
       marks-hold =
@@ -238,6 +263,10 @@ module _ (s : State) (ok : Sound s) (past : List Turn) (agrees : Agrees (s .pool
                 listed-at _ _ _ _ _ _ _ _ _ _ refl refl refl
                 (getD-set-same (p .out) i marks 0 (omega (arith, slot (x .a) i names, ok .pools .sized .outs)))
                 refl listed;
+            order =
+                ranked-at _ _ _ _ _ _ _ marks (poolRow changed i) places (freeLonger (t ∷ past) (x .a)) refl refl refl
+                (getD-set-same (p .out) i marks 0 (omega (arith, slot (x .a) i names, ok .pools .sized .outs)))
+                (row-same (p .place) i fits places wide) ranked;
           }
 
       marks-agree : Agrees changed (t ∷ past)
@@ -254,6 +283,7 @@ module _ (s : State) (ok : Sound s) (past : List Turn) (agrees : Agrees (s .pool
                   size = refl;
                   forced = refl;
                   out = getD-set-other (p .out) i j marks 0 (other-slot id j e ne);
+                  row = row-other (p .place) i fits places wide j (omega (arith, slot id j e, ok .pools .sized .places)) (other-slot id j e ne);
                 })
                 (agrees .live id j e))
                 (eq-or-not (x .a) id);
@@ -270,10 +300,16 @@ module _ (s : State) (ok : Sound s) (past : List Turn) (agrees : Agrees (s .pool
     row : (isArea (getD (p .address) i 0) (getD (p .length) i 0) ≡ true) × (isSize (getD (p .length) i 0) (getD (p .size) i 0) ≡ true) × (out < 2 ^ poolBuffers p i)
     row = row-says p (ok .pools) i (slot (x .a) i names) (found-live (p .serial) (p .live) (x .a) names)
 
+    abbrev places : List ℕ
+    places = poolRow p i
+
+    ordered : Ordered places out (poolBuffers p i)
+    ordered = ok .pools .orders i (slot (x .a) i names)
+
     -- buffer k, which was free, is got
-    module _ (at : x .call ≡ 17) (k : ℕ) (below : k < poolBuffers p i) (free : isFree out k ≡ true) where
+    module _ (at : x .call ≡ 17) (k : ℕ) (below : k < poolBuffers p i) (free : isFree out k ≡ true) (first : getD places k 0 ≡ 1) where
       abbrev got : Answer
-      got = gives (withPools s (withOut p i (out + 2 ^ k))) (bufferOf k)
+      got = gives (withPools s (withOut p i (out + 2 ^ k) (firstLeaves places))) (bufferOf k)
 
       got-held : held (turnOf x got ∷ past) (x .a) ≡ bufferOf k ∷ held past (x .a)
       unfolding gives answer
@@ -284,16 +320,20 @@ module _ (s : State) (ok : Sound s) (past : List Turn) (agrees : Agrees (s .pool
       got-agrees : Fair got
       unfolding gives answer
       got-agrees =
-          marks-agree (out + 2 ^ k) (turnOf x got) (λ id ne. quiet-other id x got (λ e. omega arith) ne)
+          marks-agree (out + 2 ^ k) (firstLeaves places) (leaves-ordered ordered k first .long) (turnOf x got) (λ id ne. quiet-other id x got (λ e. omega arith) ne)
           (not-makes 14 (x .a) (turnOf x got) (not-call 14 x got (λ e. omega arith)))
           (not-answer 15 (x .a) (turnOf x got) (not-call 15 x got (λ e. omega arith)))
           (listed-at _ _ _ _ _ _ _ _ _ _ refl refl refl refl got-held
           (listed-get _ (getD (p .length) i 0) _ (row .0) (row .1) out (held past (x .a)) (agrees .live (x .a) i names .listed) k below free))
+          (ranked-get _ (getD (p .length) i 0) _ (row .0) (row .1) out places ordered (x .a) (turnOf x got) past (agrees .live (x .a) i names .order)
+          (not-makes 14 (x .a) (turnOf x got) (not-call 14 x got (λ e. omega arith)))
+          k first free
+          (not-answer 18 (x .a) (turnOf x got) (not-call 18 x got (λ e. omega arith))))
 
     -- buffer k, which was out, is returned by its address
     module _ (at : x .call ≡ 18) (k : ℕ) (below : k < poolBuffers p i) (marked : isOut out k ≡ true) (named : bufferOf k ≡ x .b) where
       abbrev returned : Answer
-      returned = plain (withPools s (withOut p i (out - 2 ^ k))) OK
+      returned = plain (withPools s (withOut p i (out - 2 ^ k) (joinsLast places k))) OK
 
       returned-held : held (turnOf x returned ∷ past) (x .a) ≡ without (bufferOf k) (held past (x .a))
       unfolding plain answer
@@ -306,11 +346,16 @@ module _ (s : State) (ok : Sound s) (past : List Turn) (agrees : Agrees (s .pool
       returned-agrees : Fair returned
       unfolding plain answer
       returned-agrees =
-          marks-agree (out - 2 ^ k) (turnOf x returned) (λ id ne. quiet-other id x returned (λ e. omega arith) ne)
+          marks-agree (out - 2 ^ k) (joinsLast places k) (joins-ordered ordered k below marked .long) (turnOf x returned) (λ id ne. quiet-other id x returned (λ e. omega arith) ne)
           (not-makes 14 (x .a) (turnOf x returned) (not-call 14 x returned (λ e. omega arith)))
           (not-answer 15 (x .a) (turnOf x returned) (not-call 15 x returned (λ e. omega arith)))
           (listed-at _ _ _ _ _ _ _ _ _ _ refl refl refl refl returned-held
           (listed-ret _ (getD (p .length) i 0) _ (row .0) (row .1) out (held past (x .a)) (agrees .live (x .a) i names .listed) k below marked))
+          (ranked-ret _ (getD (p .length) i 0) _ (row .0) (row .1) out places ordered (x .a) (turnOf x returned) past (agrees .live (x .a) i names .order)
+          (not-makes 14 (x .a) (turnOf x returned) (not-call 14 x returned (λ e. omega arith)))
+          k below marked
+          (is-of 18 (x .a) (turnOf x returned) (is-answer 18 x returned at refl) refl)
+          named)
 
     gone-fair : x .call ≡ 15 → Fair (plain (withPools s (poolGone p i)) OK)
     unfolding plain answer
@@ -322,10 +367,13 @@ module _ (s : State) (ok : Sound s) (past : List Turn) (agrees : Agrees (s .pool
     delete-at at = by-choice Fair _ (λ e. plain-fair _ refl) (λ e. gone-fair at)
 
     get-at : x .call ≡ 17 → Fair (poolGetBuffAt s i)
-    unfolding poolGetBuffAt poolGetBuffer lowestFree
+    unfolding poolGetBuffAt poolGetBuffer
     get-at at =
         by-choice Fair _ (λ e. plain-fair _ refl)
-        (λ e. let h = leb-false (poolBuffers p i) _ e in got-agrees at _ h (least-true (isFree out) (poolBuffers p i) h))
+        (λ e. let k : ℕ = longestFree places in
+        let b = both-true (ltb k (poolBuffers p i)) (isFree out k) (not-false _ e) in
+        let l : k < poolBuffers p i = ltb-true k (poolBuffers p i) (b .0) in
+        got-agrees at k l (b .1) (on-place places 1 (omega (arith, l, ordered .few))))
 
     -- the buffer that an address names, where it is out
     abbrev at-address : ℕ
@@ -345,23 +393,23 @@ module _ (s : State) (ok : Sound s) (past : List Turn) (agrees : Agrees (s .pool
   lowest-free : lowestUsable (p .serial) (p .live) < 8 → getD (p .live) (lowestUsable (p .serial) (p .live)) false ≡ false
   lowest-free h = usable-free (p .serial) (p .live) _ (usable-at (p .serial) (p .live) (omega (arith, h, ok .pools .sized .serials)))
 
-  born-fair : (at : x .call ≡ 14) (i : ℕ) (room : i < 8) → getD (p .live) i false ≡ false
+  born-fair : (at : x .call ≡ 14) → isArea (x .b) (x .c) ≡ true → isSize (x .c) (x .d) ≡ true → (i : ℕ) (room : i < 8) → getD (p .live) i false ≡ false
       → Fair (gives (withPools s (poolBorn p i (x .a) (x .b) (x .c) (x .d) (eqb (x .e) 1))) (identifier (getD (p .serial) i 0 + 1) i))
   unfolding gives answer
-  born-fair at i room free = born-agrees at i room free
+  born-fair at area sized i room free = born-agrees at area sized i room free
 
-  create-at : x .call ≡ 14 → (i : ℕ) → (i < 8 → getD (p .live) i false ≡ false) → Fair (poolCreateAt s (x .a) (x .b) (x .c) (x .d) (x .e) i)
+  create-at : x .call ≡ 14 → isArea (x .b) (x .c) ≡ true → isSize (x .c) (x .d) ≡ true → (i : ℕ) → (i < 8 → getD (p .live) i false ≡ false) → Fair (poolCreateAt s (x .a) (x .b) (x .c) (x .d) (x .e) i)
   unfolding poolCreateAt
-  create-at at i free =
+  create-at at area sized i free =
       by-choice Fair _ (λ e. plain-fair _ refl)
-      (λ e. by-choice Fair _ (λ f. plain-fair _ refl) (λ f. let h : i < 8 = leb-false 8 i e in born-fair at i h (free h)))
+      (λ e. by-choice Fair _ (λ f. plain-fair _ refl) (λ f. let h : i < 8 = leb-false 8 i e in born-fair at area sized i h (free h)))
 
   create-fair : x .call ≡ 14 → Fair (poolCreate s (x .a) (x .b) (x .c) (x .d) (x .e))
   unfolding poolCreate
   create-fair at =
       by-choice Fair _ (λ e. plain-fair _ refl)
       (λ e. by-choice Fair _ (λ f. plain-fair _ refl)
-      (λ f. by-choice Fair _ (λ g. plain-fair _ refl) (λ g. create-at at _ lowest-free)))
+      (λ f. by-choice Fair _ (λ g. plain-fair _ refl) (λ g. create-at at (not-false _ e) (not-false _ f) _ lowest-free)))
 
   -- every answer keeps the agreement
   pub turn-agrees : Agrees (answerTo s x .state .pools) (turnOf x (answerTo s x) ∷ past)

@@ -9,20 +9,23 @@ use mathlib.Core.Bool.{true, false, not, _&&_}
 use mathlib.Core.List.{List, [], _∷_}
 use lib.ListN.{length, getD}
 use lib.Dec.{ltb, leb, eqb}
-use borrow.Author.Tests.{leb-true, leb-false, ltb-true, ltb-false, eqb-false, not-false}
+use borrow.Author.Tests.{leb-true, ltb-true, ltb-false, lt-ltb, eqb-false, not-false}
 use Rattle.scope.specs.declared.State.{State}
 use Rattle.scope.specs.declared.Answer.{Answer}
 use Rattle.scope.specs.declared.Pools.{Pools}
-use Rattle.scope.specs.Choice.{least, number}
+use Rattle.scope.specs.Choice.{number}
 use Rattle.scope.specs.Statuses.{OK}
 use Rattle.scope.specs.Lists.{has}
-use Rattle.scope.specs.Areas.{isArea, isSize, isOut, isFree, lowestFree, freeOf, bufferAddress, bufferAt}
+use Rattle.scope.specs.Areas.{isArea, isSize, isOut, isFree, freeOf, bufferAddress, bufferAt}
+use Rattle.scope.specs.Places.{longestFree}
+use Rattle.scope.proofs.Gets.{on-place}
+use Rattle.places.specs.Order.{Free, Ordered}
+use Rattle.places.proofs.Orders.{others-behind}
 use Rattle.scope.specs.Answers.{answer, plain, gives, badState, onFound}
 use Rattle.scope.specs.Calls.{callAt}
-use Rattle.scope.specs.Pools.{poolFound, poolBuffers, poolInfoAt, poolDeleteAt, poolGetBuffer, poolGetBuffAt, poolRetBuffer, poolRetBuffAt}
+use Rattle.scope.specs.Pools.{poolFound, poolBuffers, poolRow, poolInfoAt, poolDeleteAt, poolGetBuffer, poolGetBuffAt, poolRetBuffer, poolRetBuffAt}
 use Rattle.scope.proofs.Rows.{by-choice}
 use Rattle.laws.proofs.Branches.{both-true, second-decides, not-of-false, picked-yes, picked-no, true-false, true-or-false, eq-or-not}
-use Rattle.laws.proofs.Searches.{least-below}
 use Rattle.laws.proofs.Once.{Once, has-here}
 use Rattle.tables.proofs.Laws.{found-below, found-live}
 use Rattle.areas.proofs.Buffers.{count, starts, found-is}
@@ -34,12 +37,12 @@ use Rattle.histories.proofs.Answered.{by-name, by-number}
 use Rattle.histories.proofs.Ledger.{event-keeps}
 use Rattle.histories.proofs.Owners.{Out, InBuffer, buffers-out-apart}
 use Rattle.books.specs.Past.{Turn}
-use Rattle.books.specs.Held.{addressIn, lengthIn, sizeIn, isForced, buffersIn, held}
+use Rattle.books.specs.Held.{addressIn, lengthIn, sizeIn, isForced, buffersIn, held, freeLonger}
 use Rattle.books.proofs.HeldMarks.{OutAt}
 use Rattle.books.proofs.HeldTurns.{turnOf, is-answer, not-call, is-of, not-answer, quiet-other, held-same}
 use Rattle.books.proofs.HeldAgrees.{NamedAt, Holds, Agrees, slot-or-none, one-name}
 use Rattle.books.proofs.HeldSteps.{turn-agrees}
-use Rattle.books.specs.Told.{PoolInfoTold, LowestFree}
+use Rattle.books.specs.Told.{PoolInfoTold, LongestFree}
 
 empty : (l : List ℕ) → length l ≡ 0 → l ≡ []
 empty [] e = refl
@@ -109,6 +112,23 @@ module _ (s : State) (ok : Sound s) (past : List Turn) (agrees : Agrees (s .pool
         ∙ ap (λ (n : ℕ). n + k * getD (p .size) i 0) (sym (holds .address))
         ∙ ap (λ (n : ℕ). addressIn past id + k * n) (sym (holds .size))
 
+    order-of : Ordered (poolRow p i) (getD (p .out) i 0) (poolBuffers p i)
+    order-of = ok .pools .orders i (omega (arith, found-below (p .serial) (p .live) id names, ok .pools .sized .serials))
+
+    first-place : (k : ℕ) → k ≡ longestFree (poolRow p i) → k < poolBuffers p i → getD (poolRow p i) k 0 ≡ 1
+    first-place k e h =
+        ap (λ (j : ℕ). getD (poolRow p i) j 0) e ∙ on-place (poolRow p i) 1 (omega (arith, e, h, order-of .few))
+
+    -- a buffer that is not held is free
+    not-held-free : (k : ℕ) → k < poolBuffers p i → has (held past id) (addressIn past id + k * sizeIn past id) ≡ false → isFree (getD (p .out) i 0) k ≡ true
+    unfolding isFree
+    not-held-free k h e =
+        not-of-false _
+        (⊎-elim
+        (λ o. absurd (true-false (holds .listed .back k h o) (ap (has (held past id)) (starts-told k h) ∙ e)))
+        (λ o. o)
+        (true-or-false (isOut (getD (p .out) i 0) k)))
+
     some-told : 1 ≤ sizeIn past id
     unfolding isSize
     some-told = omega (arith, leb-true 1 (getD (p .size) i 0) (both-true (leb 1 (getD (p .size) i 0)) _ (row .1) .0), holds .size)
@@ -142,28 +162,34 @@ module _ (s : State) (ok : Sound s) (past : List Turn) (agrees : Agrees (s .pool
           four = rw (buffers-told (x .a) i names, h .size, h .forced);
         })
 
-    pub lowest-told : x .call ≡ 17 → answerTo s x .status ≡ OK → LowestFree past (x .a) (getD (answerTo s x .values) 0 0)
-    unfolding poolGetBuffAt poolGetBuffer lowestFree isFree gives answer
-    lowest-told at =
+    -- of the buffers that are not held, the one that a get gives has been free longest
+    pub longest-told : x .call ≡ 17 → answerTo s x .status ≡ OK → LongestFree past (x .a) (getD (answerTo s x .values) 0 0)
+    unfolding poolGetBuffAt poolGetBuffer gives answer
+    longest-told at =
         by-pool Told 17 (poolGetBuffAt s) at refl
-        (λ i names. by-choice (IfDone Told) _ (λ e. not-done Told _ refl) (λ e d. told i names (leb-false (poolBuffers p i) _ e)))
+        (λ i names. by-choice (IfDone Told) _ (λ e. not-done Told _ refl) (λ e d. told i names (longestFree (poolRow p i)) refl (not-false _ e)))
       where
         Told : Answer → Type 0
-        Told a = LowestFree past (x .a) (getD (a .values) 0 0)
+        Told a = LongestFree past (x .a) (getD (a .values) 0 0)
 
-        told : (i : ℕ) → NamedAt p (x .a) i → least (isFree (getD (p .out) i 0)) (poolBuffers p i) < poolBuffers p i
-            → LowestFree past (x .a) (bufferAddress (getD (p .address) i 0) (getD (p .size) i 0) (least (isFree (getD (p .out) i 0)) (poolBuffers p i)))
-        told i names h =
-            let n : ℕ = poolBuffers p i in
-            let out : ℕ = getD (p .out) i 0 in
+        told : (i : ℕ) → NamedAt p (x .a) i → (k : ℕ) → k ≡ longestFree (poolRow p i) → (ltb k (poolBuffers p i) && isFree (getD (p .out) i 0) k) ≡ true
+            → LongestFree past (x .a) (bufferAddress (getD (p .address) i 0) (getD (p .size) i 0) k)
+        told i names k e d =
+            let b = both-true (ltb k (poolBuffers p i)) (isFree (getD (p .out) i 0) k) d in
+            let h : k < poolBuffers p i = ltb-true k (poolBuffers p i) (b .0) in
+            let first : getD (poolRow p i) k 0 ≡ 1 = first-place (x .a) i names k e h in
             record {
               lives = holds (x .a) i names .lives;
-              buffer = least (isFree out) n;
+              buffer = k;
               below = omega (arith, buffers-told (x .a) i names);
-              starts = sym (starts-told (x .a) i names (least (isFree out) n) h);
-              lower = λ k l.
-                  ap (has (held past (x .a))) (sym (starts-told (x .a) i names k (omega arith)))
-                  ∙ holds (x .a) i names .listed .back k (omega arith) (not-false (isOut out k) (least-below (isFree out) n k l));
+              starts = sym (starts-told (x .a) i names k h);
+              longest = λ j l u ne.
+                  let m : j < poolBuffers p i = omega (arith, buffers-told (x .a) i names) in
+                  let f : Free (getD (p .out) i 0) (poolBuffers p i) j = (m, not-held-free (x .a) i names j m u) in
+                  ap (freeLonger past (x .a) (bufferAddress (getD (p .address) i 0) (getD (p .size) i 0) k)) (sym (starts-told (x .a) i names j m))
+                  ∙ holds (x .a) i names .order k j (h, b .1) f (λ q. ne (sym q))
+                  ∙ lt-ltb (getD (poolRow p i) k 0) (getD (poolRow p i) j 0)
+                  (omega (arith, first, others-behind (order-of (x .a) i names) k j first f ne));
             }
 
     -- a return names a buffer that is held

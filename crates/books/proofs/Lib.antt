@@ -1,6 +1,7 @@
 pub mod Link
 pub mod HeldMarks
 pub mod HeldTurns
+pub mod HeldOrder
 pub mod HeldAgrees
 pub mod HeldSteps
 pub mod HeldTold

@@ -32,7 +32,7 @@ use Rattle.books.specs.Held.{sizeIn, isForced, poolLives, held, gets, re
 use Rattle.books.proofs.HeldTurns.{turnOf}
 use Rattle.books.proofs.HeldAgrees.{Holds, Nothing, Agrees, slot-or-none}
 use Rattle.books.proofs.HeldSteps.{turn-agrees}
-use Rattle.books.proofs.HeldTold.{held-apart, info-told, lowest-told, not-held, names-held, none-held}
+use Rattle.books.proofs.HeldTold.{held-apart, info-told, longest-told, not-held, names-held, none-held}
 use Rattle.books.proofs.HeldCounts.{gets-told, returns-told}
 use Rattle.books.specs.Told.{PoolInfoTold, GetTold}
 
@@ -119,11 +119,12 @@ module _ (p : ℕ) (h : p ≤ 15) (xs : List Event) where
     pub pool-info-told : x .call ≡ 19 → reply .status ≡ OK → PoolInfoTold past (x .a) (reply .values)
     pool-info-told = info-told now now-sound past end-agrees x
 
-    -- a get answers the address of the pool's own lowest buffer that is not held, and of no pool is that address held
+    -- M-103: a get answers the address of the pool's own buffer that, of those not held, has been free longest, and of no pool is that
+    -- address held
     pub get-told : x .call ≡ 17 → reply .status ≡ OK → GetTold past (x .a) (getD (reply .values) 0 0)
     get-told at done =
         record {
-          lowest = lowest-told now now-sound past end-agrees x at done;
+          first = longest-told now now-sound past end-agrees x at done;
           unheld = not-held now now-sound past end-agrees x at done;
         }
 

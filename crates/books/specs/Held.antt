@@ -2,9 +2,9 @@
 -- told apart by identifier.
 -- Assumes nothing.
 use Prim.Native.Nat.{ℕ, _/_}
-use mathlib.Core.Bool.{Bool, true, false}
+use mathlib.Core.Bool.{Bool, true, false, _&&_}
 use mathlib.Core.List.{List, [], _∷_}
-use lib.Dec.{eqb}
+use lib.Dec.{ltb, eqb}
 use Rattle.scope.specs.Choice.{pick}
 use Rattle.scope.specs.Lists.{without}
 use Rattle.scope.specs.Statuses.{OK}
@@ -44,6 +44,18 @@ held (x ∷ past) id =
     pick (isAnswerOf 15 id OK x) []
     (pick (isAnswerOf 17 id OK x) (value x ∷ held past id)
     (pick (isAnswerOf 18 id OK x) (without (x .event .b) (held past id)) (held past id)))
+
+-- the turn returned the buffer at x to pool id
+unfoldable pub isReturn : ℕ → ℕ → Turn → Bool
+isReturn id x t = isAnswerOf 18 id OK t && eqb (t .event .b) x
+
+-- M-103, "the buffer that has been free longest": of two buffers of pool id that are not held, the one at x has been free longer than the
+-- one at y if y was returned after x was, or y was and x was not; where neither was, "in a new pool, ascending addresses"
+abbrev pub freeLonger : List Turn → ℕ → ℕ → ℕ → Bool
+freeLonger [] id x y = false
+freeLonger (t ∷ past) id x y =
+    pick (creates 14 id t) (ltb x y)
+    (pick (isReturn id y t) true (pick (isReturn id x t) false (freeLonger past id x y)))
 
 -- "gets - returns answered OK"
 abbrev pub gets : List Turn → ℕ → ℕ

@@ -17,7 +17,7 @@ use Rattle.histories.specs.History.{SemaphoreAt}
 use Rattle.histories.specs.Order.{WaitsFor}
 use Rattle.books.specs.Past.{Turn, runningIn}
 use Rattle.books.specs.Waiting.{initialCount, isFifo, priorityIn, claimed, joinedWith, waiting, releases, grants, Precedes}
-use Rattle.books.specs.Held.{addressIn, sizeIn, isForced, buffersIn, poolLives, held}
+use Rattle.books.specs.Held.{addressIn, sizeIn, isForced, buffersIn, poolLives, held, freeLonger}
 
 -- a task's identifier, a semaphore's, by its slot
 abbrev pub taskId : State → ℕ → ℕ
@@ -88,15 +88,16 @@ pub record PoolInfoTold (past : List Turn) (id : ℕ) (values : List ℕ) : Type
   pub all : free + length (held past id) ≡ buffersIn past id
   pub four : values ≡ buffersIn past id ∷ free ∷ sizeIn past id ∷ bitOf (isForced past id) ∷ []
 
--- v is the address of the lowest buffer of pool id that is not held: "Get gives the lowest free buffer"
-pub record LowestFree (past : List Turn) (id v : ℕ) : Type 0 where
+-- v is the address of the buffer of pool id that, of those not held, "has been free longest"
+pub record LongestFree (past : List Turn) (id v : ℕ) : Type 0 where
   pub lives : poolLives past id ≡ true
   pub buffer : ℕ
   pub below : buffer < buffersIn past id
   pub starts : addressIn past id + buffer * sizeIn past id ≡ v
-  pub lower : (k : ℕ) → k < buffer → has (held past id) (addressIn past id + k * sizeIn past id) ≡ true
+  pub longest : (k : ℕ) → k < buffersIn past id → has (held past id) (addressIn past id + k * sizeIn past id) ≡ false → (k ≡ buffer → ⊥)
+      → freeLonger past id v (addressIn past id + k * sizeIn past id) ≡ true
 
--- What a get answers: "the lowest free buffer", an address that is held of no pool.
+-- What a get answers: "the buffer that has been free longest", an address that is held of no pool.
 pub record GetTold (past : List Turn) (id v : ℕ) : Type 0 where
-  pub lowest : LowestFree past id v
+  pub first : LongestFree past id v
   pub unheld : (jd : ℕ) → has (held past jd) v ≡ false

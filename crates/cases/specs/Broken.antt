@@ -1,10 +1,10 @@
 -- "A state that breaks a listed rule gets BAD_STATE": a good state, and for each sentence of 'Rules of a state', and each part that
 -- a sentence names, the good one with one change that breaks it. To add a state, add a row.
 -- Assumes nothing.
-use Prim.Native.Nat.{ℕ, zero, suc, _+_}
+use Prim.Native.Nat.{ℕ, zero, suc, _+_, _*_}
 use mathlib.Core.Bool.{Bool, true, false, not, _&&_}
 use mathlib.Core.List.{List, [], _∷_, _++_}
-use lib.ListN.{set, replicate}
+use lib.ListN.{set, drop, replicate}
 use lib.Dec.{eqb}
 use Rattle.scope.specs.declared.State.{State}
 use Rattle.scope.specs.declared.Answer.{Answer}
@@ -18,7 +18,8 @@ use Rattle.scope.specs.Answers.{noWakes}
 use Rattle.scope.specs.Waiting.{FOREVER}
 use Rattle.scope.specs.Statuses.{OK, BAD-STATE}
 use Rattle.scope.specs.Objects.{objectsOf}
-use Rattle.scope.specs.Rules.{seatsRight, ringsRight, readyOrderRight, waitsRight, queuesSorted, countsRight, startsRight, tasksRight, semsRight, poolsRight, poolsApart, runningRight}
+use Rattle.scope.specs.Rules.{seatsRight, ringsRight, readyOrderRight, waitsRight, queuesSorted, countsRight, startsRight, tasksRight, semsRight, poolsRight, ordersRight, poolsApart, runningRight}
+use Rattle.scope.specs.Places.{newRow}
 use Rattle.scope.specs.Step.{stepped}
 use Rattle.cases.specs.Cases.{same}
 
@@ -55,7 +56,8 @@ goodSemaphores =
       fifo = false ∷ true ∷ replicate 14 false;
     }
 
--- pool 0 has three buffers, the first and the last of them out; pool 1 has 64 and begins where pool 0 ends; 2 is deleted
+-- pool 0 has three buffers, the first and the last of them out; pool 1 has 64, all free, the second of them the longest, and begins
+-- where pool 0 ends; 2 is deleted
 abbrev goodPools : Pools
 goodPools =
     record {
@@ -67,6 +69,7 @@ goodPools =
       serial = 1 ∷ 1 ∷ 1 ∷ replicate 5 0;
       live = true ∷ true ∷ replicate 6 false;
       forced = false ∷ true ∷ replicate 6 false;
+      place = 0 ∷ 1 ∷ replicate 62 0 ++ (2 ∷ 1 ∷ drop 2 (newRow 64) ++ replicate 384 0);
     }
 
 abbrev pub good : State
@@ -189,6 +192,7 @@ poolsWith meant i x b =
       serial = numbers meant i x 5 (goodPools .serial);
       live = marks meant i b 6 (goodPools .live);
       forced = marks meant i b 7 (goodPools .forced);
+      place = numbers meant i x 8 (goodPools .place);
     })
 
 abbrev marked : ℕ → ℕ → State
@@ -211,6 +215,10 @@ poolSerial i x = poolsWith 5 i x false
 
 abbrev forced : ℕ → Bool → State
 forced i b = poolsWith 7 i 0 b
+
+-- of the place of its buffer k
+abbrev placed : ℕ → ℕ → ℕ → State
+placed i k x = poolsWith 8 (i * 64 + k) x false
 
 -- a rule, and states that break it
 pub record Broken : Type 0 where
@@ -258,6 +266,11 @@ broken =
     ∷ breaks (λ s. poolsRight (s .pools))
     (poolSerial 1 0 ∷ marked 2 1 ∷ poolName 2 1 ∷ address 2 1 ∷ long 2 1 ∷ size 2 1 ∷ forced 2 true
     ∷ long 0 0 ∷ address 1 4294967233 ∷ size 0 0 ∷ size 0 101 ∷ long 1 65 ∷ marked 0 8 ∷ [])
+    -- M-103, "The order of free buffers joins the state, each free buffer once": a free buffer is missing, a buffer out is in it;
+    -- two are on one place, one is past their number; a mark and a place disagree; a buffer past the pool's number and one of
+    -- a slot without a pool have a place
+    ∷ breaks (λ s. ordersRight (s .pools))
+    (placed 0 1 0 ∷ placed 0 0 2 ∷ placed 1 5 5 ∷ placed 1 63 65 ∷ marked 0 4 ∷ marked 0 7 ∷ placed 0 3 2 ∷ placed 2 0 1 ∷ [])
     -- "no two live pools share a byte": the last one of pool 0
     ∷ breaks (λ s. poolsApart (s .pools)) (address 1 4195 ∷ [])
     -- "The ready order lists ready tasks; its first runs": another is kept as running, or none
@@ -285,7 +298,8 @@ sameState s r =
     && (same (s .pools .name) (r .pools .name) && (same (s .pools .address) (r .pools .address)
     && (same (s .pools .length) (r .pools .length) && (same (s .pools .size) (r .pools .size)
     && (same (s .pools .serial) (r .pools .serial) && (sameMarks (s .pools .live) (r .pools .live)
-    && (sameMarks (s .pools .forced) (r .pools .forced) && eqb (s .running) (r .running)))))))))))))))))))))))
+    && (sameMarks (s .pools .forced) (r .pools .forced) && (same (s .pools .place) (r .pools .place)
+    && eqb (s .running) (r .running))))))))))))))))))))))))
 
 -- BAD_STATE: "four zero values, an empty wake list, and the given state back; its running task is .. 0 with BAD_STATE"
 abbrev pub isRefusal : State → Answer → Bool

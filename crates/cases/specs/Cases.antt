@@ -1,4 +1,4 @@
--- The cases that document 01 marks P, and one of M-101: a script's first priority and its records, and the whole listing. To add a case, add a row.
+-- The cases that document 01 marks P, one of M-101 and one of M-103: a script's first priority and its records, and the whole listing. To add a case, add a row.
 -- Assumes nothing.
 use Prim.Native.Nat.{ℕ, zero, suc, _+_, _*_, _/_, _%_}
 use Prim.Native.Char.{code}
@@ -81,6 +81,12 @@ cases =
     (call 8 (7 ∷ 0 ∷ 0 ∷ []) ∷ call 1 (9 ∷ 8 ∷ []) ∷ call 4 (65 ∷ []) ∷ call 11 (64 ∷ 0 ∷ 3 ∷ []) ∷ interrupt 0 []
     ∷ call 5 (65 ∷ []) ∷ interrupt 0 [] ∷ call 13 (64 ∷ []) ∷ interrupt 0 [] ∷ call 13 (64 ∷ []) ∷ call 6 (65 ∷ []) ∷ [])
     "1 0 64 0 0 0 64\n2 0 65 0 0 0 64\n3 0 0 0 0 0 65\n4 1 0 0 0 0 64\n5 0 0 0 0 0 64\n6 0 0 0 0 0 64\n7 0 0 0 0 0 64\n8 0 0 -1 1 0 64\n9 0 0 0 0 0 64 65:13\n10 0 0 0 0 0 64\n11 0 0 0 0 0 65\n"
+    -- M-103: "pool_get_buff now gives the buffer that has been free longest; in a new pool, ascending addresses": 4,096 comes back and
+    -- is given after 4,128 and 4,160, which were never given before; then 4,160 and 4,128 are given in the order of their return
+    ∷ case 5
+    (call 14 (1 ∷ 4096 ∷ 100 ∷ 32 ∷ 0 ∷ []) ∷ call 17 (64 ∷ []) ∷ call 18 (64 ∷ 4096 ∷ []) ∷ call 17 (64 ∷ []) ∷ call 17 (64 ∷ [])
+    ∷ call 17 (64 ∷ []) ∷ call 18 (64 ∷ 4160 ∷ []) ∷ call 18 (64 ∷ 4128 ∷ []) ∷ call 17 (64 ∷ []) ∷ call 17 (64 ∷ []) ∷ [])
+    "1 0 64 0 0 0 64\n2 0 4096 0 0 0 64\n3 0 0 0 0 0 64\n4 0 4128 0 0 0 64\n5 0 4160 0 0 0 64\n6 0 4096 0 0 0 64\n7 0 0 0 0 0 64\n8 0 0 0 0 0 64\n9 0 4160 0 0 0 64\n10 0 4128 0 0 0 64\n"
     ∷ []
 
 -- a number's four bytes, least first

@@ -230,6 +230,7 @@ fn pool_call(
     serial: &mut [u16; 8],
     live: &mut [bool; 8],
     forced: &mut [bool; 8],
+    place: &mut [u8; 512],
     running: usize,
     call: u32,
     a: u32,
@@ -240,9 +241,9 @@ fn pool_call(
 ) -> Outcome
     requires { ⌜ (14 ≤ call) × (call < knownCalls) ⌝ }
     ensures { λ r. ⌜ ((s : State) → answerOf (lentPools s (now (out .exit)) (now (name .exit)) (now (address .exit)) (now (length .exit))
-        (now (size .exit)) (now (serial .exit)) (now (live .exit)) (now (forced .exit)) running) noWakes r
+        (now (size .exit)) (now (serial .exit)) (now (live .exit)) (now (forced .exit)) (now (place .exit)) running) noWakes r
         ≡ callAt call .does (lentPools s (now (out .entry)) (now (name .entry)) (now (address .entry)) (now (length .entry))
-        (now (size .entry)) (now (serial .entry)) (now (live .entry)) (now (forced .entry)) running) a b c d e) ⌝ }
+        (now (size .entry)) (now (serial .entry)) (now (live .entry)) (now (forced .entry)) (now (place .entry)) running) a b c d e) ⌝ }
 {
     match call {
         14 => pools::pool_create(
@@ -254,6 +255,7 @@ fn pool_call(
             serial,
             live,
             forced,
+            place,
             running,
             a,
             b,
@@ -270,12 +272,24 @@ fn pool_call(
             serial,
             live,
             forced,
+            place,
             running,
             a,
         ),
         16 => pools::pool_ident(name, serial, live, running, a),
-        17 => pools::pool_get_buff(out, address, length, size, serial, live, running, a),
-        18 => pools::pool_ret_buff(out, address, length, size, serial, live, running, a, b),
+        17 => pools::pool_get_buff(out, address, length, size, serial, live, place, running, a),
+        18 => pools::pool_ret_buff(
+            out,
+            address,
+            length,
+            size,
+            serial,
+            live,
+            place,
+            running,
+            a,
+            b,
+        ),
         _ => pools::pool_info(out, length, size, serial, live, forced, running, a),
     }
 }
@@ -414,15 +428,16 @@ pub fn pool_part(
     serial: &mut [u16; 8],
     live: &mut [bool; 8],
     forced: &mut [bool; 8],
+    place: &mut [u8; 512],
     wakes: &mut [u32; 32],
     running: usize,
     x: Asked,
 ) -> Outcome
     requires { ⌜ 14 ≤ x .call ⌝ }
     ensures { λ r. ⌜ ((s : State) → answerOf (lentPools s (now (out .exit)) (now (name .exit)) (now (address .exit)) (now (length .exit))
-        (now (size .exit)) (now (serial .exit)) (now (live .exit)) (now (forced .exit)) running) (now (wakes .exit)) r
+        (now (size .exit)) (now (serial .exit)) (now (live .exit)) (now (forced .exit)) (now (place .exit)) running) (now (wakes .exit)) r
         ≡ answered (lentPools s (now (out .entry)) (now (name .entry)) (now (address .entry)) (now (length .entry)) (now (size .entry))
-        (now (serial .entry)) (now (live .entry)) (now (forced .entry)) running) (x .call) (x .mark) (x .a) (x .b) (x .c) (x .d) (x .e)) ⌝ }
+        (now (serial .entry)) (now (live .entry)) (now (forced .entry)) (now (place .entry)) running) (x .call) (x .mark) (x .a) (x .b) (x .c) (x .d) (x .e)) ⌝ }
 {
     *wakes = [0; 32];
     let refusal = caller_refusal(x.call, x.mark, running);
@@ -438,6 +453,7 @@ pub fn pool_part(
         serial,
         live,
         forced,
+        place,
         running,
         x.call,
         x.a,

@@ -22,7 +22,8 @@ use Rattle.scope.specs.declared.Found.the-variants.{At, Deleted, Invalid}
 use Rattle.scope.specs.Choice.{pick}
 use Rattle.scope.specs.Statuses.{OK, PENDING, INVALID-ID, OBJECT-DELETED, BAD-CALL}
 use Rattle.scope.specs.Identifiers.{identifier, lowestUsable}
-use Rattle.scope.specs.Areas.{isArea, isSize, isOut, lowestFree, bufferAddress, bufferAt}
+use Rattle.scope.specs.Areas.{isArea, isSize, isOut, isFree, bufferAddress, bufferAt}
+use Rattle.scope.specs.Places.{longestFree, firstLeaves, joinsLast}
 use Rattle.scope.specs.Seats.{queueSeats, firstOf, leaves, becomesReady, waitsOn, ringsLeft, ringsReady}
 use Rattle.scope.specs.Views.{withLine, withTasks, withSemaphores, withPools, withSeats, withWait, isReady}
 use Rattle.scope.specs.Answers.{answer, plain, gives, badState, wakesWith, onFound}
@@ -31,7 +32,7 @@ use Rattle.scope.specs.Tasks.{taskCreateAt, taskCreate, taskDeleteAt, taskDelet
 use Rattle.scope.specs.Waiting.{isTimeOut, wakeNext, noneWoken, waits}
 use Rattle.scope.specs.Semaphores.{lastCount, lastOption, semFound, semBorn, withUnits}
 use Rattle.scope.specs.Semaphores.{semCreateAt, semCreate, semDeleteAt, semDelete, semIdentAt, semIdent, semWaitAt, semClaimAt, semClaim, semReleaseAt, semRelease, semInfoAt, semInfo}
-use Rattle.scope.specs.Pools.{poolFound, poolBuffers, overlapped, poolBorn, poolGone, withOut}
+use Rattle.scope.specs.Pools.{poolFound, poolBuffers, poolRow, overlapped, poolBorn, poolGone, withOut}
 use Rattle.scope.specs.Pools.{poolCreateAt, poolCreate, poolDeleteAt, poolDelete, poolIdentAt, poolIdent, poolGetBuffer, poolGetBuffAt, poolGetBuff, poolRetBuffer, poolRetBuffAt, poolRetBuff, poolInfoAt, poolInfo}
 use Rattle.scope.specs.Ticks.{tick}
 use Rattle.scope.specs.Calls.{Call, knownCalls, calls, callAt}
@@ -54,7 +55,7 @@ newPool s = lowestUsable (s .pools .serial) (s .pools .live)
 
 -- the buffer that a get gives, and the one that a return's address names
 abbrev pub freeBuffer : State → ℕ → ℕ
-freeBuffer s i = lowestFree (getD (s .pools .out) i 0) (poolBuffers (s .pools) i)
+freeBuffer s i = longestFree (poolRow (s .pools) i)
 
 abbrev pub namedBuffer : State → ℕ → ℕ → ℕ
 namedBuffer s i address = bufferAt (getD (s .pools .address) i 0) (getD (s .pools .size) i 0) (poolBuffers (s .pools) i) address
@@ -115,12 +116,14 @@ pub data PoolChange (s : State) (x : Event) : Pools → ℕ → Type 0 where
       (identifier (getD (s .pools .serial) (newPool s) 0 + 1) (newPool s))
   pool-deleted : x .call ≡ 15 → (i : ℕ) → poolFound s (x .a) ≡ At i
       → (not (getD (s .pools .forced) i false) && ltb 0 (getD (s .pools .out) i 0)) ≡ false → PoolChange s x (poolGone (s .pools) i) 0
-  buffer-got : x .call ≡ 17 → (i : ℕ) → poolFound s (x .a) ≡ At i → leb (poolBuffers (s .pools) i) (freeBuffer s i) ≡ false
-      → PoolChange s x (withOut (s .pools) i (getD (s .pools .out) i 0 + 2 ^ freeBuffer s i))
+  buffer-got : x .call ≡ 17 → (i : ℕ) → poolFound s (x .a) ≡ At i
+      → not (ltb (freeBuffer s i) (poolBuffers (s .pools) i) && isFree (getD (s .pools .out) i 0) (freeBuffer s i)) ≡ false
+      → PoolChange s x (withOut (s .pools) i (getD (s .pools .out) i 0 + 2 ^ freeBuffer s i) (firstLeaves (poolRow (s .pools) i)))
       (bufferAddress (getD (s .pools .address) i 0) (getD (s .pools .size) i 0) (freeBuffer s i))
   buffer-returned : x .call ≡ 18 → (i : ℕ) → poolFound s (x .a) ≡ At i
       → not (ltb (namedBuffer s i (x .b)) 64 && isOut (getD (s .pools .out) i 0) (namedBuffer s i (x .b))) ≡ false
-      → PoolChange s x (withOut (s .pools) i (getD (s .pools .out) i 0 - 2 ^ namedBuffer s i (x .b))) 0
+      → PoolChange s x
+      (withOut (s .pools) i (getD (s .pools .out) i 0 - 2 ^ namedBuffer s i (x .b)) (joinsLast (poolRow (s .pools) i) (namedBuffer s i (x .b)))) 0
 
 -- the answer to x
 pub data Deed (s : State) (x : Event) : Answer → Type 0 where

@@ -7,10 +7,11 @@ use native.Mathlib.Omega.{arith}
 use native.Mathlib.Nat.{zero-div}
 use mathlib.Core.Path.{_≡_, refl, sym, ap, _∙_}
 use mathlib.Core.Bool.{true, false, not, _&&_}
+use mathlib.Core.List.{List}
 use lib.ListN.{length, getD}
 use lib.Seq.{getD-set-same, getD-set-other}
 use lib.Dec.{ltb, eqb}
-use borrow.Author.Tests.{leb-false, ne-eqb, not-false}
+use borrow.Author.Tests.{ltb-true, leb-false, ne-eqb, not-false}
 use Rattle.scope.specs.declared.State.{State}
 use Rattle.scope.specs.declared.Answer.{Answer}
 use Rattle.scope.specs.declared.Pools.{Pools}
@@ -18,15 +19,15 @@ use Rattle.scope.specs.declared.Found.the-variants.{At}
 use Rattle.scope.specs.Choice.{pick, number}
 use Rattle.scope.specs.Statuses.{OK}
 use Rattle.scope.specs.Identifiers.{identifier}
-use Rattle.scope.specs.Areas.{bufferAddress, isOut, isFree, lowestFree}
+use Rattle.scope.specs.Areas.{bufferAddress, isOut, isFree}
+use Rattle.scope.specs.Places.{firstLeaves, joinsLast}
 use Rattle.scope.specs.Views.{withPools}
 use Rattle.scope.specs.Ticks.{tick}
 use Rattle.scope.specs.Semaphores.{semDeleteAt}
 use Rattle.scope.specs.Answers.{wakesWith, answer, plain, badState}
-use Rattle.scope.specs.Pools.{poolFound, poolBuffers, poolBorn, poolGone, withOut}
+use Rattle.scope.specs.Pools.{poolFound, poolBuffers, poolRow, poolBorn, poolGone, withOut}
 use Rattle.laws.proofs.Arrays.{cleared}
 use Rattle.laws.proofs.Branches.{both-true, picked-yes, picked-no}
-use Rattle.laws.proofs.Searches.{least-true}
 use Rattle.tables.proofs.Laws.{found-names, usable-at, usable-free}
 pub use Rattle.scope.proofs.Marks.{free-or-out}
 use Rattle.areas.proofs.Marks.{out-below, take-free, back-free}
@@ -77,9 +78,9 @@ unfolding buffersOut
 buffers-same p q j a b c = rw (a, b, c)
 
 -- other marks
-marks-here : (p : Pools) (i out : ℕ) → i < length (p .out) → buffersOut (withOut p i out) i ≡ number (isOut out) (poolBuffers p i)
+marks-here : (p : Pools) (i out : ℕ) (row : List ℕ) → i < length (p .out) → buffersOut (withOut p i out row) i ≡ number (isOut out) (poolBuffers p i)
 unfolding buffersOut
-marks-here p i out h = rw (getD-set-same (p .out) i out 0 h)
+marks-here p i out row h = rw (getD-set-same (p .out) i out 0 h)
 
 -- the pools' account: their buffers out
 abbrev pub poolAccount : Account
@@ -120,23 +121,24 @@ module _ (s : State) (ok : Sound s) (x : Event) where
   slot id i e = omega (arith, found-names (s .pools .serial) (s .pools .live) id e .below, ok .pools .sized .serials)
 
   -- the marks of the pool that is named change
-  changed : (i : ℕ) → poolFound s (x .a) ≡ At i → (marks : ℕ) (a : Answer) → (x .call ≡ 14 → ⊥) → a .state .pools ≡ withOut (s .pools) i marks
+  changed : (i : ℕ) → poolFound s (x .a) ≡ At i → (marks : ℕ) (row : List ℕ) (a : Answer) → (x .call ≡ 14 → ⊥)
+      → a .state .pools ≡ withOut (s .pools) i marks row
       → number (isOut marks) (poolBuffers (s .pools) i) + returns (x .a) x a ≡ buffersOut (s .pools) i + gets (x .a) x a → Fair a
-  changed i names marks a create d e =
+  changed i names marks row a create d e =
       enters-one poolAccount s x a (x .a) i names (ap (λ (p : Pools). p .serial) d) (ap (λ (p : Pools). p .live) d)
       (omega (
         arith,
         e,
         ap (λ (p : Pools). buffersOut p i) d,
-        marks-here (s .pools) i marks (omega (arith, slot (x .a) i names, ok .pools .sized .outs)),
+        marks-here (s .pools) i marks row (omega (arith, slot (x .a) i names, ok .pools .sized .outs)),
       ))
       (λ j ne. ap (λ (p : Pools). buffersOut p j) d
-      ∙ buffers-same (s .pools) (withOut (s .pools) i marks) j (getD-set-other (s .pools .out) i j marks 0 ne) refl refl)
+      ∙ buffers-same (s .pools) (withOut (s .pools) i marks row) j (getD-set-other (s .pools .out) i j marks 0 ne) refl refl)
       (λ id ne. uncounted id x a (by-other 17 id x a (λ z. ne (sym z))) (by-other 18 id x a (λ z. ne (sym z))))
       (other-call poolAccount s x a create)
 
   pool-fair : {p : Pools} {v : ℕ} → PoolChange s x p v → Fair (answer (withPools s p) OK v 0 0 0 false)
-  unfolding answer buffersOut lowestFree
+  unfolding answer buffersOut
   pool-fair (pool-created at e f g h j) =
       let i : ℕ = newPool s in
       let room : i < 8 = leb-false 8 i h in
@@ -156,22 +158,24 @@ module _ (s : State) (ok : Sound s) (x : Event) where
   pool-fair (buffer-got at i e f) =
       let out : ℕ = getD (s .pools .out) i 0 in
       let n : ℕ = poolBuffers (s .pools) i in
-      let h : freeBuffer s i < n = leb-false n (freeBuffer s i) f in
-      let a : Answer = answer (withPools s (withOut (s .pools) i (out + 2 ^ freeBuffer s i))) OK
-      (bufferAddress (getD (s .pools .address) i 0) (getD (s .pools .size) i 0) (freeBuffer s i)) 0 0 0 false in
+      let k : ℕ = freeBuffer s i in
+      let b = both-true (ltb k n) (isFree out k) (not-false (ltb k n && isFree out k) f) in
+      let row : List ℕ = firstLeaves (poolRow (s .pools) i) in
+      let a : Answer = answer (withPools s (withOut (s .pools) i (out + 2 ^ k) row)) OK
+      (bufferAddress (getD (s .pools .address) i 0) (getD (s .pools .size) i 0) k) 0 0 0 false in
       let c : (gets (x .a) x a ≡ 1) × (returns (x .a) x a ≡ 0) = got (x .a) x a at refl refl in
-      changed i e (out + 2 ^ freeBuffer s i) a (λ z. omega arith) refl
-      (omega (arith, c .0, c .1, taken out (freeBuffer s i) n (least-true (isFree out) n h) h))
+      changed i e (out + 2 ^ k) row a (λ z. omega arith) refl (omega (arith, c .0, c .1, taken out k n (b .1) (ltb-true k n (b .0))))
   pool-fair (buffer-returned at i e f) =
       let out : ℕ = getD (s .pools .out) i 0 in
       let n : ℕ = poolBuffers (s .pools) i in
       let b : ℕ = namedBuffer s i (x .b) in
-      let a : Answer = answer (withPools s (withOut (s .pools) i (out - 2 ^ b))) OK 0 0 0 0 false in
+      let row : List ℕ = joinsLast (poolRow (s .pools) i) b in
+      let a : Answer = answer (withPools s (withOut (s .pools) i (out - 2 ^ b) row)) OK 0 0 0 0 false in
       let c : (gets (x .a) x a ≡ 0) × (returns (x .a) x a ≡ 1) = returned (x .a) x a at refl refl in
       let set : isOut out b ≡ true = both-true (ltb b 64) _ (not-false (ltb b 64 && isOut out b) f) .1 in
       let alive : getD (s .pools .live) i false ≡ true = found-names (s .pools .serial) (s .pools .live) (x .a) e .alive in
       let h : b < n = out-below _ b _ set (row-says (s .pools) (ok .pools) i (slot (x .a) i e) alive .2) in
-      changed i e (out - 2 ^ b) a (λ z. omega arith) refl (omega (arith, c .0, c .1, given-back out b n set h))
+      changed i e (out - 2 ^ b) row a (λ z. omega arith) refl (omega (arith, c .0, c .1, given-back out b n set h))
 
   deed-fair : {a : Answer} → Deed s x a → Fair a
   unfolding plain answer wakesWith semDeleteAt tick

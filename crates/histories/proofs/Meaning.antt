@@ -16,11 +16,15 @@ use Rattle.scope.specs.declared.Semaphores.{Semaphores}
 use Rattle.scope.specs.Seats.{queueSeats, waitsOn, queueOf, standing, ringMask, maskOf}
 use Rattle.scope.specs.Views.{readyWith, waitersOf, count}
 use Rattle.scope.specs.Objects.{objectsEnd, Objects, objectsOf}
-use Rattle.scope.specs.Rules.{seatsRight, ringsRight, readyRight, readyOrderRight, waitRight, waitsRight, joinedRight, queuesSorted, countRight, countsRight, startRight, startsRight, taskRight, tasksRight, semRight, semsRight, poolRight, poolsRight, poolsApart, runningRight, orderRules, tableRules, keeps, sound}
+use Rattle.scope.specs.Rules.{seatsRight, ringsRight, readyRight, readyOrderRight, waitRight, waitsRight, joinedRight, queuesSorted, countRight, countsRight, startRight, startsRight, taskRight, tasksRight, semRight, semsRight, poolRight, poolsRight, orderRight, ordersRight, poolsApart, runningRight, orderRules, tableRules, keeps, sound}
 use Rattle.scope.proofs.Counts.{right-says, says-right}
 use Rattle.laws.proofs.Branches.{both, both-true, first-fails, second-fails, not-of-true, not-of-false, true-false, true-or-false, lt-or-le}
 use Rattle.laws.proofs.Searches.{every-yes, every-at}
 use Rattle.laws.proofs.Arrays.{inside}
+use Rattle.scope.specs.Pools.{poolBuffers, poolRow}
+use Rattle.scope.proofs.Buffers.{buffers-few}
+use Rattle.scope.proofs.Places.{length-row}
+use Rattle.places.proofs.Orders.{order-says, order-right}
 use Rattle.seats.specs.Rule.{In, Sorted, Queues}
 use Rattle.seats.proofs.Rule.{queues-from-rule, rule-from-queues}
 use Rattle.seats.proofs.Sorting.{steps-from-sorted, sorted-from-steps}
@@ -340,11 +344,17 @@ module _ (s : State) (sized : Sized s) (orders : keeps orderRules s ≡ true) (t
       }
 
   says-pools : PoolsSound (s .pools)
-  unfolding poolsRight
+  unfolding poolsRight ordersRight
   says-pools =
       record {
         sized = sized .pools;
         each = every-at (poolRight (s .pools)) 8 (table-rule (λ x. poolsRight (x .pools)) (search rows depth 12));
+        orders = λ i h.
+            order-says (poolRow (s .pools) i) (getD (s .pools .out) i 0) (poolBuffers (s .pools) i)
+            (length-row (s .pools .place) i (omega (arith, sized .pools .places)))
+            (buffers-few (getD (s .pools .length) i 0) (getD (s .pools .size) i 0))
+            (every-at (λ j. orderRight (poolRow (s .pools) j) (getD (s .pools .out) j 0) (poolBuffers (s .pools) j)) 8
+            (table-rule (λ x. ordersRight (x .pools)) (search rows depth 12)) i h);
         apart = table-rule (λ x. poolsApart (x .pools)) (search rows depth 12);
       }
 
@@ -379,14 +389,15 @@ module _ (s : State) (h : Sound s) where
       none))))))))
 
   tables-right : keeps tableRules s ≡ true
-  unfolding tasksRight semsRight poolsRight
+  unfolding tasksRight semsRight poolsRight ordersRight
   tables-right =
       each-keeps tableRules s
       (more (every-yes _ 32 (λ t l. task-right (s .tasks) t (h .tasks .each t l)))
       (more (every-yes _ 16 (λ i l. sem-right (s .semaphores) i (h .semaphores .each i l)))
       (more (every-yes _ 8 (h .pools .each))
+      (more (every-yes _ 8 (λ i l. order-right (h .pools .orders i l)))
       (more (h .pools .apart)
-      none))))
+      none)))))
 
   pub sound-right : sound s ≡ true
   sound-right = keeps-sound s orders-right tables-right

@@ -15,7 +15,9 @@ use Rattle.scope.specs.declared.Pools.{Pools}
 use Rattle.scope.specs.Seats.{queueSeats, ringSeats, standing, ringMask, maskOf, runnerOf}
 use Rattle.scope.specs.Objects.{objectsEnd, Objects, objectsOf}
 use Rattle.scope.specs.Waiting.{isTimeOut}
+use Rattle.scope.specs.Pools.{poolBuffers, poolRow}
 use Rattle.scope.specs.Rules.{poolRight, poolsApart}
+use Rattle.places.specs.Order.{Ordered}
 use Rattle.seats.specs.Rule.{In, Sorted, Queues}
 
 -- The arrays have the sizes that document 01's room sets: true of every state that the code can hold.
@@ -49,6 +51,7 @@ pub record PoolsSized (p : Pools) : Type 0 where
   pub serials : length (p .serial) ≡ 8
   pub lives : length (p .live) ≡ 8
   pub forceds : length (p .forced) ≡ 8
+  pub places : length (p .place) ≡ 512
 
 pub record Sized (s : State) : Type 0 where
   pub line : LineSized (s .line)
@@ -131,6 +134,7 @@ pub record SemsSound (m : Semaphores) : Type 0 where
 pub record PoolsSound (p : Pools) : Type 0 where
   pub sized : PoolsSized p
   pub each : (i : ℕ) → i < 8 → poolRight p i ≡ true
+  pub orders : (i : ℕ) → i < 8 → Ordered (poolRow p i) (getD (p .out) i 0) (poolBuffers p i)
   pub apart : poolsApart p ≡ true
 
 pub record Sound (s : State) : Type 0 where

@@ -81,6 +81,7 @@ fn no_pools() -> Pools
         serial: [0; 8],
         live: [false; 8],
         forced: [false; 8],
+        place: [0; 512],
     }
 }
 

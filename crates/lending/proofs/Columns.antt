@@ -97,16 +97,16 @@ abbrev pub csP : ℕ → List Col
 csP o = columns msP 0 (o + 712)
 
 abbrev pub XsP : Type 0
-XsP = List ℕ × (List ℕ × (List ℕ × (List ℕ × (List ℕ × (List ℕ × (List Bool × (List Bool × Unit {0})))))))
+XsP = List ℕ × (List ℕ × (List ℕ × (List ℕ × (List ℕ × (List ℕ × (List Bool × (List Bool × (List ℕ × Unit {0}))))))))
 
 abbrev pub heldP : Pools → XsP
-heldP x = (x .out, (x .name, (x .address, (x .length, (x .size, (x .serial, (x .live, (x .forced, tt))))))))
+heldP x = (x .out, (x .name, (x .address, (x .length, (x .size, (x .serial, (x .live, (x .forced, (x .place, tt)))))))))
 
 abbrev pub madeP : XsP → Pools
-madeP x = record { out = x .0; name = x .1 .0; address = x .1 .1 .0; length = x .1 .1 .1 .0; size = x .1 .1 .1 .1 .0; serial = x .1 .1 .1 .1 .1 .0; live = x .1 .1 .1 .1 .1 .1 .0; forced = x .1 .1 .1 .1 .1 .1 .1 .0 }
+madeP x = record { out = x .0; name = x .1 .0; address = x .1 .1 .0; length = x .1 .1 .1 .0; size = x .1 .1 .1 .1 .0; serial = x .1 .1 .1 .1 .1 .0; live = x .1 .1 .1 .1 .1 .1 .0; forced = x .1 .1 .1 .1 .1 .1 .1 .0; place = x .1 .1 .1 .1 .1 .1 .1 .1 .0 }
 
 pub isP : (x : Pools) → P.the-type .to x ≡ heldP x
-isP x = λ i. (same (x .out) i, (same (x .name) i, (same (x .address) i, (same (x .length) i, (same (x .size) i, (same (x .serial) i, (same (x .live) i, (same (x .forced) i, tt))))))))
+isP x = λ i. (same (x .out) i, (same (x .name) i, (same (x .address) i, (same (x .length) i, (same (x .size) i, (same (x .serial) i, (same (x .live) i, (same (x .forced) i, (same (x .place) i, tt)))))))))
 
 module _ {M : Type 1} (𝓤 : URA M) (H : Heap 𝓤) (A : Atoms 𝓤) (W : Given 𝓤 H A) (b o : ℕ) where
   abbrev pub Back : SProp 𝓤

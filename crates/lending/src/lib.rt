@@ -173,6 +173,7 @@ pub fn pool(
         &mut s.pools.serial,
         &mut s.pools.live,
         &mut s.pools.forced,
+        &mut s.pools.place,
         wakes,
         running,
         x,

@@ -13,3 +13,4 @@ pub mod Form
 pub mod Rings
 pub mod Ticks
 pub mod Still
+pub mod Orders

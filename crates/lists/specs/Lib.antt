@@ -2,3 +2,4 @@
 pub mod Along
 pub mod Rules
 pub mod Calls
+pub mod Orders

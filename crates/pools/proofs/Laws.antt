@@ -1,34 +1,23 @@
--- What the pool calls lean on: a pool has at most 64 buffers, and the lowest free one, where there is one, is free; a test of
--- what was found tells of what is to be found; and creation goes by what its first tests give.
+-- What the pool calls lean on: a pool has at most 64 buffers; a test of what was found tells of what is to be found; and creation
+-- goes by what its first tests give.
 -- Assumes nothing.
-use Prim.Native.Nat.{ℕ, _≤_, _<_, min, _/_}
+use Prim.Native.Nat.{ℕ, _≤_, _<_}
 use native.Mathlib.Omega.{arith}
-use mathlib.Core.Path.{_≡_, refl, ap, _∙_}
+use mathlib.Core.Path.{_≡_, ap, _∙_}
 use mathlib.Core.Bool.{Bool, true, false}
-use lib.Dec.{ltb, leb}
+use lib.Dec.{ltb}
 use borrow.Author.Tests.{lt-ltb, le-ltb}
 use Rattle.scope.specs.Choice.{pick}
-use Rattle.scope.specs.Areas.{buffersOf, isFree, lowestFree}
-use Rattle.laws.proofs.Branches.{picked-yes, picked-no}
-use Rattle.laws.proofs.Searches.{least-true}
+use Rattle.scope.specs.Areas.{buffersOf}
+use Rattle.scope.proofs.Buffers.{buffers-few}
 
--- the marks of a pool have a place for each of its buffers
-few : (long size : ℕ) → buffersOf long size ≤ 64
-unfolding buffersOf
-few long size = go (leb 1 size) refl
-  where
-    go : (b : Bool) → leb 1 size ≡ b → pick (leb 1 size) (min (long / size) 64) 0 ≤ 64
-    go true e = rw (picked-yes {A = ℕ} (leb 1 size) (min (long / size) 64) 0 e) (omega arith)
-    go false e = rw (picked-no {A = ℕ} (leb 1 size) (min (long / size) 64) 0 e) (omega arith)
-
+-- of n buffers, as many as the pool has, one that is below n has its mark
 module _ (long size : ℕ) {n : ℕ} (counted : n ≡ buffersOf long size) where
   pub marked : n ≤ 64
-  marked = omega (arith, few long size)
+  marked = omega (arith, buffers-few long size)
 
-  -- the lowest free buffer, where there is one, is free and has its mark
-  pub free-marked : (out : ℕ) {k : ℕ} → k ≡ lowestFree out n → k < n → (k < 64) × (isFree out k ≡ true)
-  unfolding lowestFree
-  free-marked out e h = (omega (arith, marked), rw e (least-true (isFree out) n (omega arith)))
+  pub has-mark : {k : ℕ} → k < n → k < 64
+  has-mark h = omega (arith, marked)
 
 -- k was found and o is to be found
 module _ {k o : ℕ} (n : ℕ) (finds : k ≡ o) where

@@ -45,6 +45,7 @@ fn create_at(
     serial: &mut [u16; 8],
     live: &mut [bool; 8],
     forced: &mut [bool; 8],
+    place: &mut [u8; 512],
     running: usize,
     name: u32,
     address: u32,
@@ -53,10 +54,10 @@ fn create_at(
     options: u32,
 ) -> Outcome
     ensures { λ r. ⌜ ((s : State) → answerOf (lentPools s (now (out .exit)) (now (names .exit)) (now (addresses .exit))
-        (now (lengths .exit)) (now (sizes .exit)) (now (serial .exit)) (now (live .exit)) (now (forced .exit)) running) noWakes r
+        (now (lengths .exit)) (now (sizes .exit)) (now (serial .exit)) (now (live .exit)) (now (forced .exit)) (now (place .exit)) running) noWakes r
         ≡ poolCreateAt (lentPools s (now (out .entry)) (now (names .entry)) (now (addresses .entry)) (now (lengths .entry))
         (now (sizes .entry)) (now (serial .entry)) (now (live .entry))
-        (now (forced .entry)) running) name address length size options (lowestUsable (now (serial .entry)) (now (live .entry)))) ⌝ }
+        (now (forced .entry)) (now (place .entry)) running) name address length size options (lowestUsable (now (serial .entry)) (now (live .entry)))) ⌝ }
 {
     let i = tables::lowest_usable(&*serial, &*live);
     if 8 <= i {
@@ -74,6 +75,8 @@ fn create_at(
     serial[i] = next;
     live[i] = true;
     forced[i] = options == 1;
+    let row = places::new_row(areas::buffers_of(length, size) as usize);
+    places::put_row(place, i, row);
     answers::gives(tables::identifier(next, i), running)
 }
 
@@ -86,6 +89,7 @@ pub fn pool_create(
     serial: &mut [u16; 8],
     live: &mut [bool; 8],
     forced: &mut [bool; 8],
+    place: &mut [u8; 512],
     running: usize,
     name: u32,
     address: u32,
@@ -94,9 +98,9 @@ pub fn pool_create(
     options: u32,
 ) -> Outcome
     ensures { λ r. ⌜ ((s : State) → answerOf (lentPools s (now (out .exit)) (now (names .exit)) (now (addresses .exit))
-        (now (lengths .exit)) (now (sizes .exit)) (now (serial .exit)) (now (live .exit)) (now (forced .exit)) running) noWakes r
+        (now (lengths .exit)) (now (sizes .exit)) (now (serial .exit)) (now (live .exit)) (now (forced .exit)) (now (place .exit)) running) noWakes r
         ≡ poolCreate (lentPools s (now (out .entry)) (now (names .entry)) (now (addresses .entry)) (now (lengths .entry))
-        (now (sizes .entry)) (now (serial .entry)) (now (live .entry)) (now (forced .entry)) running) name address length size options) ⌝ }
+        (now (sizes .entry)) (now (serial .entry)) (now (live .entry)) (now (forced .entry)) (now (place .entry)) running) name address length size options) ⌝ }
 {
     let status = refusal(address, length, size, options);
     if status != scope::OK {
@@ -111,6 +115,7 @@ pub fn pool_create(
         serial,
         live,
         forced,
+        place,
         running,
         name,
         address,
@@ -128,14 +133,15 @@ fn delete_at(
     size: &mut [u32; 8],
     live: &mut [bool; 8],
     forced: &mut [bool; 8],
+    place: &mut [u8; 512],
     running: usize,
     i: usize,
 ) -> Outcome
     requires { ⌜ i < 8 ⌝ }
     ensures { λ r. ⌜ ((s : State) (serial : List ℕ) → answerOf (lentPools s (now (out .exit)) (now (name .exit)) (now (address .exit))
-        (now (length .exit)) (now (size .exit)) serial (now (live .exit)) (now (forced .exit)) running) noWakes r
+        (now (length .exit)) (now (size .exit)) serial (now (live .exit)) (now (forced .exit)) (now (place .exit)) running) noWakes r
         ≡ poolDeleteAt (lentPools s (now (out .entry)) (now (name .entry)) (now (address .entry)) (now (length .entry))
-        (now (size .entry)) serial (now (live .entry)) (now (forced .entry)) running) i) ⌝ }
+        (now (size .entry)) serial (now (live .entry)) (now (forced .entry)) (now (place .entry)) running) i) ⌝ }
 {
     if !forced[i] {
         if 0 < out[i] {
@@ -149,6 +155,8 @@ fn delete_at(
     size[i] = 0;
     live[i] = false;
     forced[i] = false;
+    let row = [0u8; 64];
+    places::put_row(place, i, row);
     answers::plain(scope::OK, running)
 }
 
@@ -161,16 +169,28 @@ pub fn pool_delete(
     serial: &[u16; 8],
     live: &mut [bool; 8],
     forced: &mut [bool; 8],
+    place: &mut [u8; 512],
     running: usize,
     id: u32,
 ) -> Outcome
     ensures { λ r. ⌜ ((s : State) → answerOf (lentPools s (now (out .exit)) (now (name .exit)) (now (address .exit)) (now (length .exit))
-        (now (size .exit)) (now (serial .entry)) (now (live .exit)) (now (forced .exit)) running) noWakes r
+        (now (size .exit)) (now (serial .entry)) (now (live .exit)) (now (forced .exit)) (now (place .exit)) running) noWakes r
         ≡ poolDelete (lentPools s (now (out .entry)) (now (name .entry)) (now (address .entry)) (now (length .entry)) (now (size .entry))
-        (now (serial .entry)) (now (live .entry)) (now (forced .entry)) running) id) ⌝ }
+        (now (serial .entry)) (now (live .entry)) (now (forced .entry)) (now (place .entry)) running) id) ⌝ }
 {
     match tables::find(serial, &*live, id) {
-        Found::At(i) => delete_at(out, name, address, length, size, live, forced, running, i),
+        Found::At(i) => delete_at(
+            out,
+            name,
+            address,
+            length,
+            size,
+            live,
+            forced,
+            place,
+            running,
+            i,
+        ),
         Found::Deleted => answers::plain(scope::OBJECT_DELETED, running),
         Found::Invalid => answers::plain(scope::INVALID_ID, running),
     }
@@ -185,9 +205,9 @@ pub fn pool_ident<'a>(
 ) -> Outcome
     ensures { λ r. ⌜ ((s : State) → answerOf (lentPools s (s .pools .out)
         (now (names .entry)) (s .pools .address) (s .pools .length) (s .pools .size) (now (serial .entry))
-        (now (live .entry)) (s .pools .forced) running) noWakes r
+        (now (live .entry)) (s .pools .forced) (s .pools .place) running) noWakes r
         ≡ poolIdent (lentPools s (s .pools .out) (now (names .entry)) (s .pools .address) (s .pools .length) (s .pools .size)
-        (now (serial .entry)) (now (live .entry)) (s .pools .forced) running) name) ⌝ }
+        (now (serial .entry)) (now (live .entry)) (s .pools .forced) (s .pools .place) running) name) ⌝ }
 {
     let i = tables::by_name(live, names, name);
     if 8 <= i {
@@ -196,28 +216,36 @@ pub fn pool_ident<'a>(
     answers::gives(tables::identifier(serial[i], i), running)
 }
 
+// "pool_get_buff now gives the buffer that has been free longest" (M-103). A buffer on the first place that is out is given in no
+// state that keeps the rules.
 fn get_at(
     out: &mut [u64; 8],
     address: &[u32; 8],
     length: &[u32; 8],
     size: &[u32; 8],
+    place: &mut [u8; 512],
     running: usize,
     i: usize,
 ) -> Outcome
     requires { ⌜ i < 8 ⌝ }
     ensures { λ r. ⌜ ((s : State) (serial : List ℕ) (live : List Bool) → answerOf (lentPools s (now (out .exit)) (s .pools .name)
-        (now (address .entry)) (now (length .entry)) (now (size .entry)) serial live (s .pools .forced) running) noWakes r
+        (now (address .entry)) (now (length .entry)) (now (size .entry)) serial live (s .pools .forced) (now (place .exit)) running) noWakes r
         ≡ poolGetBuffAt (lentPools s (now (out .entry)) (s .pools .name) (now (address .entry)) (now (length .entry))
-        (now (size .entry)) serial live (s .pools .forced) running) i) ⌝ }
+        (now (size .entry)) serial live (s .pools .forced) (now (place .entry)) running) i) ⌝ }
 {
     let n = areas::buffers_of(length[i], size[i]);
     let marks = out[i];
-    let k = areas::lowest_free(marks, n);
+    let row = places::row_of(&*place, i);
+    let k = places::longest_free(row);
     if n <= k {
+        return answers::plain(scope::NO_MORE_MEMORY, running);
+    }
+    if areas::is_out(marks, k) {
         return answers::plain(scope::NO_MORE_MEMORY, running);
     }
     let at = areas::buffer_address(address[i], size[i], k);
     out[i] = areas::take(marks, k);
+    places::put_row(place, i, places::first_leaves(row));
     answers::gives(at, running)
 }
 
@@ -228,36 +256,38 @@ pub fn pool_get_buff<'a>(
     size: &[u32; 8],
     serial: &'a [u16; 8],
     live: &'a [bool; 8],
+    place: &mut [u8; 512],
     running: usize,
     id: u32,
 ) -> Outcome
     ensures { λ r. ⌜ ((s : State) → answerOf (lentPools s (now (out .exit)) (s .pools .name) (now (address .entry)) (now (length .entry))
-        (now (size .entry)) (now (serial .entry)) (now (live .entry)) (s .pools .forced) running) noWakes r
+        (now (size .entry)) (now (serial .entry)) (now (live .entry)) (s .pools .forced) (now (place .exit)) running) noWakes r
         ≡ poolGetBuff (lentPools s (now (out .entry)) (s .pools .name) (now (address .entry)) (now (length .entry)) (now (size .entry))
-        (now (serial .entry)) (now (live .entry)) (s .pools .forced) running) id) ⌝ }
+        (now (serial .entry)) (now (live .entry)) (s .pools .forced) (now (place .entry)) running) id) ⌝ }
 {
     match tables::find(serial, live, id) {
-        Found::At(i) => get_at(out, address, length, size, running, i),
+        Found::At(i) => get_at(out, address, length, size, place, running, i),
         Found::Deleted => answers::plain(scope::OBJECT_DELETED, running),
         Found::Invalid => answers::plain(scope::INVALID_ID, running),
     }
 }
 
-// "Any task may return a buffer."
+// "Any task may return a buffer." It joins the free ones at the end of their order.
 fn ret_at(
     out: &mut [u64; 8],
     address: &[u32; 8],
     length: &[u32; 8],
     size: &[u32; 8],
+    place: &mut [u8; 512],
     running: usize,
     x: u32,
     i: usize,
 ) -> Outcome
     requires { ⌜ i < 8 ⌝ }
     ensures { λ r. ⌜ ((s : State) (serial : List ℕ) (live : List Bool) → answerOf (lentPools s (now (out .exit)) (s .pools .name)
-        (now (address .entry)) (now (length .entry)) (now (size .entry)) serial live (s .pools .forced) running) noWakes r
+        (now (address .entry)) (now (length .entry)) (now (size .entry)) serial live (s .pools .forced) (now (place .exit)) running) noWakes r
         ≡ poolRetBuffAt (lentPools s (now (out .entry)) (s .pools .name) (now (address .entry)) (now (length .entry))
-        (now (size .entry)) serial live (s .pools .forced) running) x i) ⌝ }
+        (now (size .entry)) serial live (s .pools .forced) (now (place .entry)) running) x i) ⌝ }
 {
     let n = areas::buffers_of(length[i], size[i]);
     let marks = out[i];
@@ -265,6 +295,8 @@ fn ret_at(
     if k < 64 {
         if areas::is_out(marks, k) {
             out[i] = areas::give_back(marks, k);
+            let row = places::row_of(&*place, i);
+            places::put_row(place, i, places::join_last(row, k as usize));
             return answers::plain(scope::OK, running);
         }
     }
@@ -278,17 +310,18 @@ pub fn pool_ret_buff<'a>(
     size: &[u32; 8],
     serial: &'a [u16; 8],
     live: &'a [bool; 8],
+    place: &mut [u8; 512],
     running: usize,
     id: u32,
     x: u32,
 ) -> Outcome
     ensures { λ r. ⌜ ((s : State) → answerOf (lentPools s (now (out .exit)) (s .pools .name) (now (address .entry)) (now (length .entry))
-        (now (size .entry)) (now (serial .entry)) (now (live .entry)) (s .pools .forced) running) noWakes r
+        (now (size .entry)) (now (serial .entry)) (now (live .entry)) (s .pools .forced) (now (place .exit)) running) noWakes r
         ≡ poolRetBuff (lentPools s (now (out .entry)) (s .pools .name) (now (address .entry)) (now (length .entry)) (now (size .entry))
-        (now (serial .entry)) (now (live .entry)) (s .pools .forced) running) id x) ⌝ }
+        (now (serial .entry)) (now (live .entry)) (s .pools .forced) (now (place .entry)) running) id x) ⌝ }
 {
     match tables::find(serial, live, id) {
-        Found::At(i) => ret_at(out, address, length, size, running, x, i),
+        Found::At(i) => ret_at(out, address, length, size, place, running, x, i),
         Found::Deleted => answers::plain(scope::OBJECT_DELETED, running),
         Found::Invalid => answers::plain(scope::INVALID_ID, running),
     }
@@ -306,9 +339,9 @@ fn info_at(
     requires { ⌜ i < 8 ⌝ }
     ensures { λ r. ⌜ ((s : State) (serial : List ℕ) (live : List Bool) → answerOf (lentPools s
         (now (out .entry)) (s .pools .name) (s .pools .address) (now (length .entry)) (now (size .entry)) serial live
-        (now (forced .entry)) running) noWakes r
+        (now (forced .entry)) (s .pools .place) running) noWakes r
         ≡ poolInfoAt (lentPools s (now (out .entry)) (s .pools .name) (s .pools .address) (now (length .entry))
-        (now (size .entry)) serial live (now (forced .entry)) running) i) ⌝ }
+        (now (size .entry)) serial live (now (forced .entry)) (s .pools .place) running) i) ⌝ }
 {
     let n = areas::buffers_of(length[i], size[i]);
     let free = areas::free_of(out[i], n);
@@ -326,9 +359,9 @@ pub fn pool_info<'a>(
     id: u32,
 ) -> Outcome
     ensures { λ r. ⌜ ((s : State) → answerOf (lentPools s (now (out .entry)) (s .pools .name) (s .pools .address) (now (length .entry))
-        (now (size .entry)) (now (serial .entry)) (now (live .entry)) (now (forced .entry)) running) noWakes r
+        (now (size .entry)) (now (serial .entry)) (now (live .entry)) (now (forced .entry)) (s .pools .place) running) noWakes r
         ≡ poolInfo (lentPools s (now (out .entry)) (s .pools .name) (s .pools .address) (now (length .entry)) (now (size .entry))
-        (now (serial .entry)) (now (live .entry)) (now (forced .entry)) running) id) ⌝ }
+        (now (serial .entry)) (now (live .entry)) (now (forced .entry)) (s .pools .place) running) id) ⌝ }
 {
     match tables::find(serial, live, id) {
         Found::At(i) => info_at(out, length, size, forced, running, i),

@@ -15,7 +15,7 @@ ghost use Rattle.scope.specs.Choice.{pick, number};
 ghost use Rattle.scope.specs.Seats.{isOn, queueOf, onSeat, holdsTask, ringMask};
 ghost use Rattle.scope.specs.Views.{readyWith, less};
 ghost use Rattle.scope.specs.Rules.{seatRight, seatsRight, ringsRight, readyRight, readyOrderRight, waitRight, waitsRight, joinedRight, queuesSorted, countRight};
-ghost use Rattle.scope.specs.Rules.{countsRight, startRight, startsRight, tasksRight, semsRight, admitted, poolsRight, runningRight, sound};
+ghost use Rattle.scope.specs.Rules.{countsRight, startRight, startsRight, tasksRight, semsRight, admitted, poolsRight, ordersRight, runningRight, sound};
 
 // 1 where the two are equal, else 0.
 fn one_if(x: u16, y: u16) -> u16
@@ -427,6 +427,25 @@ fn pools_right(p: Pools) -> bool
     ok
 }
 
+// "The order of free buffers joins the state, each free buffer once" (M-103), of every pool.
+fn orders_right(p: Pools) -> bool
+    ensures { λ r. ⌜ r ≡ ordersRight p ⌝ }
+{
+    let out = p.out;
+    let long = p.length;
+    let size = p.size;
+    let place = p.place;
+    let mut ok = true;
+    let mut i: usize = 0;
+    while i < 8 {
+        let row = places::row_of(&place, i);
+        let right = places::order_right(row, out[i], areas::buffers_of(long[i], size[i]));
+        ok = right & ok;
+        i += 1;
+    }
+    ok
+}
+
 // The kept running task is the one that runs.
 fn running_right(s: State) -> bool
     ensures { λ r. ⌜ r ≡ runningRight s ⌝ }
@@ -459,5 +478,6 @@ pub fn is_sound(s: State) -> bool
         & tasks_right(k)
         & sems_right(m)
         & pools_right(p)
+        & orders_right(p)
         & areas::pools_apart(p)
 }

@@ -19,6 +19,15 @@ area-ends address length h = go (leb 1 length) h
     go true e = leb-true _ _ e
     go false e = let z : _≡_ {A = ℕ} 0 1 = cc in absurd (omega arith)
 
+-- a pool's marks and places have one for each of its buffers
+pub buffers-few : (length size : ℕ) → buffersOf length size ≤ 64
+unfolding buffersOf pick
+buffers-few length size = go (leb 1 size)
+  where
+    go : (b : Bool) → pick b (min (length / size) 64) 0 ≤ 64
+    go true = omega arith
+    go false = omega arith
+
 -- where there is a buffer there is a size
 some : (length size k : ℕ) → k < buffersOf length size → (1 ≤ size) × (k < length / size)
 unfolding buffersOf pick

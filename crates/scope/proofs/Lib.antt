@@ -7,6 +7,7 @@ pub mod Slots
 pub mod Times
 pub mod Grants
 pub mod Marks
+pub mod Places
 pub mod Buffers
 pub mod Gets
 pub mod Named

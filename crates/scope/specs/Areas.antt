@@ -3,7 +3,7 @@
 use Prim.Native.Nat.{ℕ, _+_, _-_, _*_, _/_, _%_, _^_, min}
 use mathlib.Core.Bool.{Bool, not, _&&_}
 use lib.Dec.{ltb, leb, eqb}
-use Rattle.scope.specs.Choice.{pick, least, number}
+use Rattle.scope.specs.Choice.{pick, number}
 
 -- one past the last address
 abbrev pub memory : ℕ
@@ -31,10 +31,6 @@ isOut out k = eqb (out / 2 ^ k % 2) 1
 
 unfoldable pub isFree : ℕ → ℕ → Bool
 isFree out k = not (isOut out k)
-
--- "the lowest free buffer" of n, n where there is none
-unfoldable pub lowestFree : ℕ → ℕ → ℕ
-lowestFree out n = least (isFree out) n
 
 -- how many of n buffers are free
 unfoldable pub freeOf : ℕ → ℕ → ℕ

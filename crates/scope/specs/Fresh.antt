@@ -52,6 +52,7 @@ noPools =
       serial = replicate 8 0;
       live = replicate 8 false;
       forced = replicate 8 false;
+      place = replicate 512 0;
     }
 
 unfoldable pub freshState : ℕ → State

@@ -9,6 +9,7 @@ pub mod Views
 pub mod Answers
 pub mod Replies
 pub mod Areas
+pub mod Places
 pub mod Tasks
 pub mod Waiting
 pub mod Semaphores

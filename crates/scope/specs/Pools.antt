@@ -2,6 +2,7 @@
 -- Assumes nothing.
 use Prim.Native.Nat.{ℕ, _+_, _-_, _^_}
 use mathlib.Core.Bool.{Bool, true, false, not, _&&_}
+use mathlib.Core.List.{List}
 use lib.ListN.{length, getD, set}
 use lib.Dec.{ltb, leb, eqb}
 use Rattle.scope.specs.declared.State.{State}
@@ -11,7 +12,8 @@ use Rattle.scope.specs.declared.Found.{Found}
 use Rattle.scope.specs.Choice.{pick, least}
 use Rattle.scope.specs.Identifiers.{identifier, found, lowestUsable, byName}
 use Rattle.scope.specs.Statuses.{OK, INVALID-PARAMETER, INVALID-OPTIONS, TOO-MANY-OBJECTS, NAME-NOT-FOUND, INVALID-BUFF-SIZE, POOL-OVERLAP, POOL-IN-USE, NO-MORE-MEMORY, INVALID-BUFF}
-use Rattle.scope.specs.Areas.{isArea, isSize, buffersOf, shareByte, isOut, lowestFree, freeOf, bufferAddress, bufferAt}
+use Rattle.scope.specs.Areas.{isArea, isSize, buffersOf, shareByte, isOut, isFree, freeOf, bufferAddress, bufferAt}
+use Rattle.scope.specs.Places.{rowOf, withRow, longestFree, firstLeaves, joinsLast, newRow, noRow}
 use Rattle.scope.specs.Semaphores.{lastOption}
 use Rattle.scope.specs.Views.{withPools}
 use Rattle.scope.specs.Answers.{bitOf, answer, plain, gives, onFound}
@@ -43,6 +45,7 @@ poolBorn p i name address length size forced =
       serial = set (p .serial) i (getD (p .serial) i 0 + 1);
       live = set (p .live) i true;
       forced = set (p .forced) i forced;
+      place = withRow (p .place) i (newRow (buffersOf length size));
     }
 
 abbrev pub poolGone : Pools → ℕ → Pools
@@ -56,10 +59,12 @@ poolGone p i =
       serial = p .serial;
       live = set (p .live) i false;
       forced = set (p .forced) i false;
+      place = withRow (p .place) i noRow;
     }
 
-abbrev pub withOut : Pools → ℕ → ℕ → Pools
-withOut p i out =
+-- pool i with other marks and another row of places
+abbrev pub withOut : Pools → ℕ → ℕ → List ℕ → Pools
+withOut p i out row =
     record {
       out = set (p .out) i out;
       name = p .name;
@@ -69,6 +74,7 @@ withOut p i out =
       serial = p .serial;
       live = p .live;
       forced = p .forced;
+      place = withRow (p .place) i row;
     }
 
 -- pool_create: 3, 14, 6, 7, 15
@@ -101,21 +107,26 @@ poolIdentAt s i =
 unfoldable pub poolIdent : State → ℕ → Answer
 poolIdent s name = poolIdentAt s (byName (s .pools .live) (s .pools .name) name)
 
--- "Get gives the lowest free buffer": buffer k of pool i, 17 where there is none
+-- the row of places of pool i
+abbrev pub poolRow : Pools → ℕ → List ℕ
+poolRow p i = rowOf (p .place) i
+
+-- buffer k of pool i leaves the order of the free ones; 17 where it is none of them
 unfoldable pub poolGetBuffer : State → ℕ → ℕ → Answer
 poolGetBuffer s i k =
-    pick (leb (poolBuffers (s .pools) i) k) (plain s NO-MORE-MEMORY)
-    (gives (withPools s (withOut (s .pools) i (getD (s .pools .out) i 0 + 2 ^ k)))
+    pick (not (ltb k (poolBuffers (s .pools) i) && isFree (getD (s .pools .out) i 0) k)) (plain s NO-MORE-MEMORY)
+    (gives (withPools s (withOut (s .pools) i (getD (s .pools .out) i 0 + 2 ^ k) (firstLeaves (poolRow (s .pools) i))))
     (bufferAddress (getD (s .pools .address) i 0) (getD (s .pools .size) i 0) k))
 
+-- "pool_get_buff now gives the buffer that has been free longest" (M-103)
 unfoldable pub poolGetBuffAt : State → ℕ → Answer
-poolGetBuffAt s i = poolGetBuffer s i (lowestFree (getD (s .pools .out) i 0) (poolBuffers (s .pools) i))
+poolGetBuffAt s i = poolGetBuffer s i (longestFree (poolRow (s .pools) i))
 
--- "Any task may return a buffer." "address not the start of a buffer out": 18
+-- "Any task may return a buffer." "address not the start of a buffer out": 18. What is returned has been free for the shortest time.
 unfoldable pub poolRetBuffer : State → ℕ → ℕ → Answer
 poolRetBuffer s i k =
     pick (not (ltb k 64 && isOut (getD (s .pools .out) i 0) k)) (plain s INVALID-BUFF)
-    (plain (withPools s (withOut (s .pools) i (getD (s .pools .out) i 0 - 2 ^ k))) OK)
+    (plain (withPools s (withOut (s .pools) i (getD (s .pools .out) i 0 - 2 ^ k) (joinsLast (poolRow (s .pools) i) k))) OK)
 
 unfoldable pub poolRetBuffAt : State → ℕ → ℕ → Answer
 poolRetBuffAt s x i =

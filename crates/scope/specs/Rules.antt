@@ -14,7 +14,9 @@ use Rattle.scope.specs.Choice.{pick, every, number}
 use Rattle.scope.specs.Seats.{ringSeats, firstRing, waitsOn, queueOf, isOn, onSeat, ringMask, maskOf, runnerOf}
 use Rattle.scope.specs.Objects.{objectsOf}
 use Rattle.scope.specs.Views.{readyWith, waitersOf, Signed, count}
-use Rattle.scope.specs.Areas.{isArea, isSize, buffersOf, shareByte}
+use Rattle.scope.specs.Areas.{isArea, isSize, buffersOf, shareByte, isFree, freeOf}
+use Rattle.scope.specs.Places.{onPlace}
+use Rattle.scope.specs.Pools.{poolBuffers, poolRow}
 use Rattle.scope.specs.Tasks.{lastPriority}
 use Rattle.scope.specs.Waiting.{isTimeOut}
 use Rattle.scope.specs.Semaphores.{lastCount}
@@ -120,6 +122,20 @@ poolRight p i =
 unfoldable pub poolsRight : Pools → Bool
 poolsRight p = every (poolRight p) 8
 
+-- "The order of free buffers joins the state, each free buffer once" (M-103): of n buffers, those that are free have the places 1 to
+-- their number, each one place of its own; all other places are zeros
+unfoldable pub placeRight : List ℕ → ℕ → ℕ → ℕ → Bool
+placeRight row out n k =
+    pick (ltb k n && isFree out k)
+    (leb 1 (getD row k 0) && (leb (getD row k 0) (freeOf out n) && eqb (onPlace row (getD row k 0)) k))
+    (eqb (getD row k 0) 0)
+
+unfoldable pub orderRight : List ℕ → ℕ → ℕ → Bool
+orderRight row out n = every (placeRight row out n) 64 && every (λ x. ltb (onPlace row (x + 1)) 64) (freeOf out n)
+
+unfoldable pub ordersRight : Pools → Bool
+ordersRight p = every (λ i. orderRight (poolRow p i) (getD (p .out) i 0) (poolBuffers p i)) 8
+
 -- "no two live pools share a byte"
 unfoldable pub pairShares : Pools → ℕ → ℕ → Bool
 pairShares p i j =
@@ -152,6 +168,7 @@ tableRules =
     (λ s. tasksRight (s .tasks))
     ∷ (λ s. semsRight (s .semaphores))
     ∷ (λ s. poolsRight (s .pools))
+    ∷ (λ s. ordersRight (s .pools))
     ∷ (λ s. poolsApart (s .pools))
     ∷ []
 

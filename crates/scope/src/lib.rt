@@ -1,5 +1,5 @@
 // The state of the kernel and the answers it gives, as plain data. What they mean, sentence by sentence of document 01,
-// is in specs/. Every array is by slot: 32 tasks, 16 semaphores, 8 pools.
+// is in specs/. Every array is by slot: 32 tasks, 16 semaphores, 8 pools; places are by pool and buffer.
 
 pub const TASKS: usize = 32;
 
@@ -104,6 +104,9 @@ pub struct Pools {
     pub serial: [u16; 8],
     pub live: [bool; 8],
     pub forced: [bool; 8],
+    // The order of the free buffers: place i × 64 + k is buffer k's of pool i, 1 for the one that has been free longest, 0 for one
+    // that is out and for one that the pool does not have.
+    pub place: [u8; 512],
 }
 
 pub struct State {

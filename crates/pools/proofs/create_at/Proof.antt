@@ -1,5 +1,5 @@
 -- `pools::create_at`: past the table's end there is no slot, an area that shares a byte with a live pool's is refused; else the slot, which has a
--- serial left, holds its next object.
+-- serial left, holds its next object, its buffers in ascending places.
 -- Assumes nothing.
 use native.Mathlib.Omega.{arith}
 use mathlib.Core.Path.{_≡_, refl}
@@ -86,6 +86,18 @@ element-write-live c = search needs
 element-write-forced : tie.Need-element-write-forced
 element-write-forced c = search needs
 
+buffers-of-requires : tie.Need-buffers-of-requires
+buffers-of-requires c κs = search needs
+
+cast-new-row : tie.Need-cast-new-row
+cast-new-row c = search needs
+
+new-row-requires : tie.Need-new-row-requires
+new-row-requires c κs = search needs
+
+put-row-requires : tie.Need-put-row-requires
+put-row-requires c κs = search needs
+
 identifier-requires : tie.Need-identifier-requires
 identifier-requires c κs = search needs
 
@@ -94,7 +106,7 @@ gives-requires c κs = search needs
 
 returns-3 : tie.Need-returns-3
 unfolding poolCreateAt
-returns-3 c = λ s. rw (← c .before .before .before .before .before .before .before .before .before .lowest-usable .ensures) (pick-no _ _ _ (lt-leb _ _ (c .before .before .before .before .before .before .before .before .if1 .left)) (pick-no _ _ _ (found-past 8 (c .before .before .before .before .overlapped .ensures _ refl refl refl) (c .before .before .before .if2 .left)) (rw (← c .before .identifier .ensures) (gives-of _ _ _ _ (c .gives .ensures)))))
+returns-3 c = λ s. rw (← c .before .before .before .before .before .before .before .before .before .before .before .before .before .lowest-usable .ensures) (pick-no _ _ _ (lt-leb _ _ (c .before .before .before .before .before .before .before .before .before .before .before .before .if1 .left)) (pick-no _ _ _ (found-past 8 (c .before .before .before .before .before .before .before .before .overlapped .ensures _ refl refl refl) (c .before .before .before .before .before .before .before .if2 .left)) (rw (c .before .before .put-row .ensures, c .before .before .before .before .new-row .ensures, c .before .before .before .before .before .buffers-of .ensures, ← c .before .identifier .ensures) (gives-of _ _ _ _ (c .gives .ensures)))))
 
 pub create-at-spec : {M : Type 1} → statement M
 create-at-spec =
@@ -123,6 +135,10 @@ create-at-spec =
     element-write-serial
     element-write-live
     element-write-forced
+    buffers-of-requires
+    cast-new-row
+    new-row-requires
+    put-row-requires
     identifier-requires
     gives-requires
     returns-3)

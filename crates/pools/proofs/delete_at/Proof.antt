@@ -2,8 +2,8 @@
 -- Assumes nothing.
 use mathlib.Core.Logic.{⊎-elim}
 use mathlib.Core.Bool.{false, not}
-use lib.ListN.{getD}
 use denote.Ref.{now}
+use lib.ListN.{getD}
 use borrow.Author.Needs.{needs}
 use borrow.Author.Tests.{lt-ltb, le-ltb}
 use Rattle.scope.specs.Pools.{poolDeleteAt}
@@ -64,12 +64,15 @@ element-write-live c = search needs
 element-write-forced : tie.Need-element-write-forced
 element-write-forced c = search needs
 
+put-row-requires : tie.Need-put-row-requires
+put-row-requires c κs = search needs
+
 plain-requires-2 : tie.Need-plain-requires-2
 plain-requires-2 c κs = search needs
 
 returns-2 : tie.Need-returns-2
 unfolding poolDeleteAt
-returns-2 c = λ s serial. pick-no _ _ _ (⊎-elim (λ j. second-fails (not (getD (now (c .before .before .before .args .forced)) (c .before .before .before .args .i) false)) _ (le-ltb _ _ (j .2 .left))) (λ e. first-fails _ _ (e .left)) (c .before .if1 .came)) (plain-of _ _ _ _ (c .plain2 .ensures))
+returns-2 c = λ s serial. pick-no _ _ _ (⊎-elim (λ j. second-fails (not (getD (now (c .before .before .before .before .before .args .forced)) (c .before .before .before .before .before .args .i) false)) _ (le-ltb _ _ (j .2 .left))) (λ e. first-fails _ _ (e .left)) (c .before .before .before .if1 .came)) (rw (c .before .put-row .ensures) (plain-of _ _ _ _ (c .plain2 .ensures)))
 
 pub delete-at-spec : {M : Type 1} → statement M
 delete-at-spec =
@@ -92,5 +95,6 @@ delete-at-spec =
     element-write-size
     element-write-live
     element-write-forced
+    put-row-requires
     plain-requires-2
     returns-2)

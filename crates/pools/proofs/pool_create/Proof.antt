@@ -23,7 +23,7 @@ create-at-requires c κs = search needs
 
 returns-2 : tie.Need-returns-2
 unfolding poolCreate
-returns-2 c = λ s. admitted _ _ _ (c .before .before .before .before .before .before .before .before .before .before .refusal .ensures) (plain _) _ (c .before .before .before .before .before .before .before .before .before .if1 .left) (c .create-at .ensures s)
+returns-2 c = λ s. admitted _ _ _ (c .before .before .before .before .before .before .before .before .before .before .before .refusal .ensures) (plain _) _ (c .before .before .before .before .before .before .before .before .before .before .if1 .left) (c .create-at .ensures s)
 
 pub pool-create-spec : {M : Type 1} → statement M
 pool-create-spec =

@@ -40,13 +40,16 @@ sems-right-requires c κs = search needs
 pools-right-requires : tie.Need-pools-right-requires
 pools-right-requires c κs = search needs
 
+orders-right-requires : tie.Need-orders-right-requires
+orders-right-requires c κs = search needs
+
 pools-apart-requires : tie.Need-pools-apart-requires
 pools-apart-requires c κs = search needs
 
 returns : tie.Need-returns
 unfolding sound keeps objects
 returns c =
-    let d = c .before .before .before .before .before .before in
+    let d = c .before .before .before .before .before .before .before in
     simp (and-assoc, and-true) (rw (
       d .before .before .before .before .before .seats-right .ensures,
       d .before .before .before .before .rings-right .ensures,
@@ -54,11 +57,12 @@ returns c =
       d .before .before .waits-right .ensures,
       d .before .queues-sorted .ensures,
       d .counts-right .ensures,
-      c .before .before .before .before .before .starts-right .ensures,
-      c .before .before .before .before .running-right .ensures,
-      c .before .before .before .tasks-right .ensures,
-      c .before .before .sems-right .ensures,
-      c .before .pools-right .ensures,
+      c .before .before .before .before .before .before .starts-right .ensures,
+      c .before .before .before .before .before .running-right .ensures,
+      c .before .before .before .before .tasks-right .ensures,
+      c .before .before .before .sems-right .ensures,
+      c .before .before .pools-right .ensures,
+      c .before .orders-right .ensures,
       c .pools-apart .ensures,
     ))
 
@@ -77,5 +81,6 @@ is-sound-spec =
     tasks-right-requires
     sems-right-requires
     pools-right-requires
+    orders-right-requires
     pools-apart-requires
     returns)

@@ -1,6 +1,7 @@
 -- `rules::pools_right`: before each turn the loop holds the test of all slots passed.
 -- Assumes nothing.
-use Prim.Native.Nat.{_-_}
+use Prim.Native.Nat.{ℕ, _-_}
+use mathlib.Core.List.{List}
 use borrow.Author.Needs.{needs}
 use Rattle.scope.specs.Rules.{poolsRight, poolRight}
 use Rattle.rules.proofs.Laws.{Testing, testing-start, testing-more, testing-done}
@@ -9,15 +10,16 @@ use Rattle.rules.proofs.pools_right.Tie as tie
 
 abbrev Inv-loop : tie.InvT-loop
 Inv-loop live serial out name at long size forced ok₀ i₀ ok i =
-    Testing 8
-    (poolRight (record { out = out; name = name; address = at; length = long; size = size; serial = serial; live = live; forced = forced }))
+    (place : List ℕ)
+    → Testing 8
+    (poolRight (record { out = out; name = name; address = at; length = long; size = size; serial = serial; live = live; forced = forced; place = place }))
     ok i
 
 abbrev μ-loop : tie.MeasureT-loop
 μ-loop live serial out name at long size forced ok₀ i₀ ok i = 8 - i
 
 loop-holds : tie.Need-loop-holds Inv-loop μ-loop
-loop-holds c = testing-start _ _
+loop-holds c = λ place. testing-start _ _
 
 array-read-pool-right : tie.Need-array-read-pool-right Inv-loop μ-loop
 array-read-pool-right c = search needs
@@ -72,11 +74,11 @@ loop-less c = search needs
 
 loop-again : tie.Need-loop-again Inv-loop μ-loop
 unfolding poolRight
-loop-again c = testing-more (c .before .before .loop .inv) (search needs) (c .pool-right .ensures)
+loop-again c = λ place. testing-more (c .before .before .loop .inv place) (search needs) (c .pool-right .ensures)
 
 returns : tie.Need-returns Inv-loop μ-loop
 unfolding poolsRight
-returns c = testing-done (c .before .loop .inv) (search needs)
+returns c = testing-done (c .before .loop .inv _) (search needs)
 
 pub pools-right-spec : {M : Type 1} → statement M
 pools-right-spec =
