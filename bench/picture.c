@@ -3,7 +3,7 @@
 
 #include <string.h>
 
-enum { MOST_COUNT = 32767, MOST_PRIORITY = 15, MOST_BUFFERS = 64 };
+enum { MOST_COUNT = 32767, MOST_PRIORITY = 15 };
 
 static const uint32_t rooms[KINDS] = { 32, 16, 8 };
 
@@ -225,7 +225,7 @@ static bool is_free_ground(const struct picture *p, const struct area *a)
 
 static void pool_create(struct picture *p, const uint32_t *arg)
 {
-    struct area a = { arg[1], arg[2], arg[3], 0 };
+    struct area a = { .address = arg[1], .length = arg[2], .size = arg[3] };
     int pool;
 
     if (a.length == 0 || (uint64_t)a.address + a.length > UINT64_C(1) << 32)
@@ -237,6 +237,8 @@ static void pool_create(struct picture *p, const uint32_t *arg)
     pool = taken(p, A_POOL);
     if (pool == NOBODY)
         return;
+    for (; a.free < a.length / a.size; a.free++)
+        a.order[a.free] = (uint8_t)a.free;
     p->area[pool] = a;
     p->forced = (p->forced & ~bit(pool)) | arg[4] << pool;
 }
@@ -256,22 +258,27 @@ static void pool_get_buff(struct picture *p, const uint32_t *arg)
     int pool = picture_named(p, A_POOL, arg[0]);
     struct area *a = &p->area[pool == NOBODY ? 0 : pool];
 
-    if (pool == NOBODY || a->out == UINT64_MAX)
+    if (pool == NOBODY || a->free == 0)
         return;
-    if ((uint32_t)__builtin_ctzll(~a->out) < a->length / a->size)
-        a->out |= a->out + 1;
+    a->out |= UINT64_C(1) << a->order[0];
+    a->free--;
+    memmove(a->order, a->order + 1, a->free);
 }
 
 static void pool_ret_buff(struct picture *p, const uint32_t *arg)
 {
     int pool = picture_named(p, A_POOL, arg[0]);
     struct area *a = &p->area[pool == NOBODY ? 0 : pool];
+    uint32_t buffer;
 
     if (pool == NOBODY || arg[1] < a->address)
         return;
-    if ((arg[1] - a->address) % a->size == 0
-        && (arg[1] - a->address) / a->size < MOST_BUFFERS)
-        a->out &= ~(UINT64_C(1) << (arg[1] - a->address) / a->size);
+    buffer = (arg[1] - a->address) / a->size;
+    if ((arg[1] - a->address) % a->size != 0 || buffer >= MOST_BUFFERS
+        || (a->out >> buffer & 1) == 0)
+        return;
+    a->out &= ~(UINT64_C(1) << buffer);
+    a->order[a->free++] = (uint8_t)buffer;
 }
 
 static void changes_nothing(struct picture *p, const uint32_t *arg)

@@ -25,11 +25,15 @@ enum { SLOTS = 32, NOBODY = -1, NUMBERS = 7 };
 
 #define TOP UINT32_C(4294967295)
 
+enum { MOST_BUFFERS = 64 };
+
 struct area {
     uint32_t address;
     uint32_t length;
     uint32_t size;
     uint64_t out; /* bit b: buffer b is out */
+    uint32_t free;
+    uint8_t order[MOST_BUFFERS]; /* the free ones, longest free first */
 };
 
 /* Bit s of a mask speaks of slot s. */

@@ -58,6 +58,12 @@ DAMAGE(pool_of_size_0, k->pool[1].size = 0)
 DAMAGE(pool_of_65_buffers, k->pool[1].length = 65; k->pool[1].buffers = 65)
 DAMAGE(pool_past_the_end, k->pool[1].address = UINT32_MAX - 8)
 DAMAGE(pool_of_another_number, k->pool[1].buffers = 9)
+DAMAGE(free_buffer_twice, k->pool[1].free_order[3] = 4)
+DAMAGE(free_order_holds_one_out, k->pool[0].free_order[1] = 0)
+DAMAGE(free_order_past_the_number, k->pool[0].free_order[1] = 3)
+DAMAGE(place_past_the_free, k->pool[0].free_order[2] = 1)
+DAMAGE(marks_and_order_differ, k->pool[0].out = 4)
+DAMAGE(no_pool_but_a_place, k->pool[2].free_order[5] = 1)
 DAMAGE(pools_share_a_byte, k->pool[1].address = 4195)
 DAMAGE(semaphore_past_the_table, k->semaphore_table.live |= 1u << 16)
 DAMAGE(slot_not_marked_usable, k->task_table.usable &= ~(1u << 31))
@@ -82,6 +88,8 @@ static void (*const damages[])(struct kernel *) = {
     joining_priority_without_waiting, links_without_a_row,
     mark_past_the_number, pool_of_length_0, pool_of_size_0,
     pool_of_65_buffers, pool_past_the_end, pool_of_another_number,
+    free_buffer_twice, free_order_holds_one_out, free_order_past_the_number,
+    place_past_the_free, marks_and_order_differ, no_pool_but_a_place,
     pools_share_a_byte, semaphore_past_the_table, slot_not_marked_usable,
     live_slot_marked_usable, time_out_stands_still,
     suspended_time_out_stands_still, ready_task_time_out_runs,

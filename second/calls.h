@@ -64,4 +64,7 @@ enum status pool_area_refusal(uint32_t address, uint32_t length,
 /* Whether two areas, each of one byte or more, share a byte. */
 bool areas_share_a_byte(const struct pool *one, const struct pool *other);
 
+/* How many of a pool's buffers are free. */
+uint32_t free_buffers(const struct pool *p);
+
 #endif

@@ -101,6 +101,9 @@ struct pool {
     uint32_t size;
     uint8_t buffers; /* length / size, kept to spare the division */
     uint8_t options;
+    /* The free buffers, the one that has been free longest first; the places
+     * past their number are 0. */
+    uint8_t free_order[BUFFERS];
 };
 
 struct kernel {

@@ -2,8 +2,13 @@
  * Pools: calls 14 to 19.
  *
  * "Buffers = length ÷ size, rounded down, laid from the address, no
- * overhead. Get gives the lowest free buffer. Any task may return a buffer."
+ * overhead. ... Any task may return a buffer." And M-103: "pool_get_buff now
+ * gives the buffer that has been free longest; in a new pool, ascending
+ * addresses. The order of free buffers joins the state, each free buffer
+ * once."
  */
+#include <string.h>
+
 #include "calls.h"
 #include "identifiers.h"
 
@@ -42,9 +47,19 @@ static bool overlaps_a_live_pool(const struct kernel *k,
     return false;
 }
 
-static uint32_t free_buffers(const struct pool *p)
+uint32_t free_buffers(const struct pool *p)
 {
     return p->buffers - (uint32_t)__builtin_popcountll(p->out);
+}
+
+/* The first of the free ones, of which there are so many, leaves them. */
+static uint32_t take_first(struct pool *p, uint32_t free)
+{
+    uint32_t buffer = p->free_order[0];
+
+    memmove(p->free_order, p->free_order + 1, free - 1);
+    p->free_order[free - 1] = 0;
+    return buffer;
 }
 
 enum status pool_create(struct kernel *k, const uint32_t *arg,
@@ -64,6 +79,8 @@ enum status pool_create(struct kernel *k, const uint32_t *arg,
     if (overlaps_a_live_pool(k, &new_pool))
         return POOL_OVERLAP;
     new_pool.buffers = (uint8_t)(arg[2] / arg[3]);
+    for (uint8_t buffer = 0; buffer < new_pool.buffers; buffer++)
+        new_pool.free_order[buffer] = buffer;
     new_pool.options = (uint8_t)arg[4];
     slot = table_take(&k->pool_table, arg[0]);
     k->pool[slot] = new_pool;
@@ -99,14 +116,15 @@ enum status pool_get_buff(struct kernel *k, const uint32_t *arg,
     uint32_t slot;
     enum status refusal = pool_named(k, arg[0], &slot);
     struct pool *p;
-    uint32_t buffer;
+    uint32_t buffer, free;
 
     if (refusal != OK)
         return refusal;
     p = &k->pool[slot];
-    if (free_buffers(p) == 0)
+    free = free_buffers(p);
+    if (free == 0)
         return NO_MORE_MEMORY;
-    buffer = (uint32_t)__builtin_ctzll(~p->out);
+    buffer = take_first(p, free);
     p->out |= UINT64_C(1) << buffer;
     a->value[0] = p->address + buffer * p->size;
     return OK;
@@ -129,6 +147,7 @@ enum status pool_ret_buff(struct kernel *k, const uint32_t *arg,
     buffer = (arg[1] - p->address) / p->size;
     if (buffer >= p->buffers || (p->out >> buffer & 1) == 0)
         return INVALID_BUFF;
+    p->free_order[free_buffers(p)] = (uint8_t)buffer;
     p->out &= ~(UINT64_C(1) << buffer);
     return OK;
 }

@@ -114,10 +114,20 @@ static bool slots_without_a_semaphore_hold_zeros(const struct kernel *k)
     return true;
 }
 
+/* Places of an order past its end, from one on. */
+static bool places_are_zero(const struct pool *p, uint32_t place)
+{
+    uint8_t any = 0;
+
+    for (; place < BUFFERS; place++)
+        any |= p->free_order[place];
+    return any == 0;
+}
+
 static bool pool_is_zero(const struct pool *p)
 {
     return p->out == 0 && p->address == 0 && p->length == 0 && p->size == 0
-        && p->buffers == 0 && p->options == 0;
+        && p->buffers == 0 && p->options == 0 && places_are_zero(p, 0);
 }
 
 static bool slots_without_a_pool_hold_zeros(const struct kernel *k)
@@ -328,6 +338,34 @@ static bool marks_past_the_number_are_zero(const struct kernel *k)
     return true;
 }
 
+/* Of as many places as there are free buffers, each holds another one that
+ * is free, so each free buffer is there once. */
+static bool order_is_of_the_free(const struct pool *p)
+{
+    uint32_t free = free_buffers(p);
+    uint64_t seen = p->out;
+
+    for (uint32_t place = 0; place < free; place++) {
+        uint32_t buffer = p->free_order[place];
+
+        if (buffer >= p->buffers || (seen >> buffer & 1) != 0)
+            return false;
+        seen |= UINT64_C(1) << buffer;
+    }
+    return places_are_zero(p, free);
+}
+
+/* M-103: "The order of free buffers joins the state, each free buffer
+ * once." */
+static bool orders_hold_each_free_buffer_once(const struct kernel *k)
+{
+    for (uint32_t left = k->pool_table.live; left != 0; left &= left - 1) {
+        if (!order_is_of_the_free(&k->pool[lowest_slot(left)]))
+            return false;
+    }
+    return true;
+}
+
 /* "no two live pools share a byte, and the test stops at the first pair that
  * does" */
 static bool no_two_live_pools_share_a_byte(const struct kernel *k)
@@ -404,6 +442,7 @@ bool rules_of_a_state(const struct kernel *k)
         && counts_tell_the_queues(k)
         && live_pools_are_admitted(k)
         && marks_past_the_number_are_zero(k)
+        && orders_hold_each_free_buffer_once(k)
         && no_two_live_pools_share_a_byte(k)
         && ready_priorities_are_marked(k)
         && running_time_outs_are_marked(k);

@@ -112,6 +112,15 @@ class Pool:
         _, self.address, self.length, self.size, self.options = args
         self.gets = self.returns = 0
         self.out = set()
+        self.returned = {}  # address of a buffer not out: its latest return
+
+    def longest_free(self):
+        """Of the buffers not out, the one whose latest return lies furthest
+        back; one never returned before all others, those by address."""
+        buffers = self.length // self.size
+        starts = range(self.address, self.address + buffers * self.size, self.size)
+        return min((start for start in starts if start not in self.out),
+                   key=lambda start: (self.returned.get(start, 0), start))
 
 
 class Books:
@@ -246,6 +255,7 @@ class Books:
              and start + pool.size <= pool.address + pool.length,
              "buffer not in its pool")
         self.put_out(start, start + pool.size)
+        must(start == pool.longest_free(), "another has been free longer")
         pool.out.add(start)
         pool.gets += 1
 
@@ -268,6 +278,7 @@ class Books:
         pool.out.remove(args[1])
         self.forget(args[1])
         pool.returns += 1
+        pool.returned[args[1]] = pool.returns
 
     def call_19(self, args, answer):
         pool = self.live(self.pools, args[0])

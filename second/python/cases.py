@@ -599,21 +599,45 @@ case("pools-refused", 5, """
     pool_get_buff 128 -> 17
 """)
 
-case("lowest-free-buffer", 5, """
+case("longest-free-buffer", 5, """
     pool_create 1 100 30 10 0 -> 0 64
     pool_get_buff 64 -> 0 100
-    pool_get_buff 64 -> 0 110
-    pool_get_buff 64 -> 0 120
-    pool_ret_buff 64 120 -> 0
     pool_ret_buff 64 100 -> 0
-    pool_get_buff 64 -> 0 100
+    pool_get_buff 64 -> 0 110           # a late reader still sees 100
     pool_get_buff 64 -> 0 120
+    pool_get_buff 64 -> 0 100
+    pool_get_buff 64 -> 17
+    pool_ret_buff 64 120 -> 0
+    pool_ret_buff 64 120 -> 18          # not twice
+    pool_ret_buff 64 100 -> 0
+    pool_get_buff 64 -> 0 120
+    pool_get_buff 64 -> 0 100
     task_create 1 9 -> 0 65
     task_start 65 -> 0; runs 65
     pool_ret_buff 64 110 -> 0           # any task may return
     pool_get_buff 64 -> 0 110
     task_delete SELF -> 0; runs 64      # returns none
     pool_info 64 -> 0 3 0 10 0
+""")
+
+case("orders-of-two-pools", 5, """
+    pool_create 1 100 30 10 1 -> 0 64
+    pool_create 2 200 20 10 0 -> 0 65
+    pool_get_buff 64 -> 0 100
+    pool_get_buff 65 -> 0 200
+    pool_get_buff 64 -> 0 110
+    pool_ret_buff 64 110 -> 0
+    pool_ret_buff 65 200 -> 0
+    pool_ret_buff 64 100 -> 0
+    pool_get_buff 65 -> 0 210
+    pool_get_buff 64 -> 0 120
+    pool_get_buff 65 -> 0 200
+    pool_get_buff 64 -> 0 110
+    pool_delete 64 -> 0                 # by force, two out and one free
+    pool_create 3 100 30 10 0 -> 0 128
+    pool_get_buff 128 -> 0 100          # a new pool, ascending again
+    pool_get_buff 128 -> 0 110
+    pool_get_buff 128 -> 0 120
 """)
 
 # Callers. Every call in turn, by each kind of caller that it refuses.

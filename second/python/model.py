@@ -245,7 +245,9 @@ class Model:
             unless(low >= high, 15)
         return one_value(self.pools.create(
             {"name": name, "address": address, "length": length,
-             "size": size, "options": options, "out": set()}))
+             "size": size, "options": options, "out": set(),
+             "free": list(range(address, address + length // size * size,
+                                size))}))
 
     def call_15(self, args):
         pool = self.pools.named(args[0])
@@ -257,16 +259,16 @@ class Model:
 
     def call_17(self, args):
         pool = self.pools.named(args[0])
-        for address in buffer_addresses(pool):
-            if address not in pool["out"]:
-                pool["out"].add(address)
-                return one_value(address)
-        raise Refused(17)
+        unless(pool["free"], 17)
+        address = pool["free"].pop(0)  # the one that has been free longest
+        pool["out"].add(address)
+        return one_value(address)
 
     def call_18(self, args):
         pool = self.pools.named(args[0])
         unless(args[1] in pool["out"], 18)
         pool["out"].remove(args[1])
+        pool["free"].append(args[1])
 
     def call_19(self, args):
         pool = self.pools.named(args[0])
