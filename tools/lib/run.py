@@ -72,6 +72,7 @@ class Pool:
         self.address, self.size = address, size
         self.buffers = length // size if size else 0
         self.held = {}               # address to the Held that is open
+        self.free = [address + size * k for k in range(self.buffers)]  # longest free first
 
     @property
     def out(self):
@@ -123,6 +124,7 @@ class State:
         """A buffer that was out until this record."""
         held = pool.held.pop(address, None)
         if held:
+            pool.free.append(address)
             self.held.append(held._replace(last=self.number - 1))
 
 
@@ -196,12 +198,18 @@ def pool_delete(state, pool, _record, _answer):
 
 def pool_get_buff(state, pool, _record, answer):
     address = answer.values[0]
-    doubt = "address %d is handed out twice" % address
     place = (address - pool.address) // pool.size if pool.size else 0
-    taken = address in pool.held
+    doubt = None
+    if address in pool.held:
+        doubt = "address %d is handed out twice" % address
+    elif pool.free[:1] != [address]:
+        longest = "%d has been free longer" % pool.free[0] if pool.free else "none is free"
+        doubt = "address %d is handed out, but %s" % (address, longest)
+    if address in pool.free:
+        pool.free.remove(address)
     pool.held[address] = Held(state.number, None, pool.identifier, place,
                               address, state.running)
-    return doubt if taken else None
+    return doubt
 
 
 def pool_ret_buff(state, pool, record, _answer):

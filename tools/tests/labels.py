@@ -76,7 +76,7 @@ def test_holders(bench):
     bench.equal("who holds which page", sorted(
         (held.address, held.first, held.last, held.holder)
         for held in told.held),
-        [(0x8000, 8, 12, 65), (0x8000, 15, 21, 66), (0x9000, 11, 20, 66)])
+        [(0x8000, 8, 12, 65), (0x9000, 11, 20, 66), (0xA000, 15, 21, 66)])
     bench.equal("who holds the stripe", [
         (span.first, span.last, span.view)
         for span in run.holds_of(told.spans["semaphore"][0])],
@@ -92,7 +92,8 @@ def test_doubts_of_buffers(bench):
     answers = read(EXAMPLES, "parity-pages.listing").decode()
     for old, new, expected in (
             ("11 0 36864", "11 0 32768", "address 32768 is handed out twice"),
-            ("11 0 36864", "11 0 40960", "address 36864 comes back")):
+            ("11 0 36864", "11 0 40960", "address 36864 comes back"),
+            ("11 0 36864", "11 0 40960", "but 36864 has been free longer")):
         told = run.Run(*listing.fitted(answers.replace(old, new).encode(),
                                        "L", data, "S"), 3)
         bench.holds("a doubt where `%s` is `%s`" % (old, new), str(
@@ -223,9 +224,8 @@ def test_perfetto_with_labels(bench):
     tracks, counters = parsed_trace(read(out).decode())
     bench.holds("the wait is a slice", str(tracks["task rebuild (66)"]),
                 "(12000, 14000, 'waits for semaphore stripe')")
-    bench.equal("the page's holders", tracks["0x8000 of pool pages (64)"],
-                [(8000, 13000, "task program"), (15000, 22000,
-                                                 "task rebuild")])
+    bench.equal("a page's holder", tracks["0x8000 of pool pages (64)"], [(8000, 13000, "task program")])
+    bench.equal("the holder of the page that was free longest", tracks["0xa000 of pool pages (64)"], [(15000, 22000, "task rebuild")])
     bench.equal("the count", counters["semaphore stripe (64): count"],
                 [(1000, 1), (7000, 0), (12000, -1), (14000, 0), (20000, 1)])
     data, answers = stored("nine")
