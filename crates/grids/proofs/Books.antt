@@ -61,7 +61,7 @@ deed-wakes s x (tasks-change c) = record { unless = λ d. refl }
 deed-wakes s x (task-moves c) = record { unless = λ d. refl }
 deed-wakes s x (sems-change c) = record { unless = λ d. refl }
 deed-wakes s x (pools-change c) = record { unless = λ d. refl }
-deed-wakes s x (caller-waits at i e f g) = record { unless = λ d. refl }
+deed-wakes s x (caller-waits at i e f g time) = record { unless = λ d. refl }
 deed-wakes s x (first-woken at i e f) = record { unless = λ d. absurd (eqb-false OK OK d refl) }
 deed-wakes s x (sem-deleted at i e) = record { unless = λ d. absurd (eqb-false OK OK d refl) }
 deed-wakes s x (time-passes at) = record { unless = λ d. absurd (eqb-false OK OK d refl) }
@@ -130,7 +130,7 @@ module _ (s : State) (ok : Sound s) (x : Event) (past : List Turn) (p : ℕ) (to
         named = found-identifier (s .semaphores .serial) (s .semaphores .live) (x .a) (r .names)
 
         room : r .slot < 16
-        room = omega (arith, found-below (s .semaphores .serial) (s .semaphores .live) (x .a) (r .names), ok .semaphores .serials)
+        room = omega (arith, found-below (s .semaphores .serial) (s .semaphores .live) (x .a) (r .names), ok .semaphores .sized .serials)
 
         one : (t : ℕ) → WaitsFor s (r .slot) t → y .reply .wakes ≡ record { task = taskId s t; status = OK } ∷ [] → Same
         one t w only =

@@ -56,13 +56,13 @@ module _ (s : State) (ok : Sound s) (x : Event) (past : List Turn) (runs : runni
         }
     latest-after (task-noted t room grew same is1 no8 v none keeps) l =
         record {
-          task = λ u h. latest-born 1 32 (omega arith) y (latestTask past) (s .tasks .serial) (l .task) t room (ok .tasks .serials) is1 v u h ∙ ap (λ (v : List ℕ). objectIn v u) (sym grew);
+          task = λ u h. latest-born 1 32 (omega arith) y (latestTask past) (s .tasks .serial) (l .task) t room (ok .tasks .sized .serials) is1 v u h ∙ ap (λ (v : List ℕ). objectIn v u) (sym grew);
           semaphore = λ i h. latest-same 8 16 (omega arith) y (latestSemaphore past) (s .semaphores .serial) (l .semaphore) no8 i h ∙ ap (λ (v : List ℕ). objectIn v i) (sym same);
         }
     latest-after (semaphore-noted i room grew same no1 is8 v none keeps) l =
         record {
           task = λ t h. latest-same 1 32 (omega arith) y (latestTask past) (s .tasks .serial) (l .task) no1 t h ∙ ap (λ (v : List ℕ). objectIn v t) (sym same);
-          semaphore = λ j h. latest-born 8 16 (omega arith) y (latestSemaphore past) (s .semaphores .serial) (l .semaphore) i room (ok .semaphores .serials) is8 v j h
+          semaphore = λ j h. latest-born 8 16 (omega arith) y (latestSemaphore past) (s .semaphores .serial) (l .semaphore) i room (ok .semaphores .sized .serials) is8 v j h
               ∙ ap (λ (v : List ℕ). objectIn v j) (sym grew);
         }
     latest-after (grant-noted t i room room2 same no1 no8 one keeps) l =
@@ -78,10 +78,10 @@ module _ (s : State) (ok : Sound s) (x : Event) (past : List Turn) (runs : runni
         (quiet-holds _ _ _ _ h)
     holds-after (task-noted t room grew same is1 no8 v none keeps) n h =
         holds-same (sym grew) (sym same) (keeps (gridSince n past) (runningIn past)) (ap (λ l. grantsSince n past ++ l) (sym (none past)))
-        (task-holds _ _ _ _ h t room (ok .tasks .serials))
+        (task-holds _ _ _ _ h t room (ok .tasks .sized .serials))
     holds-after (semaphore-noted i room grew same no1 is8 v none keeps) n h =
         holds-same (sym same) (sym grew) (keeps (gridSince n past) (runningIn past)) (ap (λ l. grantsSince n past ++ l) (sym (none past)))
-        (semaphore-holds _ _ _ _ h i room (ok .semaphores .serials))
+        (semaphore-holds _ _ _ _ h i room (ok .semaphores .sized .serials))
     holds-after (grant-noted t i room room2 same no1 no8 one keeps) n h =
         holds-same (sym (same .0)) (sym (same .1)) (keeps (gridSince n past) ∙ ap (λ (v : ℕ). keptBy (gridSince n past) v y) (sym runs))
         (ap (λ l. grantsSince n past ++ l) (sym (one past runs)))

@@ -176,7 +176,7 @@ module _ (s : State) (x : Event) where
   -- the semaphore in slot i is named
   module _ (ok : Sound s) (i : ℕ) (e : semFound s (x .a) ≡ At i) where
     room : i < 16
-    room = omega (arith, found-below (s .semaphores .serial) (s .semaphores .live) (x .a) e, ok .semaphores .serials)
+    room = omega (arith, found-below (s .semaphores .serial) (s .semaphores .live) (x .a) e, ok .semaphores .sized .serials)
 
     named : x .a ≡ semId s i
     named = found-identifier (s .semaphores .serial) (s .semaphores .live) (x .a) e
@@ -226,7 +226,7 @@ module _ (s : State) (x : Event) where
   unfolding answer
   change-noted ok (task-created at e f) =
       let h : newTask s < length (s .tasks .serial) = leb-false (length (s .tasks .serial)) (newTask s) f in
-      task-made _ at refl (newTask s) (omega (arith, h, ok .tasks .serials)) refl refl refl
+      task-made _ at refl (newTask s) (omega (arith, h, ok .tasks .sized .serials)) refl refl refl
   change-noted ok (waiter-suspended at t e f g h) = other _ (refl, refl) 5 at refl refl refl refl
   change-noted ok (waiter-resumed at t e f g h) = other _ (refl, refl) 6 at refl refl refl refl
   change-noted ok (priority-noted at t e f g) = other _ (refl, refl) 7 at refl refl refl refl
@@ -251,7 +251,7 @@ module _ (s : State) (x : Event) where
   unfolding answer
   sem-noted ok runs (sem-created at e f g) =
       let h : newSemaphore s < length (s .semaphores .serial) = leb-false (length (s .semaphores .serial)) (newSemaphore s) g in
-      semaphore-made _ at refl (newSemaphore s) (omega (arith, h, ok .semaphores .serials)) refl refl refl
+      semaphore-made _ at refl (newSemaphore s) (omega (arith, h, ok .semaphores .sized .serials)) refl refl refl
   sem-noted ok runs (unit-claimed at i e f) = claim-made ok i e _ at refl (refl, refl) (runs at)
   sem-noted ok runs (unit-released at i e f g) = release-none ok i e _ at refl (refl, refl) refl
 
@@ -265,7 +265,7 @@ module _ (s : State) (x : Event) where
   deed-noted ok runs (task-moves c) = move-noted c
   deed-noted ok runs (sems-change c) = sem-noted ok (λ at. runs at refl) c
   deed-noted ok runs (pools-change c) = pool-noted c
-  deed-noted ok runs (caller-waits at i e f g) = undone _ (refl, refl) refl
+  deed-noted ok runs (caller-waits at i e f g time) = undone _ (refl, refl) refl
   deed-noted ok runs (first-woken at i e f) =
       release-one ok i e _ at refl (refl, refl) (firstOf (s .line .seat) (queueSeats i)) (ltb-true _ 32 f) refl refl refl
   deed-noted ok runs (sem-deleted at i e) = other _ (refl, refl) 9 at refl refl refl refl
