@@ -6,13 +6,13 @@ use mathlib.Core.Path.{_≡_, refl, sym, subst, ap, _∙_}
 use mathlib.Core.Logic.{⊎-elim}
 use mathlib.Core.Bool.{Bool, true, false}
 use mathlib.Core.List.{List, _++_}
-use lib.ListN.{length, take, drop}
-use lib.Seq.{take-all, paste}
+use lib.ListN.{length, take, drop, set, length-drop, take-append-drop}
+use lib.Seq.{take-all, paste, length-take-le, take-set-le, drop-set-add, set-append-left, drop-drop}
 use mathlib.Core.List.{append-assoc}
 use lib.Dec.{ltb}
 use borrow.Author.Tests.{ltb-true, ltb-false}
 use Rattle.scope.specs.Choice.{pick, least}
-use Rattle.scope.specs.Places.{withRow}
+use Rattle.scope.specs.Places.{rowOf, withRow}
 use Rattle.laws.proofs.Branches.{eq-or-not, true-or-false, picked-yes, picked-no}
 use Rattle.laws.proofs.Searches.{least-is}
 
@@ -25,6 +25,20 @@ pasted places row i k e h l =
     ap (paste places (i * 64) row) d
     ∙ ap (λ (r : List ℕ). take (i * 64) places ++ r ++ drop (i * 64 + 64) places) a
     ∙ append-assoc (take (i * 64) places) row (drop (i * 64 + 64) places)
+
+-- one place of a row
+pub set-row : (places : List ℕ) (i k x : ℕ) → i * 64 + 64 ≤ length places → k < 64 → set places (i * 64 + k) x ≡ withRow places i (set (rowOf places i) k x)
+unfolding withRow rowOf
+set-row places i k x room h =
+    let b : ℕ = i * 64 in
+    let d : List ℕ = drop b places in
+    let few : k < length (take 64 d) = omega (arith, length-take-le 64 d (omega (arith, length-drop b places))) in
+    sym (take-append-drop b (set places (b + k) x))
+    ∙ ap (λ (l : List ℕ). l ++ drop b (set places (b + k) x)) (take-set-le b places (b + k) x (omega arith))
+    ∙ ap (λ (l : List ℕ). take b places ++ l) (drop-set-add b places k x)
+    ∙ ap (λ (l : List ℕ). take b places ++ set l k x) (sym (take-append-drop 64 d))
+    ∙ ap (λ (l : List ℕ). take b places ++ l) (set-append-left (take 64 d) (drop 64 d) k x few)
+    ∙ ap (λ (l : List ℕ). take b places ++ (set (take 64 d) k x ++ l)) (drop-drop 64 b places)
 
 -- a search over the numbers below n that does not stop: what it holds after t of them is the least that passed, n where none did
 pub record Finding (n : ℕ) (p : ℕ → Bool) (found t : ℕ) : Type 0 where

@@ -129,15 +129,13 @@ fn place_behind(row: [u8; 64]) -> u8
     ((number(top(row)) + 1) % 256) as u8
 }
 
-// Buffer `k` joins at the end.
-pub fn join_last(row: [u8; 64], k: usize) -> [u8; 64]
-    requires { ⌜ k < 64 ⌝ }
-    ensures { λ r. ⌜ r ≡ joinsLast row k ⌝ }
+// Buffer `k` of pool `i` joins at the end. One place is written: a row copied back for it would cost more than the rest.
+pub fn join_last(places: &mut [u8], i: usize, k: usize)
+    requires { ⌜ (i * 64 + 64 ≤ length (now places)) × (k < 64) ⌝ }
+    ensures { λ r. ⌜ now (places .exit) ≡ withRow (now (places .entry)) i (joinsLast (rowOf (now (places .entry)) i) k) ⌝ }
 {
-    let x = place_behind(row);
-    let mut r = row;
-    r[k] = x;
-    r
+    let x = place_behind(row_of(&*places, i));
+    places[i * 64 + k] = x;
 }
 
 // The place of buffer `k` of `n` in a new pool.

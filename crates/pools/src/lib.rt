@@ -295,8 +295,7 @@ fn ret_at(
     if k < 64 {
         if areas::is_out(marks, k) {
             out[i] = areas::give_back(marks, k);
-            let row = places::row_of(&*place, i);
-            places::put_row(place, i, places::join_last(row, k as usize));
+            places::join_last(place, i, k as usize);
             return answers::plain(scope::OK, running);
         }
     }

@@ -59,24 +59,18 @@ mul-out c = search needs
 element-write-out : tie.Need-element-write-out
 element-write-out c = search needs
 
-row-of-requires : tie.Need-row-of-requires
-row-of-requires c κs = search needs
-
 cast-join-last : tie.Need-cast-join-last
 cast-join-last c = search needs
 
 join-last-requires : tie.Need-join-last-requires
 join-last-requires c κs = search needs
 
-put-row-requires : tie.Need-put-row-requires
-put-row-requires c κs = search needs
-
 plain-requires : tie.Need-plain-requires
 plain-requires c κs = search needs
 
 returns : tie.Need-returns
 unfolding poolRetBuffer poolRetBuffAt
-returns c = λ s serial live. rw (← c .before .before .before .before .before .before .before .before .before .before .before .before .before .before .before .buffers-of .ensures, ← c .before .before .before .before .before .before .before .before .before .before .before .buffer-at .ensures) (pick-no _ _ _ (not-of-true _ (both _ _ (lt-ltb _ _ (c .before .before .before .before .before .before .before .before .before .before .if1 .taken)) (sym (c .before .before .before .before .before .before .before .before .before .is-out .ensures) ∙ c .before .before .before .before .before .before .before .before .if2 .taken))) (rw (c .before .put-row .ensures, c .before .before .join-last .ensures, c .before .before .before .before .row-of .ensures, c .before .before .before .before .before .before .before .give-back .ensures) (plain-of _ _ _ _ (c .plain .ensures))))
+returns c = λ s serial live. rw (← c .before .before .before .before .before .before .before .before .before .before .before .buffers-of .ensures, ← c .before .before .before .before .before .before .before .buffer-at .ensures) (pick-no _ _ _ (not-of-true _ (both _ _ (lt-ltb _ _ (c .before .before .before .before .before .before .if1 .taken)) (sym (c .before .before .before .before .before .is-out .ensures) ∙ c .before .before .before .before .if2 .taken))) (rw (c .before .join-last .ensures, c .before .before .before .give-back .ensures) (plain-of _ _ _ _ (c .plain .ensures))))
 
 plain-requires-2 : tie.Need-plain-requires-2
 plain-requires-2 c κs = search needs
@@ -105,10 +99,8 @@ ret-at-spec =
     give-back-requires
     mul-out
     element-write-out
-    row-of-requires
     cast-join-last
     join-last-requires
-    put-row-requires
     plain-requires
     returns
     plain-requires-2
