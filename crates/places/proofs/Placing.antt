@@ -1,7 +1,7 @@
 -- The check of a row: a loop from the last buffer down writes each buffer on its place, so at its end every place holds the lowest buffer
 -- that is on it; a test that reads that is the rule's test; and a row without a buffer has only zeros.
 -- Assumes nothing.
-use Prim.Native.Nat.{ℕ, zero, suc, _+_, _-_, _≤_, _<_}
+use Prim.Native.Nat.{ℕ, zero, suc, _+_, _-_, _*_, _≤_, _<_}
 use native.Mathlib.Omega.{arith}
 use mathlib.Core.Path.{_≡_, refl, sym, ap, _∙_}
 use mathlib.Core.Logic.{⊎-elim}
@@ -11,15 +11,14 @@ use lib.ListN.{length, getD, set, replicate, getD-replicate, length-set}
 use lib.Seq.{getD-set-same, getD-set-other}
 use lib.Dec.{ltb, leb, eqb}
 use borrow.Author.Tests.{eq-eqb, ne-eqb, le-ltb}
-use Rattle.scope.specs.Choice.{pick, leastFrom, least, every, number, topOf}
+use Rattle.scope.specs.Choice.{pick, leastFrom, least, every, number}
 use Rattle.scope.specs.Seats.{isOn}
 use Rattle.scope.specs.Areas.{isFree, freeOf}
-use Rattle.scope.specs.Places.{onPlace}
+use Rattle.scope.specs.Places.{rowOf, onPlace}
+use Rattle.scope.proofs.Places.{row-at}
 use Rattle.scope.specs.Rules.{placeRight, orderRight}
-use Rattle.laws.proofs.Arrays.{inside}
 use Rattle.laws.proofs.Branches.{eq-or-not, picked-no, first-fails, first-decides}
-use Rattle.laws.proofs.Searches.{every-yes, every-no, number-le}
-use Rattle.laws.proofs.Tops.{top-ge, top-hit}
+use Rattle.laws.proofs.Searches.{every-yes, number-le}
 
 -- a search from j on: j passes, or the search goes on
 module _ (p : ℕ → Bool) (n j : ℕ) where
@@ -95,26 +94,13 @@ zero-right : (row : List ℕ) (out k : ℕ) → placeRight row out 0 k ≡ eqb (
 unfolding placeRight
 zero-right row out k = picked-no _ _ _ (first-fails (ltb k 0) (isFree out k) (le-ltb k 0 (omega arith)))
 
-pub none-right : (row : List ℕ) (out : ℕ) → length row ≡ 64 → eqb (topOf row 64) 0 ≡ orderRight row out 0
+pub clear-right : (places : List ℕ) (i out : ℕ) → i * 64 + 64 ≤ length places
+    → every (λ k. eqb (getD places (i * 64 + k) 0) 0) 64 ≡ orderRight (rowOf places i) out 0
 unfolding orderRight freeOf number
-none-right row out long =
-    sym (first-decides (every (placeRight row out 0) 64) _ (every-yes (λ x. ltb (onPlace row (x + 1)) 64) 0 (λ x h. absurd (omega arith)))
-    ∙ ⊎-elim (λ e. clear e) (λ ne. taken ne) (eq-or-not (topOf row 64) 0))
-  where
-    clear : topOf row 64 ≡ 0 → every (placeRight row out 0) 64 ≡ eqb (topOf row 64) 0
-    clear e =
-        every-yes (placeRight row out 0) 64 (λ k h. zero-right row out k ∙ eq-eqb (getD row k 0) 0 (omega (arith, top-ge row 64 k h, e)))
-        ∙ sym (eq-eqb (topOf row 64) 0 e)
-
-    hit : (topOf row 64 ≡ 0 → ⊥) → (t : ℕ) × (getD row t 0 ≡ topOf row 64)
-    hit ne = ⊎-elim (λ e. absurd (ne e)) (λ h. h) (top-hit row 64)
-
-    taken : (topOf row 64 ≡ 0 → ⊥) → every (placeRight row out 0) 64 ≡ eqb (topOf row 64) 0
-    taken ne =
-        let h : (t : ℕ) × (getD row t 0 ≡ topOf row 64) = hit ne in
-        let z : getD row (h .0) 0 ≡ 0 → ⊥ = λ e. ne (sym (h .1) ∙ e) in
-        every-no (placeRight row out 0) 64 (h .0) (inside 64 row (h .0) long z) (zero-right row out (h .0) ∙ ne-eqb (getD row (h .0) 0) 0 z)
-        ∙ sym (ne-eqb (topOf row 64) 0 ne)
+clear-right places i out within =
+    let row : List ℕ = rowOf places i in
+    every-same _ (placeRight row out 0) 64 (λ k h. sym (zero-right row out k ∙ ap (λ (x : ℕ). eqb x 0) (row-at places i within k h)))
+    ∙ sym (first-decides (every (placeRight row out 0) 64) _ (every-yes (λ x. ltb (onPlace row (x + 1)) 64) 0 (λ x h. absurd (omega arith))))
 
 -- no more are free than there are
 pub free-few : (out n : ℕ) {most : ℕ} → most ≡ freeOf out n → n ≤ 64 → most ≤ 64

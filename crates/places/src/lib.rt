@@ -234,15 +234,32 @@ fn places_taken(on: [u8; 256], most: u32) -> bool
     ok
 }
 
-// "The order of free buffers joins the state, each free buffer once": of `n` buffers, those that are free have the places 1 to
-// their number. A slot without a pool has none, and most slots are such.
-pub fn order_right(row: [u8; 64], out: u64, n: u32) -> bool
-    requires { ⌜ n ≤ 64 ⌝ }
-    ensures { λ r. ⌜ r ≡ orderRight row out n ⌝ }
+// Whether the row of pool `i` holds no place: that of a slot without a pool, as most are. It is read where it lies.
+fn is_clear(places: &[u8], i: usize) -> bool
+    requires { ⌜ i * 64 + 64 ≤ length (now places) ⌝ }
+    ensures { λ r. ⌜ ((out : ℕ) → r ≡ orderRight (rowOf (now (places .entry)) i) out 0) ⌝ }
+{
+    let base = i * 64;
+    let mut ok = true;
+    let mut k: usize = 0;
+    while k < 64 {
+        let right = places[base + k] == 0;
+        ok = right & ok;
+        k += 1;
+    }
+    ok
+}
+
+// "The order of free buffers joins the state, each free buffer once": of `n` buffers of pool `i`, those that are free have the places
+// 1 to their number.
+pub fn order_right(places: &[u8], i: usize, out: u64, n: u32) -> bool
+    requires { ⌜ (i * 64 + 64 ≤ length (now places)) × (n ≤ 64) ⌝ }
+    ensures { λ r. ⌜ r ≡ orderRight (rowOf (now (places .entry)) i) out n ⌝ }
 {
     if n == 0 {
-        return top(row) == 0;
+        return is_clear(places, i);
     }
+    let row = row_of(places, i);
     let most = areas::free_of(out, n);
     let on = by_place(row);
     places_right(row, on, out, n, most) & places_taken(on, most)

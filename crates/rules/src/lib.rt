@@ -438,8 +438,7 @@ fn orders_right(p: Pools) -> bool
     let mut ok = true;
     let mut i: usize = 0;
     while i < 8 {
-        let row = places::row_of(&place, i);
-        let right = places::order_right(row, out[i], areas::buffers_of(long[i], size[i]));
+        let right = places::order_right(&place, i, out[i], areas::buffers_of(long[i], size[i]));
         ok = right & ok;
         i += 1;
     }

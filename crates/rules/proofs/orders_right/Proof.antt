@@ -22,11 +22,8 @@ abbrev μ-loop : tie.MeasureT-loop
 loop-holds : tie.Need-loop-holds Inv-loop μ-loop
 loop-holds c = testing-start _ _
 
-slice-aggregate-row-of : tie.Need-slice-aggregate-row-of Inv-loop μ-loop
-slice-aggregate-row-of c = search needs
-
-row-of-requires : tie.Need-row-of-requires Inv-loop μ-loop
-row-of-requires c κs = let n : length (c .before .before .before .before .before .before .before .args .p .place) ≡ 512 = search needs in omega arith
+slice-aggregate-order-right : tie.Need-slice-aggregate-order-right Inv-loop μ-loop
+slice-aggregate-order-right c = search needs
 
 mul-order-right : tie.Need-mul-order-right Inv-loop μ-loop
 mul-order-right c = search needs
@@ -50,7 +47,9 @@ buffers-of-requires : tie.Need-buffers-of-requires Inv-loop μ-loop
 buffers-of-requires c κs = search needs
 
 order-right-requires : tie.Need-order-right-requires Inv-loop μ-loop
-order-right-requires c κs = rw (c .buffers-of .ensures) (buffers-few _ _)
+order-right-requires c κs =
+    let n : length (c .before .before .before .before .before .before .before .before .args .p .place) ≡ 512 = search needs in
+    (omega (arith, n, c .before .before .loop-test .taken), rw (c .buffers-of .ensures) (buffers-few _ _))
 
 add-i : tie.Need-add-i Inv-loop μ-loop
 add-i c = search needs
@@ -59,9 +58,7 @@ loop-less : tie.Need-loop-less Inv-loop μ-loop
 loop-less c = search needs
 
 loop-again : tie.Need-loop-again Inv-loop μ-loop
-loop-again c =
-    testing-more (c .before .before .before .before .before .loop .inv) (search needs)
-    (c .order-right .ensures ∙ rw (c .before .buffers-of .ensures, c .before .before .row-of .ensures))
+loop-again c = testing-more (c .before .before .before .before .loop .inv) (search needs) (c .order-right .ensures ∙ rw (c .before .buffers-of .ensures))
 
 returns : tie.Need-returns Inv-loop μ-loop
 unfolding ordersRight
@@ -74,8 +71,7 @@ orders-right-spec =
     Inv-loop
     μ-loop
     loop-holds
-    slice-aggregate-row-of
-    row-of-requires
+    slice-aggregate-order-right
     mul-order-right
     array-read-order-right
     mul-buffers-of
