@@ -5,4 +5,3 @@ pub mod Places
 pub mod Grants
 pub mod Ends
 pub mod Still
-pub mod Shown

@@ -148,13 +148,19 @@ module _ (s : State) (x : ℕ) where
   abbrev PoolNew : Answer → Type 0
   PoolNew a = New (s .pools .serial) (s .pools .live) (a .state .pools .serial) (a .state .pools .live) (a .state .pools .name) x (value a)
 
+  -- in two parts, since a chain of five refusals is dear to check
+  pool-new-at : (address n size options : ℕ) → length (s .pools .serial) ≡ 8 → length (s .pools .live) ≡ 8 → length (s .pools .name) ≡ 8
+      → WhenOK PoolNew (poolCreateAt s x address n size options (lowestUsable (s .pools .serial) (s .pools .live)))
+  unfolding poolCreateAt gives answer
+  pool-new-at address n size options eight l m =
+      after-refusal PoolNew s 7 (λ z. omega arith) _
+      (λ h. after-refusal PoolNew s 15 (λ z. omega arith) _
+      (λ g e. new (s .pools .serial) (s .pools .live) (s .pools .name) x (omega (arith, leb-false 8 (lowestUsable (s .pools .serial) (s .pools .live)) h)) (omega arith) (omega arith) (omega arith)))
+
   pub pool-new : (address n size options : ℕ) → length (s .pools .serial) ≡ 8 → length (s .pools .live) ≡ 8 → length (s .pools .name) ≡ 8
       → WhenOK PoolNew (poolCreate s x address n size options)
-  unfolding poolCreate poolCreateAt gives answer
+  unfolding poolCreate
   pool-new address n size options eight l m =
       after-refusal PoolNew s 3 (λ z. omega arith) _
       (λ b. after-refusal PoolNew s 14 (λ z. omega arith) _
-      (λ c. after-refusal PoolNew s 6 (λ z. omega arith) _
-      (λ d. after-refusal PoolNew s 7 (λ z. omega arith) _
-      (λ h. after-refusal PoolNew s 15 (λ z. omega arith) _
-      (λ g e. new (s .pools .serial) (s .pools .live) (s .pools .name) x (omega (arith, leb-false 8 (lowestUsable (s .pools .serial) (s .pools .live)) h)) (omega arith) (omega arith) (omega arith))))))
+      (λ c. after-refusal PoolNew s 6 (λ z. omega arith) _ (λ d. pool-new-at address n size options eight l m)))

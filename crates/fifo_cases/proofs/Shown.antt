@@ -21,8 +21,8 @@ use Rattle.scope.specs.Calls.{mayCall}
 use Rattle.scope.specs.Step.{callerRefusal, answered, stepped}
 use Rattle.books.specs.Past.{isAnswer, isAnswerOf, creates}
 use Rattle.books.specs.Waiting.{doneTo, pends, endsWait}
 use Rattle.fifo.specs.Places.{leavesUngranted}
-use Rattle.fifo.specs.Shown.{Shown}
+use Rattle.fifo_cases.specs.Shown.{Shown}
 
 pub all-shown : Shown
 unfolding pick least every number bits leadingZeros found usable lowestUsable waitsOn onSeat standsIn standing lower leaves raise laterOf aheadOf joins holdsTask ringMask maskFilled maskEmptied maskLeft ringsLeft ringsReady runnerOf readyWith less runningTask answer plain gives badState wakesWith onFound isArea isSize buffersOf shareByte isOut isFree freeOf rowOf onPlace taskFound taskCreateAt taskCreate taskStartAt wokenSeats wokenRings wake wakeNext isTimeOut queueKey waits semCreateAt semCreate semWaitAt semClaimAt semReleaseAt seatRight seatsRight ringsRight readyRight readyOrderRight objects waitRight waitsRight joinedRight queuesSorted countRight countsRight startRight startsRight taskRight tasksRight semRight semsRight admitted poolRight poolsRight placeRight orderRight ordersRight pairShares poolsApart runningRight keeps sound freshState mayCall callerRefusal answered stepped isAnswer isAnswerOf creates doneTo pends endsWait taskSuspendAt taskSetPriorityAt timeLeft timesLeft isDue wakeDue tick leavesUngranted

@@ -15,7 +15,7 @@ use Rattle.scope.specs.Objects.{objects}
 use Rattle.scope.specs.Rules.{seatRight, seatsRight, ringsRight, readyRight, readyOrderRight, waitRight, waitsRight, joinedRight, queuesSorted, countRight, countsRight, startRight, startsRight, taskRight, tasksRight, semRight, semsRight, admitted, poolRight, poolsRight, placeRight, orderRight, ordersRight, pairShares, poolsApart, runningRight, keeps, sound}
 use Rattle.scope.specs.Calls.{mayCall}
 use Rattle.scope.specs.Step.{callerRefusal, answered, stepped}
-use Rattle.cases.specs.Broken.{good, broken, allBroken, allCalls, accepted, oneBroken}
+use Rattle.broken.specs.Broken.{good, broken, allBroken, allCalls, accepted, oneBroken}
 
 -- the good state is accepted
 pub good-accepted : T (accepted good)
