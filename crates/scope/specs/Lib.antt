@@ -10,6 +10,7 @@ pub mod Answers
 pub mod Replies
 pub mod Areas
 pub mod Places
+pub mod Messages
 pub mod Tasks
 pub mod Waiting
 pub mod Semaphores

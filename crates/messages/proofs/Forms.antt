@@ -1,0 +1,112 @@
+-- The test of the one form: bytes that are zeros, a cell and a row, as parts of the list of all cells.
+-- Assumes nothing.
+use Prim.Native.Nat.{ℕ, zero, suc, _+_, _-_, _*_, _≤_, _<_}
+use native.Mathlib.Omega.{arith}
+use mathlib.Core.Path.{_≡_, refl, sym, subst, ap, _∙_}
+use mathlib.Core.Bool.{Bool, true, false, _&&_}
+use mathlib.Core.List.{List}
+use lib.ListN.{length, getD, take, drop, length-drop}
+use lib.Seq.{length-take-le, take-take, drop-drop, getD-take, getD-drop}
+use lib.Dec.{leb, eqb}
+use borrow.Author.Tests.{le-leb, lt-leb}
+use Rattle.laws.proofs.Branches.{first-fails, second-decides}
+use Rattle.laws.proofs.Testing.{Testing, testing-start, testing-more, testing-done}
+use Rattle.scope.specs.Choice.{every}
+use Rattle.scope.specs.Messages.{cellsOf, isZeros, cellAt, cellRight, rowRight}
+use Rattle.messages.proofs.Parts.{drop-take}
+
+-- a loop over the bytes from `from` up to `to`
+abbrev pub Zeroing : List ℕ → ℕ → ℕ → Bool → ℕ → Type 0
+Zeroing cells from to ok j = (from ≤ j) × Testing (to - from) (λ k. eqb (getD cells (from + k) 0) 0) ok (j - from)
+
+module _ (cells : List ℕ) (from to : ℕ) where
+  pub zeroing-start : Zeroing cells from to true from
+  zeroing-start =
+      let e : 0 ≡ from - from = omega arith in
+      (omega arith, subst (λ (t : ℕ). Testing (to - from) (λ k. eqb (getD cells (from + k) 0) 0) true t) e (testing-start _ _))
+
+  pub zeroing-more : (ok : Bool) (j : ℕ) → j < to → Zeroing cells from to ok j → Zeroing cells from to (eqb (getD cells j 0) 0 && ok) (j + 1)
+  zeroing-more ok j h m =
+      let e : j - from + 1 ≡ j + 1 - from = omega (arith, m .0) in
+      let d : j ≡ from + (j - from) = omega (arith, m .0) in (
+        omega (arith, m .0),
+        subst (λ (t : ℕ). Testing (to - from) (λ k. eqb (getD cells (from + k) 0) 0) (eqb (getD cells j 0) 0 && ok) t) e
+            (testing-more (m .1) (omega (arith, m .0)) (ap (λ (k : ℕ). eqb (getD cells k 0) 0) d)),
+      )
+
+  pub zeroing-done : (ok : Bool) (j : ℕ) → to ≤ j → Zeroing cells from to ok j → ok ≡ every (λ k. eqb (getD cells (from + k) 0) 0) (to - from)
+  zeroing-done ok j h m = testing-done (m .1) (omega (arith, m .0))
+
+-- a test of all, by the same test
+pub every-same : (p q : ℕ → Bool) (n : ℕ) → ((k : ℕ) → k < n → p k ≡ q k) → every p n ≡ every q n
+unfolding every
+every-same p q zero h = refl
+every-same p q (suc n) h =
+    ap (λ (b : Bool). elim b as (λ x. Bool) [ true ↦ every p n | false ↦ false ]) (h n (omega arith))
+    ∙ ap (λ (b : Bool). elim (q n) as (λ x. Bool) [ true ↦ b | false ↦ false ]) (every-same p q n (λ k l. h k (omega arith)))
+
+-- the bytes of a part from its byte a on
+pub zeros-part : (cells : List ℕ) (c b a from to : ℕ) → c + b ≤ length cells → from ≡ c + a → to ≡ c + b
+    → every (λ k. eqb (getD cells (from + k) 0) 0) (to - from) ≡ isZeros (drop a (take b (drop c cells)))
+unfolding isZeros
+zeros-part cells c b a from to room e d =
+    ap (every (λ k. eqb (getD cells (from + k) 0) 0)) count ∙ every-same _ _ (length (drop a part)) (λ k l. ap (λ (x : ℕ). eqb x 0) (byte k l))
+  where
+    part : List ℕ
+    part = take b (drop c cells)
+
+    long : length (take b (drop c cells)) ≡ b
+    long = length-take-le b (drop c cells) (omega (arith, length-drop c cells))
+
+    count : to - from ≡ length (drop a (take b (drop c cells)))
+    count = omega (arith, long, length-drop a (take b (drop c cells)))
+
+    byte : (k : ℕ) → k < length (drop a (take b (drop c cells))) → getD cells (from + k) 0 ≡ getD (drop a (take b (drop c cells))) k 0
+    byte k l =
+        let i : from + k ≡ c + (a + k) = omega arith in
+        ap (λ (j : ℕ). getD cells j 0) i
+        ∙ sym (getD-drop c cells (a + k) 0)
+        ∙ sym (getD-take b (drop c cells) (a + k) 0 (omega (arith, count)))
+        ∙ sym (getD-drop a (take b (drop c cells)) k 0)
+
+module _ (cells : List ℕ) (i : ℕ) (size : length cells ≡ 8320) (hi : i < 8) where
+  -- cell k of queue i, where it lies
+  cell-where : (k : ℕ) → k < 16 → cellAt (cellsOf cells i) k ≡ take 65 (drop (i * 1040 + k * 65) cells)
+  unfolding cellAt cellsOf
+  cell-where k h =
+      let e : 1040 ≡ k * 65 + (1040 - k * 65) = omega arith in
+      ap (λ (n : ℕ). take 65 (drop (k * 65) (take n (drop (i * 1040) cells)))) e
+      ∙ ap (take 65) (drop-take (k * 65) (1040 - k * 65) (drop (i * 1040) cells))
+      ∙ take-take 65 (1040 - k * 65) (drop (k * 65) (drop (i * 1040) cells)) (omega arith)
+      ∙ ap (take 65) (drop-drop (k * 65) (i * 1040) cells)
+
+  -- a cell, by its length and what the loop over the bytes past it says
+  pub cell-told : (k longest n : ℕ) (z : Bool) → k < 16 → n ≡ getD cells (i * 1040 + k * 65) 0
+      → z ≡ every (λ j. eqb (getD cells (i * 1040 + k * 65 + n + 1 + j) 0) 0) (i * 1040 + k * 65 + 65 - (i * 1040 + k * 65 + n + 1))
+      → (leb (getD cells (i * 1040 + k * 65) 0) longest && z) ≡ cellRight longest (cellAt (cellsOf cells i) k)
+  unfolding cellRight
+  cell-told k longest n z h e d = rw (cell-where k h, head, ← e, past)
+    where
+      head : getD (take 65 (drop (i * 1040 + k * 65) cells)) 0 0 ≡ getD cells (i * 1040 + k * 65) 0
+      head =
+          let o : i * 1040 + k * 65 + 0 ≡ i * 1040 + k * 65 = omega arith in
+          getD-take 65 (drop (i * 1040 + k * 65) cells) 0 0 (omega arith)
+          ∙ getD-drop (i * 1040 + k * 65) cells 0 0
+          ∙ ap (λ (j : ℕ). getD cells j 0) o
+
+      past : z ≡ isZeros (drop (n + 1) (take 65 (drop (i * 1040 + k * 65) cells)))
+      past = d ∙ zeros-part cells (i * 1040 + k * 65) 65 (n + 1) (i * 1040 + k * 65 + n + 1) (i * 1040 + k * 65 + 65) (omega arith) (omega arith) refl
+
+  -- a row, by what its cells and the bytes behind them say
+  pub row-told : (h longest : ℕ) (ok z : Bool) → h ≤ 16 → ok ≡ every (λ k. cellRight longest (cellAt (cellsOf cells i) k)) h
+      → z ≡ every (λ j. eqb (getD cells (i * 1040 + h * 65 + j) 0) 0) (i * 1040 + 1040 - (i * 1040 + h * 65))
+      → (ok && z) ≡ rowRight (cellsOf cells i) h longest
+  unfolding rowRight cellsOf
+  row-told h longest ok z few e d = rw (e, past) (sym (second-decides _ _ (le-leb h 16 few)))
+    where
+      past : z ≡ isZeros (drop (h * 65) (cellsOf cells i))
+      past = d ∙ zeros-part cells (i * 1040) 1040 (h * 65) (i * 1040 + h * 65) (i * 1040 + 1040) (omega arith) refl refl
+
+pub row-many : (row : List ℕ) (h longest : ℕ) → 16 < h → false ≡ rowRight row h longest
+unfolding rowRight
+row-many row h longest l = sym (first-fails _ _ (lt-leb h 16 l))

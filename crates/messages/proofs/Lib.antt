@@ -1,0 +1,4 @@
+pub mod Pasting
+pub mod Parts
+pub mod Cells
+pub mod Forms

@@ -1,0 +1,54 @@
+-- `messages::zeros`: before byte j the loop holds the test of all bytes passed.
+-- Assumes nothing.
+use Prim.Native.Nat.{ℕ, _+_, _-_, _*_, _≤_, _<_}
+use native.Mathlib.Omega.{arith}
+use mathlib.Core.Path.{_≡_, refl, sym, ap, _∙_}
+use denote.Ref.{now}
+use lib.ListN.{length, getD, drop, set, replicate, length-drop, length-replicate, getD-replicate}
+use Rattle.messages.proofs.Forms.{Zeroing, zeroing-start, zeroing-more, zeroing-done}
+use borrow.Author.Needs.{needs}
+use Rattle.messages.proofs.zeros.Statement.{statement}
+use Rattle.messages.proofs.zeros.Tie as tie
+
+abbrev Inv-loop : tie.InvT-loop
+Inv-loop cells from to ok₀ j₀ ok j = Zeroing cells from to ok j
+
+abbrev μ-loop : tie.MeasureT-loop
+μ-loop cells from to ok₀ j₀ ok j = to - j
+
+loop-holds : tie.Need-loop-holds Inv-loop μ-loop
+loop-holds c = zeroing-start (now (c .args .cells)) (c .args .from) (c .args .to)
+
+shared-slice-read-right : tie.Need-shared-slice-read-right Inv-loop μ-loop
+shared-slice-read-right c = search needs
+
+add-j : tie.Need-add-j Inv-loop μ-loop
+add-j c = search needs
+
+loop-less : tie.Need-loop-less Inv-loop μ-loop
+loop-less c = search needs
+
+loop-again : tie.Need-loop-again Inv-loop μ-loop
+loop-again c =
+    let a = c .before .before .before .args in
+    let l = c .before .before .loop in
+    zeroing-more (now (a .cells)) (a .from) (a .to) (l .ok) (l .j) (search needs) (l .inv)
+
+returns : tie.Need-returns Inv-loop μ-loop
+returns c =
+    let a = c .before .before .args in
+    let l = c .before .loop in
+    zeroing-done (now (a .cells)) (a .from) (a .to) (l .ok) (l .j) (search needs) (l .inv)
+
+pub zeros-spec : {M : Type 1} → statement M
+zeros-spec =
+    tie.close
+    (tie.spec
+    Inv-loop
+    μ-loop
+    loop-holds
+    shared-slice-read-right
+    add-j
+    loop-less
+    loop-again
+    returns)
