@@ -1,12 +1,12 @@
 -- Parts of lists: a part of a part, zeros, and one part put in place of another.
 -- Assumes nothing.
-use Prim.Native.Nat.{ℕ, zero, suc, _+_, _-_, _*_, _≤_, _<_}
+use Prim.Native.Nat.{ℕ, zero, suc, _+_, _-_, _≤_}
 use native.Mathlib.Omega.{arith}
 use native.Mathlib.Nat.{zero-add}
-use mathlib.Core.Path.{_≡_, refl, sym, ap, _∙_}
-use mathlib.Core.List.{List, [], _∷_, _++_, append-assoc, append-nil}
-use lib.ListN.{length, getD, set, take, drop, replicate, length-append, length-drop, length-replicate, take-append-drop, replicate-append-replicate}
-use lib.Seq.{paste, take-paste, drop-paste, length-take-le, take-append-le, take-all, take-at, drop-at, take-take, drop-drop, take-add, drop-append-le, take-nil, drop-nil}
+use mathlib.Core.Path.{_≡_, sym, ap, _∙_}
+use mathlib.Core.List.{List, [], _∷_, _++_, append-assoc}
+use lib.ListN.{length, take, drop, replicate, length-drop, length-replicate, take-append-drop, replicate-append-replicate}
+use lib.Seq.{paste, take-paste, drop-paste, length-take-le, take-append-le, take-all, drop-at, take-take, drop-drop, take-add, drop-append-le, take-nil}
 
 -- what is left of a part without its first elements
 pub drop-take : (a b : ℕ) (l : List ℕ) → drop a (take (a + b) l) ≡ take b (drop a l)

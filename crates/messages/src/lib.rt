@@ -1,16 +1,16 @@
 // The messages that queues hold, changed where they lie: only the cells that hold one are moved. (scope's specs/Messages.antt.)
 ghost use mathlib.Core.Path.{_≡_};
-ghost use Prim.Native.Nat.{ℕ, _+_, _-_, _*_, _<_, _≤_};
+ghost use Prim.Native.Nat.{_+_, _-_, _*_, _<_, _≤_};
 ghost use lib.ListN.{length, getD, take, drop, replicate};
 ghost use lib.Seq.{paste};
 ghost use lib.Dec.{eqb};
 ghost use Rattle.scope.specs.Choice.{every};
 ghost use Rattle.scope.specs.Messages.{shownOf, cellOf, cellsOf, firstLength, firstShown, store, appended, pushed, taken, cleared, cellAt, cellRight, rowRight};
 
-fn wide(x: u8) -> usize
-    ensures { λ r. ⌜ (r ≡ x) × (r < 256) ⌝ }
+fn wide(b: u8) -> usize
+    ensures { λ r. ⌜ (r ≡ b) × (r < 256) ⌝ }
 {
-    x as usize
+    b as usize
 }
 
 fn narrow(x: usize) -> u8

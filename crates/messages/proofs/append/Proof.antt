@@ -1,10 +1,8 @@
 -- `messages::append`: the cell behind those held is written, or nothing.
 -- Assumes nothing.
-use Prim.Native.Nat.{ℕ, _+_, _-_, _*_, _≤_, _<_}
-use native.Mathlib.Omega.{arith}
-use mathlib.Core.Path.{_≡_, refl, sym, ap, _∙_}
+use mathlib.Core.Path.{_≡_}
 use denote.Ref.{now}
-use lib.ListN.{length, getD, drop, set, replicate}
+use lib.ListN.{length}
 use Rattle.messages.proofs.Cells.{append-told, append-full}
 use borrow.Author.Needs.{needs}
 use Rattle.messages.proofs.append.Statement.{statement}

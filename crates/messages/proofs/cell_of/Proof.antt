@@ -1,10 +1,10 @@
 -- `messages::cell_of`: before byte k the first k bytes of the message are put in behind its length.
 -- Assumes nothing.
-use Prim.Native.Nat.{ℕ, _+_, _-_, _*_, _≤_, _<_}
+use Prim.Native.Nat.{ℕ, _+_, _-_}
 use native.Mathlib.Omega.{arith}
-use mathlib.Core.Path.{_≡_, refl, sym, ap, _∙_}
+use mathlib.Core.Path.{_≡_, refl, ap, _∙_}
 use denote.Ref.{now}
-use lib.ListN.{length, getD, drop, set, replicate, length-drop, length-replicate, getD-replicate}
+use lib.ListN.{set, replicate}
 use Rattle.messages.proofs.Pasting.{Pasting, pasting-start, pasting-more, pasting-done}
 use Rattle.messages.proofs.Cells.{cell-is}
 use lib.Seq.{paste}

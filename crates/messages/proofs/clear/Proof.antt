@@ -1,11 +1,10 @@
 -- `messages::clear`: the whole row is wiped.
 -- Assumes nothing.
-use Prim.Native.Nat.{ℕ, _+_, _-_, _*_, _≤_, _<_}
-use native.Mathlib.Omega.{arith}
-use mathlib.Core.Path.{_≡_, refl, sym, ap, _∙_}
+use Prim.Native.Nat.{ℕ}
+use mathlib.Core.Path.{_≡_, ap, _∙_}
 use mathlib.Core.List.{List}
 use denote.Ref.{now}
-use lib.ListN.{length, getD, drop, set, replicate}
+use lib.ListN.{length, set}
 use Rattle.scope.specs.Messages.{store, cleared}
 use Rattle.messages.proofs.Cells.{clear-is}
 use borrow.Author.Needs.{needs}

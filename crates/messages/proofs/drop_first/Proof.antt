@@ -1,10 +1,8 @@
 -- `messages::drop_first`: those behind the first come down and the last cell is wiped, or nothing.
 -- Assumes nothing.
-use Prim.Native.Nat.{ℕ, _+_, _-_, _*_, _≤_, _<_}
-use native.Mathlib.Omega.{arith}
-use mathlib.Core.Path.{_≡_, refl, sym, ap, _∙_}
+use mathlib.Core.Path.{_≡_}
 use denote.Ref.{now}
-use lib.ListN.{length, getD, drop, set, replicate}
+use lib.ListN.{length}
 use Rattle.messages.proofs.Cells.{take-told, take-none, take-many}
 use borrow.Author.Needs.{needs}
 use Rattle.messages.proofs.drop_first.Statement.{statement}

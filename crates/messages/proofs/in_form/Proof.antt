@@ -1,8 +1,7 @@
 -- `messages::in_form`: before cell k the loop holds the test of all cells passed; then the bytes behind them are looked at.
 -- Assumes nothing.
-use Prim.Native.Nat.{ℕ, _+_, _-_, _*_, _≤_, _<_}
-use native.Mathlib.Omega.{arith}
-use mathlib.Core.Path.{_≡_, refl, sym, ap, _∙_}
+use Prim.Native.Nat.{_-_}
+use mathlib.Core.Path.{_≡_}
 use denote.Ref.{now}
 use lib.ListN.{length}
 use Rattle.laws.proofs.Testing.{Testing, testing-start, testing-more, testing-done}

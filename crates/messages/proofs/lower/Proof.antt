@@ -1,10 +1,10 @@
 -- `messages::lower`: before byte k the first k bytes have come down; what is read has not been laid over.
 -- Assumes nothing.
-use Prim.Native.Nat.{ℕ, _+_, _-_, _*_, _≤_, _<_}
+use Prim.Native.Nat.{_+_, _-_}
 use native.Mathlib.Omega.{arith}
-use mathlib.Core.Path.{_≡_, refl, sym, ap, _∙_}
+use mathlib.Core.Path.{refl}
 use denote.Ref.{now}
-use lib.ListN.{length, getD, drop, set, replicate, length-drop, length-replicate, getD-replicate}
+use lib.ListN.{drop, length-drop}
 use Rattle.messages.proofs.Pasting.{Pasting, pasting-start, lowering-more, pasting-done}
 use borrow.Author.Needs.{needs}
 use Rattle.messages.proofs.lower.Statement.{statement}

@@ -1,10 +1,8 @@
 -- `messages::push_front`: those held go up and the first cell is written, or nothing.
 -- Assumes nothing.
-use Prim.Native.Nat.{ℕ, _+_, _-_, _*_, _≤_, _<_}
-use native.Mathlib.Omega.{arith}
-use mathlib.Core.Path.{_≡_, refl, sym, ap, _∙_}
+use mathlib.Core.Path.{_≡_}
 use denote.Ref.{now}
-use lib.ListN.{length, getD, drop, set, replicate}
+use lib.ListN.{length}
 use Rattle.messages.proofs.Cells.{push-told, push-full}
 use borrow.Author.Needs.{needs}
 use Rattle.messages.proofs.push_front.Statement.{statement}

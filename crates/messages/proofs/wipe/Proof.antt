@@ -1,10 +1,10 @@
 -- `messages::wipe`: before byte k the first k are zeros.
 -- Assumes nothing.
-use Prim.Native.Nat.{ℕ, _+_, _-_, _*_, _≤_, _<_}
+use Prim.Native.Nat.{ℕ, _-_, _<_}
 use native.Mathlib.Omega.{arith}
-use mathlib.Core.Path.{_≡_, refl, sym, ap, _∙_}
+use mathlib.Core.Path.{refl, sym}
 use denote.Ref.{now}
-use lib.ListN.{length, getD, drop, set, replicate, length-drop, length-replicate, getD-replicate}
+use lib.ListN.{replicate, length-replicate, getD-replicate}
 use Rattle.messages.proofs.Pasting.{Pasting, pasting-start, pasting-more, pasting-done}
 use borrow.Author.Needs.{needs}
 use Rattle.messages.proofs.wipe.Statement.{statement}

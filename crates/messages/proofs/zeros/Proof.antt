@@ -1,10 +1,7 @@
 -- `messages::zeros`: before byte j the loop holds the test of all bytes passed.
 -- Assumes nothing.
-use Prim.Native.Nat.{ℕ, _+_, _-_, _*_, _≤_, _<_}
-use native.Mathlib.Omega.{arith}
-use mathlib.Core.Path.{_≡_, refl, sym, ap, _∙_}
+use Prim.Native.Nat.{_-_}
 use denote.Ref.{now}
-use lib.ListN.{length, getD, drop, set, replicate, length-drop, length-replicate, getD-replicate}
 use Rattle.messages.proofs.Forms.{Zeroing, zeroing-start, zeroing-more, zeroing-done}
 use borrow.Author.Needs.{needs}
 use Rattle.messages.proofs.zeros.Statement.{statement}
