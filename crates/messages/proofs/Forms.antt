@@ -8,34 +8,48 @@ use mathlib.Core.List.{List}
 use lib.ListN.{length, getD, take, drop, length-drop}
 use lib.Seq.{length-take-le, take-take, drop-drop, getD-take, getD-drop}
 use lib.Dec.{leb, eqb}
-use borrow.Author.Tests.{le-leb, lt-leb}
+use lib.Bits.{bitOr, bitAnd, or-add-and, and-le-l, and-le-r}
+use borrow.Author.Tests.{le-leb, lt-leb, eq-eqb, ne-eqb, eqb-true, eqb-false}
 use Rattle.laws.proofs.Branches.{first-fails, second-decides}
 use Rattle.laws.proofs.Testing.{Testing, testing-start, testing-more, testing-done}
 use Rattle.scope.specs.Choice.{every}
 use Rattle.scope.specs.Messages.{cellsOf, isZeros, cellAt, cellRight, rowRight}
 use Rattle.messages.proofs.Parts.{drop-take}
 
--- a loop over the bytes from `from` up to `to`
-abbrev pub Zeroing : List ℕ → ℕ → ℕ → Bool → ℕ → Type 0
-Zeroing cells from to ok j = (from ≤ j) × Testing (to - from) (λ k. eqb (getD cells (from + k) 0) 0) ok (j - from)
+-- two numbers together have no bit exactly if neither has one
+or-none : (a x : ℕ) → eqb (bitOr a x) 0 ≡ (eqb x 0 && eqb a 0)
+or-none a x = go (eqb x 0) (eqb a 0) refl refl
+  where
+    sum : bitOr a x + bitAnd a x ≡ a + x
+    sum = or-add-and a x
+
+    go : (p q : Bool) → eqb x 0 ≡ p → eqb a 0 ≡ q → eqb (bitOr a x) 0 ≡ (p && q)
+    go true true d e = eq-eqb (bitOr a x) 0 (omega (arith, sum, eqb-true x 0 d, eqb-true a 0 e))
+    go true false d e = ne-eqb (bitOr a x) 0 (λ z. eqb-false a 0 e (omega (arith, sum, and-le-r a x, eqb-true x 0 d)))
+    go false q d e = ne-eqb (bitOr a x) 0 (λ z. eqb-false x 0 d (omega (arith, sum, and-le-l a x)))
+
+-- a loop over the bytes from `from` up to `to` that puts their bits together
+abbrev pub Zeroing : List ℕ → ℕ → ℕ → ℕ → ℕ → Type 0
+Zeroing cells from to some j = (from ≤ j) × Testing (to - from) (λ k. eqb (getD cells (from + k) 0) 0) (eqb some 0) (j - from)
 
 module _ (cells : List ℕ) (from to : ℕ) where
-  pub zeroing-start : Zeroing cells from to true from
+  pub zeroing-start : Zeroing cells from to 0 from
   zeroing-start =
       let e : 0 ≡ from - from = omega arith in
       (omega arith, subst (λ (t : ℕ). Testing (to - from) (λ k. eqb (getD cells (from + k) 0) 0) true t) e (testing-start _ _))
 
-  pub zeroing-more : (ok : Bool) (j : ℕ) → j < to → Zeroing cells from to ok j → Zeroing cells from to (eqb (getD cells j 0) 0 && ok) (j + 1)
-  zeroing-more ok j h m =
+  pub zeroing-more : (some j : ℕ) → j < to → Zeroing cells from to some j → Zeroing cells from to (bitOr some (getD cells j 0)) (j + 1)
+  zeroing-more some j h m =
       let e : j - from + 1 ≡ j + 1 - from = omega (arith, m .0) in
       let d : j ≡ from + (j - from) = omega (arith, m .0) in (
         omega (arith, m .0),
-        subst (λ (t : ℕ). Testing (to - from) (λ k. eqb (getD cells (from + k) 0) 0) (eqb (getD cells j 0) 0 && ok) t) e
-            (testing-more (m .1) (omega (arith, m .0)) (ap (λ (k : ℕ). eqb (getD cells k 0) 0) d)),
+        subst (λ (b : Bool). Testing (to - from) (λ k. eqb (getD cells (from + k) 0) 0) b (j + 1 - from)) (sym (or-none some (getD cells j 0)))
+            (subst (λ (t : ℕ). Testing (to - from) (λ k. eqb (getD cells (from + k) 0) 0) (eqb (getD cells j 0) 0 && eqb some 0) t) e
+            (testing-more (m .1) (omega (arith, m .0)) (ap (λ (k : ℕ). eqb (getD cells k 0) 0) d))),
       )
 
-  pub zeroing-done : (ok : Bool) (j : ℕ) → to ≤ j → Zeroing cells from to ok j → ok ≡ every (λ k. eqb (getD cells (from + k) 0) 0) (to - from)
-  zeroing-done ok j h m = testing-done (m .1) (omega (arith, m .0))
+  pub zeroing-done : (some j : ℕ) → to ≤ j → Zeroing cells from to some j → eqb some 0 ≡ every (λ k. eqb (getD cells (from + k) 0) 0) (to - from)
+  zeroing-done some j h m = testing-done (m .1) (omega (arith, m .0))
 
 -- a test of all, by the same test
 pub every-same : (p q : ℕ → Bool) (n : ℕ) → ((k : ℕ) → k < n → p k ≡ q k) → every p n ≡ every q n

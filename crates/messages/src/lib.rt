@@ -189,14 +189,13 @@ fn zeros(cells: &[u8], from: usize, to: usize) -> bool
     requires { ⌜ to ≤ length (now cells) ⌝ }
     ensures { λ r. ⌜ r ≡ every (λ k. eqb (getD (now (cells .entry)) (from + k) 0) 0) (to - from) ⌝ }
 {
-    let mut ok = true;
+    let mut some: u8 = 0;
     let mut j: usize = from;
     while j < to {
-        let right = cells[j] == 0;
-        ok = right & ok;
+        some = some | cells[j];
         j += 1;
     }
-    ok
+    some == 0
 }
 
 // Whether cell `k` of queue `i` holds a message of at most `longest` bytes, and zeros past it.
