@@ -1,7 +1,8 @@
 -- The test of the one form: bytes that are zeros, a cell and a row, as parts of the list of all cells.
 -- Assumes nothing.
-use Prim.Native.Nat.{ℕ, zero, suc, _+_, _-_, _*_, _≤_, _<_}
+use Prim.Native.Nat.{_/_, _%_, ℕ, zero, suc, _+_, _-_, _*_, _≤_, _<_}
 use native.Mathlib.Omega.{arith}
+use native.Mathlib.Nat.{mod-lt, div-add-mod'}
 use mathlib.Core.Path.{_≡_, refl, sym, subst, ap, _∙_}
 use mathlib.Core.Bool.{Bool, true, false, _&&_}
 use mathlib.Core.List.{List}
@@ -11,9 +12,10 @@ use lib.Dec.{leb, eqb}
 use lib.Bits.{bitOr, bitAnd, or-add-and, and-le-l, and-le-r}
 use borrow.Author.Tests.{le-leb, lt-leb, eq-eqb, ne-eqb, eqb-true, eqb-false}
 use Rattle.laws.proofs.Branches.{first-fails, second-decides}
+use Rattle.laws.proofs.Searches.{every-at, every-yes}
 use Rattle.laws.proofs.Testing.{Testing, testing-start, testing-more, testing-done}
 use Rattle.scope.specs.Choice.{every}
-use Rattle.scope.specs.Messages.{cellsOf, isZeros, cellAt, cellRight, rowRight}
+use Rattle.scope.specs.Messages.{cellsOf, isZeros, cellAt, cellRight, rowRight, store, storeRight}
 use Rattle.messages.proofs.Parts.{drop-take}
 
 -- two numbers together have no bit exactly if neither has one
@@ -124,3 +126,55 @@ module _ (cells : List ℕ) (i : ℕ) (size : length cells ≡ 8320) (hi : i < 8
 pub row-many : (row : List ℕ) (h longest : ℕ) → 16 < h → false ≡ rowRight row h longest
 unfolding rowRight
 row-many row h longest l = sym (first-fails _ _ (lt-leb h 16 l))
+
+-- the row of a queue that holds nothing
+row-clear : (cells : List ℕ) (i longest : ℕ) → length cells ≡ 8320 → i < 8
+    → every (λ j. eqb (getD cells (i * 1040 + 0 * 65 + j) 0) 0) (i * 1040 + 1040 - (i * 1040 + 0 * 65)) ≡ rowRight (cellsOf cells i) 0 longest
+unfolding every
+row-clear cells i longest size hi = row-told cells i size hi 0 longest true _ (omega arith) refl refl
+
+either-way : (a b : Bool) → (a ≡ true → b ≡ true) → (b ≡ true → a ≡ true) → a ≡ b
+either-way true b f g = sym (f refl)
+either-way false true f g = g refl
+either-way false false f g = refl
+
+-- where no queue holds a message the form is that all bytes are zeros
+pub none-held : (cells held longest : List ℕ) (z : Bool) → length cells ≡ 8320 → every (λ k. eqb (getD held (0 + k) 0) 0) (8 - 0) ≡ true
+    → z ≡ every (λ k. eqb (getD cells (0 + k) 0) 0) (8320 - 0) → z ≡ storeRight (store cells held) longest
+unfolding storeRight
+none-held cells held longest z size none e = either-way z _ all back
+  where
+    empty : (i : ℕ) → i < 8 → getD held i 0 ≡ 0
+    empty i h =
+        let o : 0 + i ≡ i = omega arith in
+        ap (λ (k : ℕ). getD held k 0) (sym o) ∙ eqb-true (getD held (0 + i) 0) 0 (every-at (λ k. eqb (getD held (0 + k) 0) 0) 8 none i h)
+
+    row : (i : ℕ) → i < 8
+        → every (λ j. eqb (getD cells (i * 1040 + 0 * 65 + j) 0) 0) (i * 1040 + 1040 - (i * 1040 + 0 * 65))
+        ≡ rowRight (cellsOf cells i) (getD held i 0) (getD longest i 0)
+    row i h = row-clear cells i (getD longest i 0) size h ∙ ap (λ (k : ℕ). rowRight (cellsOf cells i) k (getD longest i 0)) (sym (empty i h))
+
+    all : z ≡ true → every (λ i. rowRight (cellsOf cells i) (getD held i 0) (getD longest i 0)) 8 ≡ true
+    all t =
+        every-yes (λ i. rowRight (cellsOf cells i) (getD held i 0) (getD longest i 0)) 8
+        (λ i h. sym (row i h)
+        ∙ every-yes (λ j. eqb (getD cells (i * 1040 + 0 * 65 + j) 0) 0) (i * 1040 + 1040 - (i * 1040 + 0 * 65))
+        (λ j l. let o : i * 1040 + 0 * 65 + j ≡ 0 + (i * 1040 + j) = omega arith in
+        ap (λ (k : ℕ). eqb (getD cells k 0) 0) o ∙ every-at (λ k. eqb (getD cells (0 + k) 0) 0) 8320 (sym e ∙ t) (i * 1040 + j) (omega arith)))
+
+    byte : every (λ i. rowRight (cellsOf cells i) (getD held i 0) (getD longest i 0)) 8 ≡ true → (i j : ℕ) → i < 8 → j < 1040
+        → eqb (getD cells (i * 1040 + 0 * 65 + j) 0) 0 ≡ true
+    byte t i j h l =
+        every-at (λ j. eqb (getD cells (i * 1040 + 0 * 65 + j) 0) 0) (i * 1040 + 1040 - (i * 1040 + 0 * 65))
+        (row i h ∙ every-at (λ i. rowRight (cellsOf cells i) (getD held i 0) (getD longest i 0)) 8 t i h) j (omega arith)
+
+    at : every (λ i. rowRight (cellsOf cells i) (getD held i 0) (getD longest i 0)) 8 ≡ true → (k i j : ℕ) → i * 1040 + j ≡ k → j < 1040 → k < 8320
+        → eqb (getD cells (0 + k) 0) 0 ≡ true
+    at t k i j d l h =
+        let o : 0 + k ≡ i * 1040 + 0 * 65 + j = omega arith in
+        ap (λ (m : ℕ). eqb (getD cells m 0) 0) o ∙ byte t i j (omega arith) l
+
+    back : every (λ i. rowRight (cellsOf cells i) (getD held i 0) (getD longest i 0)) 8 ≡ true → z ≡ true
+    back t =
+        e
+        ∙ every-yes (λ k. eqb (getD cells (0 + k) 0) 0) 8320 (λ k h. at t k (k / 1040) (k % 1040) (div-add-mod' k 1040) (mod-lt k (omega arith)) h)

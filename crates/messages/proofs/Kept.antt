@@ -7,19 +7,35 @@ use mathlib.Core.Path.{_≡_, refl, sym, subst}
 use mathlib.Core.Logic.{⊎-elim}
 use mathlib.Core.Bool.{Bool, true, false, _&&_}
 use mathlib.Core.List.{List, []}
-use lib.ListN.{length, replicate, length-replicate}
+use lib.ListN.{length, getD, replicate, length-replicate}
 use lib.Dec.{ltb, leb}
 use borrow.Author.Tests.{ltb-true, leb-true}
 use Rattle.laws.proofs.Branches.{eq-or-not, both-true}
+use Rattle.laws.proofs.Searches.{every-at, every-yes}
 use Rattle.scope.specs.Choice.{pick}
-use Rattle.scope.specs.Messages.{atEnd, inFront, firstGone, cellRight, Store, heldIn, rowIn, withQueue, appended, pushed, taken, cleared}
+use Rattle.scope.specs.Messages.{atEnd, inFront, firstGone, cellRight, rowRight, storeRight, Store, heldIn, rowIn, withQueue, appended, pushed, taken, cleared}
 use Rattle.messages.proofs.Stores.{Sized, length-row, with-sized, with-row, with-held, other-row, other-held, length-end, length-front, length-gone}
-use Rattle.messages.proofs.Keeps.{InForm, end-keeps, front-keeps, gone-keeps, none-keeps}
+use Rattle.messages.proofs.Keeps.{InForm, form-told, form-tells, end-keeps, front-keeps, gone-keeps, none-keeps}
 
 -- every queue is in form; `longest` says how long a queue's messages may be
 pub record Kept (longest : ℕ → ℕ) (s : Store) : Type 0 where
   pub sized : Sized s
   pub form : (j : ℕ) → j < 8 → InForm (rowIn s j) (heldIn s j) (longest j)
+
+-- the test of all queues says so, and back
+pub store-told : (s : Store) (longest : List ℕ) → Sized s → storeRight s longest ≡ true → Kept (λ i. getD longest i 0) s
+unfolding storeRight
+store-told s longest z e = record {
+  sized = z;
+  form = λ j h. form-told (rowIn s j) (heldIn s j) (getD longest j 0) (length-row s z j h)
+      (every-at (λ i. rowRight (rowIn s i) (heldIn s i) (getD longest i 0)) 8 e j h);
+}
+
+pub store-tells : (s : Store) (longest : List ℕ) → Kept (λ i. getD longest i 0) s → storeRight s longest ≡ true
+unfolding storeRight
+store-tells s longest w =
+    every-yes (λ i. rowRight (rowIn s i) (heldIn s i) (getD longest i 0)) 8
+    (λ j h. form-tells (rowIn s j) (heldIn s j) (getD longest j 0) (length-row s (w .sized) j h) (w .form j h))
 
 module _ (longest : ℕ → ℕ) (s : Store) (w : Kept longest s) (i : ℕ) (hi : i < 8) where
   row-long : length (rowIn s i) ≡ 1040

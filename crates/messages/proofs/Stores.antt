@@ -16,7 +16,7 @@ use Rattle.laws.proofs.Branches.{lt-or-le, picked-yes, picked-no, both, both-tr
 use Rattle.scope.specs.Choice.{pick}
 use Rattle.scope.specs.Messages.{cellsOf, withCells, atEnd, inFront, firstGone, cellsIn, messageIn, messagesIn, Store, heldIn, rowIn, messagesOf, withQueue, appended, pushed, taken, cleared}
 use Rattle.messages.proofs.Parts.{drop-take}
-use Rattle.messages.proofs.Views.{end-messages, front-messages, rest-messages}
+use Rattle.messages.proofs.Views.{count-messages, end-messages, front-messages, rest-messages}
 
 pub record Sized (s : Store) : Type 0 where
   pub cells : length (s .cells) ≡ 8320
@@ -128,6 +128,11 @@ module _ (row cell : List ℕ) (h : ℕ) (long : length row ≡ 1040) where
         length-replicate {A = ℕ} 65 0,
         length-drop (h * 65) row,
       )
+
+-- "messages held": as many as the view has
+pub held-counts : (s : Store) (i : ℕ) → length (messagesOf s i) ≡ heldIn s i
+unfolding messagesOf
+held-counts s i = count-messages (rowIn s i) (heldIn s i)
 
 module _ (s : Store) (z : Sized s) (i : ℕ) (hi : i < 8) where
   -- "A message goes .. to the end"

@@ -5,7 +5,7 @@ ghost use lib.ListN.{length, getD, take, drop, replicate};
 ghost use lib.Seq.{paste};
 ghost use lib.Dec.{eqb};
 ghost use Rattle.scope.specs.Choice.{every};
-ghost use Rattle.scope.specs.Messages.{shownOf, cellOf, cellsOf, firstLength, firstShown, store, appended, pushed, taken, cleared, cellAt, cellRight, rowRight};
+ghost use Rattle.scope.specs.Messages.{shownOf, cellOf, cellsOf, firstLength, firstShown, store, appended, pushed, taken, cleared, cellAt, cellRight, rowRight, storeRight};
 
 fn wide(b: u8) -> usize
     ensures { λ r. ⌜ (r ≡ b) × (r < 256) ⌝ }
@@ -224,4 +224,21 @@ pub fn in_form(cells: &[u8; 8320], i: usize, h: usize, longest: u8) -> bool
         k += 1;
     }
     ok & zeros(cells, i * 1040 + h * 65, i * 1040 + 1040)
+}
+
+// Whether every queue is in its one form. Where none holds a message that is one pass over all bytes.
+pub fn all_in_form<'a>(cells: &'a [u8; 8320], held: &'a [u8; 8], longest: &'a [u8; 8]) -> bool
+    ensures { λ r. ⌜ r ≡ storeRight (store (now (cells .entry)) (now (held .entry))) (now (longest .entry)) ⌝ }
+{
+    if zeros(held, 0, 8) {
+        return zeros(cells, 0, 8320);
+    }
+    let mut ok = true;
+    let mut i: usize = 0;
+    while i < 8 {
+        let right = in_form(cells, i, wide(held[i]), longest[i]);
+        ok = right & ok;
+        i += 1;
+    }
+    ok
 }

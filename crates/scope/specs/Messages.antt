@@ -111,3 +111,7 @@ cellRight longest cell = leb (getD cell 0 0) longest && isZeros (drop (getD cell
 -- h cells do, and those behind are zeros
 unfoldable pub rowRight : List ℕ → ℕ → ℕ → Bool
 rowRight row h longest = leb h 16 && (every (λ k. cellRight longest (cellAt row k)) h && isZeros (drop (h * 65) row))
+
+-- every queue is in its one form; `longest` says how long the messages of each may be
+unfoldable pub storeRight : Store → List ℕ → Bool
+storeRight s longest = every (λ i. rowRight (rowIn s i) (heldIn s i) (getD longest i 0)) 8
