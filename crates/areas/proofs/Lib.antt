@@ -3,3 +3,4 @@ pub mod Marks
 pub mod Overlaps
 pub mod Bytes
 pub mod Buffers
+pub mod Ones

@@ -77,20 +77,15 @@ pub fn is_out(out: u64, k: u32) -> bool
     (out >> k) % 2 == 1
 }
 
-// How many of `n` buffers are free.
+// How many of `n` buffers are free: all but those that are out, whose marks alone are left when the others are shifted away.
 pub fn free_of(out: u64, n: u32) -> u32
     requires { ⌜ n ≤ 64 ⌝ }
     ensures { λ r. ⌜ r ≡ freeOf out n ⌝ }
 {
-    let mut free: u32 = 0;
-    let mut k: u32 = 0;
-    while k < n {
-        if !is_out(out, k) {
-            free += 1;
-        }
-        k += 1;
+    if n == 0 {
+        return 0;
     }
-    free
+    n - u64::count_ones(out << (64 - n))
 }
 
 // The marks with buffer `k`, which is free, out.
