@@ -19,7 +19,7 @@ use Rattle.scope.proofs.Places.{leaves-at, joins-at, joins-other}
 use Rattle.laws.proofs.Branches.{true-false, eq-or-not, lt-or-le, picked-yes, picked-no, both, both-true, first-fails, second-fails}
 use Rattle.areas.proofs.Marks.{take-free-other}
 use Rattle.places.specs.Order.{Free, Ordered}
-use Rattle.places.proofs.Orders.{taken-out, back-free-other, behind-is, new-place}
+use Rattle.places.proofs.Orders.{taken-out, back-free-other, new-place}
 use Rattle.books.specs.Past.{Turn, isAnswerOf, creates}
 use Rattle.books.specs.Held.{isReturn, freeLonger}
 use Rattle.books.proofs.HeldMarks.{one-address}
@@ -102,7 +102,7 @@ module _ (address long size : ℕ) (area : isArea address long ≡ true) (sized 
 
     -- a return: buffer m, which was out, is behind all
     pub ranked-ret : (m : ℕ) → m < n → isOut out m ≡ true → isAnswerOf 18 id OK t ≡ true → at m ≡ t .event .b
-        → Ranked address size n (out - 2 ^ m) (joinsLast row m) (freeLonger (t ∷ past) id)
+        → Ranked address size n (out - 2 ^ m) (joinsLast row (freeOf out n) m) (freeLonger (t ∷ past) id)
     unfolding isReturn
     ranked-ret m below marked back names j k f g ne =
         picked-no _ _ _ made ∙ ⊎-elim (λ e. latest e) (λ d. ⊎-elim (λ e. earlier d e) (λ c. neither d c) (eq-or-not j m)) (eq-or-not k m)
@@ -117,32 +117,31 @@ module _ (address long size : ℕ) (area : isArea address long ≡ true) (sized 
         was : (i : ℕ) → Free (out - 2 ^ m) n i → (i ≡ m → ⊥) → Free out n i
         was i h d = (h .0, sym (back-free-other out m marked i d) ∙ h .1)
 
-        last : (i : ℕ) → i ≡ m → getD (joinsLast row m) i 0 ≡ freeOf out n + 1
+        last : (i : ℕ) → i ≡ m → getD (joinsLast row (freeOf out n) m) i 0 ≡ freeOf out n + 1
         last i e =
-            ap (λ (v : ℕ). getD (joinsLast row m) v 0) e
-            ∙ joins-at row m (omega (arith, ordered .long, ordered .few))
-            ∙ behind-is ordered
+            ap (λ (v : ℕ). getD (joinsLast row (freeOf out n) m) v 0) e
+            ∙ joins-at row (freeOf out n) m (omega (arith, ordered .long, ordered .few))
 
-        before : (i : ℕ) → (i ≡ m → ⊥) → getD (joinsLast row m) i 0 < freeOf out n + 1
-        before i d = omega (arith, joins-other row m i d, ordered .small i)
+        before : (i : ℕ) → (i ≡ m → ⊥) → getD (joinsLast row (freeOf out n) m) i 0 < freeOf out n + 1
+        before i d = omega (arith, joins-other row (freeOf out n) m i d, ordered .small i)
 
-        latest : k ≡ m → pick (isReturn id (at k) t) true (pick (isReturn id (at j) t) false (freeLonger past id (at j) (at k))) ≡ ltb (getD (joinsLast row m) j 0) (getD (joinsLast row m) k 0)
+        latest : k ≡ m → pick (isReturn id (at k) t) true (pick (isReturn id (at j) t) false (freeLonger past id (at j) (at k))) ≡ ltb (getD (joinsLast row (freeOf out n) m) j 0) (getD (joinsLast row (freeOf out n) m) k 0)
         latest e =
             let d : j ≡ m → ⊥ = λ c. ne (c ∙ sym e) in
-            picked-yes _ _ _ (here k e) ∙ sym (lt-ltb (getD (joinsLast row m) j 0) (getD (joinsLast row m) k 0) (omega (arith, last k e, before j d)))
+            picked-yes _ _ _ (here k e) ∙ sym (lt-ltb (getD (joinsLast row (freeOf out n) m) j 0) (getD (joinsLast row (freeOf out n) m) k 0) (omega (arith, last k e, before j d)))
 
         earlier : (k ≡ m → ⊥) → j ≡ m
-            → pick (isReturn id (at k) t) true (pick (isReturn id (at j) t) false (freeLonger past id (at j) (at k))) ≡ ltb (getD (joinsLast row m) j 0) (getD (joinsLast row m) k 0)
+            → pick (isReturn id (at k) t) true (pick (isReturn id (at j) t) false (freeLonger past id (at j) (at k))) ≡ ltb (getD (joinsLast row (freeOf out n) m) j 0) (getD (joinsLast row (freeOf out n) m) k 0)
         earlier d e =
             picked-no _ _ _ (there k (g .0) d)
             ∙ picked-yes _ _ _ (here j e)
-            ∙ sym (le-ltb (getD (joinsLast row m) j 0) (getD (joinsLast row m) k 0) (omega (arith, last j e, before k d)))
+            ∙ sym (le-ltb (getD (joinsLast row (freeOf out n) m) j 0) (getD (joinsLast row (freeOf out n) m) k 0) (omega (arith, last j e, before k d)))
 
         neither : (k ≡ m → ⊥) → (j ≡ m → ⊥)
-            → pick (isReturn id (at k) t) true (pick (isReturn id (at j) t) false (freeLonger past id (at j) (at k))) ≡ ltb (getD (joinsLast row m) j 0) (getD (joinsLast row m) k 0)
+            → pick (isReturn id (at k) t) true (pick (isReturn id (at j) t) false (freeLonger past id (at j) (at k))) ≡ ltb (getD (joinsLast row (freeOf out n) m) j 0) (getD (joinsLast row (freeOf out n) m) k 0)
         neither d c =
             picked-no _ _ _ (there k (g .0) d)
             ∙ picked-no _ _ _ (there j (f .0) c)
             ∙ ranked j k (was j f c) (was k g d) ne
-            ∙ ap (λ (v : ℕ). ltb v (getD row k 0)) (sym (joins-other row m j c))
-            ∙ ap (λ (v : ℕ). ltb (getD (joinsLast row m) j 0) v) (sym (joins-other row m k d))
+            ∙ ap (λ (v : ℕ). ltb v (getD row k 0)) (sym (joins-other row (freeOf out n) m j c))
+            ∙ ap (λ (v : ℕ). ltb (getD (joinsLast row (freeOf out n) m) j 0) v) (sym (joins-other row (freeOf out n) m k d))

@@ -22,7 +22,7 @@ use Rattle.scope.specs.Places.{longestFree, firstLeaves, joinsLast, newRow, noR
 use Rattle.scope.specs.Views.{withPools}
 use Rattle.scope.specs.Answers.{answer, plain, gives, badState, onFound}
 use Rattle.scope.specs.Calls.{callAt}
-use Rattle.scope.specs.Pools.{poolFound, poolBuffers, poolRow, poolBorn, poolGone, withOut, poolCreateAt, poolCreate, poolDeleteAt, poolGetBuffer, poolGetBuffAt, poolRetBuffer, poolRetBuffAt}
+use Rattle.scope.specs.Pools.{poolFound, poolBuffers, poolRow, poolFree, poolBorn, poolGone, withOut, poolCreateAt, poolCreate, poolDeleteAt, poolGetBuffer, poolGetBuffAt, poolRetBuffer, poolRetBuffAt}
 use Rattle.scope.proofs.Rows.{by-choice}
 use Rattle.laws.proofs.Branches.{both-true, true-false, picked-yes, picked-no, eq-or-not}
 use Rattle.scope.proofs.Places.{row-same, row-other, length-new}
@@ -333,7 +333,7 @@ module _ (s : State) (ok : Sound s) (past : List Turn) (agrees : Agrees (s .pool
     -- buffer k, which was out, is returned by its address
     module _ (at : x .call ≡ 18) (k : ℕ) (below : k < poolBuffers p i) (marked : isOut out k ≡ true) (named : bufferOf k ≡ x .b) where
       abbrev returned : Answer
-      returned = plain (withPools s (withOut p i (out - 2 ^ k) (joinsLast places k))) OK
+      returned = plain (withPools s (withOut p i (out - 2 ^ k) (joinsLast places (poolFree p i) k))) OK
 
       returned-held : held (turnOf x returned ∷ past) (x .a) ≡ without (bufferOf k) (held past (x .a))
       unfolding plain answer
@@ -346,7 +346,7 @@ module _ (s : State) (ok : Sound s) (past : List Turn) (agrees : Agrees (s .pool
       returned-agrees : Fair returned
       unfolding plain answer
       returned-agrees =
-          marks-agree (out - 2 ^ k) (joinsLast places k) (joins-ordered ordered k below marked .long) (turnOf x returned) (λ id ne. quiet-other id x returned (λ e. omega arith) ne)
+          marks-agree (out - 2 ^ k) (joinsLast places (poolFree p i) k) (joins-ordered ordered k below marked .long) (turnOf x returned) (λ id ne. quiet-other id x returned (λ e. omega arith) ne)
           (not-makes 14 (x .a) (turnOf x returned) (not-call 14 x returned (λ e. omega arith)))
           (not-answer 15 (x .a) (turnOf x returned) (not-call 15 x returned (λ e. omega arith)))
           (listed-at _ _ _ _ _ _ _ _ _ _ refl refl refl refl returned-held

@@ -32,7 +32,7 @@ use Rattle.scope.specs.Tasks.{taskCreateAt, taskCreate, taskDeleteAt, taskDelet
 use Rattle.scope.specs.Waiting.{isTimeOut, wakeNext, noneWoken, waits}
 use Rattle.scope.specs.Semaphores.{lastCount, lastOption, semFound, semBorn, withUnits}
 use Rattle.scope.specs.Semaphores.{semCreateAt, semCreate, semDeleteAt, semDelete, semIdentAt, semIdent, semWaitAt, semClaimAt, semClaim, semReleaseAt, semRelease, semInfoAt, semInfo}
-use Rattle.scope.specs.Pools.{poolFound, poolBuffers, poolRow, overlapped, poolBorn, poolGone, withOut}
+use Rattle.scope.specs.Pools.{poolFound, poolBuffers, poolRow, poolFree, overlapped, poolBorn, poolGone, withOut}
 use Rattle.scope.specs.Pools.{poolCreateAt, poolCreate, poolDeleteAt, poolDelete, poolIdentAt, poolIdent, poolGetBuffer, poolGetBuffAt, poolGetBuff, poolRetBuffer, poolRetBuffAt, poolRetBuff, poolInfoAt, poolInfo}
 use Rattle.scope.specs.Ticks.{tick}
 use Rattle.scope.specs.Calls.{Call, knownCalls, calls, callAt}
@@ -123,7 +123,7 @@ pub data PoolChange (s : State) (x : Event) : Pools → ℕ → Type 0 where
   buffer-returned : x .call ≡ 18 → (i : ℕ) → poolFound s (x .a) ≡ At i
       → not (ltb (namedBuffer s i (x .b)) 64 && isOut (getD (s .pools .out) i 0) (namedBuffer s i (x .b))) ≡ false
       → PoolChange s x
-      (withOut (s .pools) i (getD (s .pools .out) i 0 - 2 ^ namedBuffer s i (x .b)) (joinsLast (poolRow (s .pools) i) (namedBuffer s i (x .b)))) 0
+      (withOut (s .pools) i (getD (s .pools .out) i 0 - 2 ^ namedBuffer s i (x .b)) (joinsLast (poolRow (s .pools) i) (poolFree (s .pools) i) (namedBuffer s i (x .b)))) 0
 
 -- the answer to x
 pub data Deed (s : State) (x : Event) : Answer → Type 0 where

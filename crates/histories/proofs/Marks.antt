@@ -25,7 +25,7 @@ use Rattle.scope.specs.Views.{withPools}
 use Rattle.scope.specs.Ticks.{tick}
 use Rattle.scope.specs.Semaphores.{semDeleteAt}
 use Rattle.scope.specs.Answers.{wakesWith, answer, plain, badState}
-use Rattle.scope.specs.Pools.{poolFound, poolBuffers, poolRow, poolBorn, poolGone, withOut}
+use Rattle.scope.specs.Pools.{poolFound, poolBuffers, poolRow, poolFree, poolBorn, poolGone, withOut}
 use Rattle.laws.proofs.Arrays.{cleared}
 use Rattle.laws.proofs.Branches.{both-true, picked-yes, picked-no}
 use Rattle.tables.proofs.Laws.{found-names, usable-at, usable-free}
@@ -169,7 +169,7 @@ module _ (s : State) (ok : Sound s) (x : Event) where
       let out : ℕ = getD (s .pools .out) i 0 in
       let n : ℕ = poolBuffers (s .pools) i in
       let b : ℕ = namedBuffer s i (x .b) in
-      let row : List ℕ = joinsLast (poolRow (s .pools) i) b in
+      let row : List ℕ = joinsLast (poolRow (s .pools) i) (poolFree (s .pools) i) b in
       let a : Answer = answer (withPools s (withOut (s .pools) i (out - 2 ^ b) row)) OK 0 0 0 0 false in
       let c : (gets (x .a) x a ≡ 0) × (returns (x .a) x a ≡ 1) = returned (x .a) x a at refl refl in
       let set : isOut out b ≡ true = both-true (ltb b 64) _ (not-false (ltb b 64 && isOut out b) f) .1 in

@@ -19,7 +19,7 @@ use Rattle.laws.proofs.Arrays.{inside}
 use Rattle.laws.proofs.Searches.{least-le, number-le}
 use Rattle.areas.proofs.Marks.{take-free, back-free}
 use Rattle.places.specs.Order.{Ordered}
-use Rattle.places.proofs.Orders.{placed-free, found-on, first-found, leaves-ordered, joins-ordered, new-ordered, new-place, behind-is}
+use Rattle.places.proofs.Orders.{placed-free, found-on, first-found, leaves-ordered, joins-ordered, new-ordered, new-place}
 use Rattle.scope.proofs.Places.{leaves-at, joins-at, joins-other}
 use Rattle.lists.specs.Orders.{buffersFrom, freeOrder, ascending}
 
@@ -106,37 +106,37 @@ out-not-free out k e = not-of-true _ e
 
 -- a return puts its buffer at the end
 pub return-joins-end : {row : List ℕ} {out n : ℕ} → Ordered row out n → (k : ℕ) → k < n → isOut out k ≡ true
-    → freeOrder (joinsLast row k) ≡ freeOrder row ++ (k ∷ [])
+    → freeOrder (joinsLast row (freeOf out n) k) ≡ freeOrder row ++ (k ∷ [])
 unfolding freeOrder
 return-joins-end {row} {out} {n} o k h marked = go 64 1 (omega arith) (omega arith) (omega (arith, more, few-free after))
   where
-    after : Ordered (joinsLast row k) (out - 2 ^ k) n
+    after : Ordered (joinsLast row (freeOf out n) k) (out - 2 ^ k) n
     after = joins-ordered o k h marked
 
     more : freeOf (out - 2 ^ k) n ≡ freeOf out n + 1
     more = back-free out k marked n h
 
-    last : getD (joinsLast row k) k 0 ≡ freeOf out n + 1
-    last = joins-at row k (omega (arith, o .long, o .few)) ∙ behind-is o
+    last : getD (joinsLast row (freeOf out n) k) k 0 ≡ freeOf out n + 1
+    last = joins-at row (freeOf out n) k (omega (arith, o .long, o .few))
 
-    before : (x : ℕ) → 1 ≤ x → x ≤ freeOf out n → onPlace (joinsLast row k) x ≡ onPlace row x
+    before : (x : ℕ) → 1 ≤ x → x ≤ freeOf out n → onPlace (joinsLast row (freeOf out n) k) x ≡ onPlace row x
     before x a b =
         let f : (j : ℕ) × (getD row j 0 ≡ x) = o .full x a b in
         let ne : f .0 ≡ k → ⊥ = λ e. absurd (omega (arith, f .1, ap (λ (z : ℕ). getD row z 0) e, o .none k (λ g. true-false (g .1) (out-not-free out k marked)))) in
-        on-is after x (f .0) a (joins-other row k (f .0) ne ∙ f .1) ∙ sym (on-is o x (f .0) a (f .1))
+        on-is after x (f .0) a (joins-other row (freeOf out n) k (f .0) ne ∙ f .1) ∙ sym (on-is o x (f .0) a (f .1))
 
-    go : (m x : ℕ) → 1 ≤ x → x ≤ freeOf out n + 1 → freeOf out n + 1 < x + m → buffersFrom (joinsLast row k) m x ≡ buffersFrom row m x ++ (k ∷ [])
+    go : (m x : ℕ) → 1 ≤ x → x ≤ freeOf out n + 1 → freeOf out n + 1 < x + m → buffersFrom (joinsLast row (freeOf out n) k) m x ≡ buffersFrom row m x ++ (k ∷ [])
     go zero x a b c = absurd (omega arith)
     go (suc m) x a b c =
         ⊎-elim
-        (λ l. from-more (joinsLast row k) m x (omega (arith, before x a (omega arith), taken o x a (omega arith)))
-        ∙ ap (λ (j : ℕ). j ∷ buffersFrom (joinsLast row k) m (suc x)) (before x a (omega arith))
+        (λ l. from-more (joinsLast row (freeOf out n) k) m x (omega (arith, before x a (omega arith), taken o x a (omega arith)))
+        ∙ ap (λ (j : ℕ). j ∷ buffersFrom (joinsLast row (freeOf out n) k) m (suc x)) (before x a (omega arith))
         ∙ ap (λ (t : List ℕ). onPlace row x ∷ t) (go m (suc x) (omega arith) (omega arith) (omega arith))
         ∙ sym (ap (λ (t : List ℕ). t ++ (k ∷ [])) (from-more row m x (taken o x a (omega arith)))))
-        (λ l. let e : onPlace (joinsLast row k) x ≡ k = on-is after x k a (last ∙ omega arith) in
-        from-more (joinsLast row k) m x (omega (arith, e, o .few))
-        ∙ ap (λ (j : ℕ). j ∷ buffersFrom (joinsLast row k) m (suc x)) e
-        ∙ ap (λ (t : List ℕ). k ∷ t) (from-end (joinsLast row k) m (suc x) (omega (arith, empty after (suc x) (omega (arith, more)))))
+        (λ l. let e : onPlace (joinsLast row (freeOf out n) k) x ≡ k = on-is after x k a (last ∙ omega arith) in
+        from-more (joinsLast row (freeOf out n) k) m x (omega (arith, e, o .few))
+        ∙ ap (λ (j : ℕ). j ∷ buffersFrom (joinsLast row (freeOf out n) k) m (suc x)) e
+        ∙ ap (λ (t : List ℕ). k ∷ t) (from-end (joinsLast row (freeOf out n) k) m (suc x) (omega (arith, empty after (suc x) (omega (arith, more)))))
         ∙ sym (ap (λ (t : List ℕ). t ++ (k ∷ [])) (from-end row (suc m) x (omega (arith, empty o x (omega arith))))))
         (lt-or-le x (freeOf out n + 1))
 

@@ -1,9 +1,9 @@
 -- The rule of the free buffers' order, and that the calls keep it: it is told by the places alone (`Ordered`), so what leaving, joining and
 -- a new pool do to each place decides. No count is needed beyond this: a get has one free buffer less, a return one more.
 -- Assumes nothing.
-use Prim.Native.Nat.{ℕ, zero, suc, _+_, _-_, _%_, _^_, _≤_, _<_}
+use Prim.Native.Nat.{ℕ, zero, suc, _+_, _-_, _^_, _≤_, _<_}
 use native.Mathlib.Omega.{arith}
-use native.Mathlib.Nat.{mod-eq-of-lt, zero-div}
+use native.Mathlib.Nat.{zero-div}
 use mathlib.Core.Path.{_≡_, refl, sym, subst, ap, _∙_}
 use mathlib.Core.Logic.{_⊎_, inl, inr, ⊎-elim}
 use mathlib.Core.Bool.{true, false, not, _&&_}
@@ -11,17 +11,16 @@ use mathlib.Core.List.{List}
 use lib.ListN.{length, getD, List·getD-eq-default, getD-replicate}
 use lib.Dec.{ltb, leb, eqb}
 use borrow.Author.Tests.{ltb-true, lt-ltb, le-ltb, le-leb, leb-true, eqb-true, eq-eqb}
-use Rattle.scope.specs.Choice.{every, number, topOf}
+use Rattle.scope.specs.Choice.{every, number}
 use Rattle.scope.specs.Seats.{isOn}
 use Rattle.scope.specs.Areas.{isOut, isFree, freeOf}
-use Rattle.scope.specs.Places.{onPlace, longestFree, firstLeaves, placeBehind, joinsLast, newRow, noRow}
+use Rattle.scope.specs.Places.{onPlace, longestFree, firstLeaves, joinsLast, newRow, noRow}
 use Rattle.scope.specs.Rules.{placeRight, orderRight}
 use Rattle.scope.proofs.Gets.{on-place}
 use Rattle.scope.proofs.Places.{leaves-at, length-leaves, joins-at, joins-other, length-joins, length-new, new-at}
 use Rattle.laws.proofs.Arrays.{inside}
 use Rattle.laws.proofs.Branches.{both, both-true, picked-yes, picked-no, true-false, true-or-false, eq-or-not, lt-or-le, not-of-true}
-use Rattle.laws.proofs.Searches.{every-yes, every-at, number-le, least-upto}
-use Rattle.laws.proofs.Tops.{top-ge, top-hit}
+use Rattle.laws.proofs.Searches.{every-yes, every-at, least-upto}
 use Rattle.areas.proofs.Marks.{take-free, back-free, take-free-other, take-same, back-same, back-other}
 use Rattle.places.specs.Order.{Free, Ordered}
 
@@ -154,23 +153,6 @@ module _ {row : List ℕ} {out n : ℕ} (o : Ordered row out n) where
           let f : (k : ℕ) × (getD row k 0 ≡ x + 1) = o .full (x + 1) (omega arith) (omega arith) in
           lt-ltb (onPlace row (x + 1)) 64 (omega (arith, on-upto row (x + 1) (f .0) (f .1), inside-row (f .0) (omega (arith, f .1))))
 
-  -- the last place is that of as many as are free
-  top-is : topOf row 64 ≡ freeOf out n
-  top-is = omega (arith, above, ⊎-elim {C = freeOf out n ≤ topOf row 64} (λ h. omega arith) (λ h. below h) (lt-or-le (freeOf out n) 1))
-    where
-      above : topOf row 64 ≤ freeOf out n
-      above = ⊎-elim (λ e. omega arith) (λ h. omega (arith, h .1, o .small (h .0))) (top-hit row 64)
-
-      below : 1 ≤ freeOf out n → freeOf out n ≤ topOf row 64
-      below h =
-          let f : (k : ℕ) × (getD row k 0 ≡ freeOf out n) = o .full (freeOf out n) h (omega arith) in
-          omega (arith, f .1, top-ge row 64 (f .0) (inside-row (f .0) (omega (arith, f .1))))
-
-  -- the place behind all is the next one, and the remainder takes nothing away
-  pub behind-is : placeBehind row ≡ freeOf out n + 1
-  unfolding freeOf
-  behind-is = ap (λ (x : ℕ). (x + 1) % 256) top-is ∙ mod-eq-of-lt (omega (arith, number-le (isFree out) n, o .few))
-
   -- a get: the first leaves
   pub leaves-ordered : (k : ℕ) → getD row k 0 ≡ 1 → Ordered (firstLeaves row) (out + 2 ^ k) n
   leaves-ordered k first =
@@ -203,15 +185,15 @@ module _ {row : List ℕ} {out n : ℕ} (o : Ordered row out n) where
           others-behind k j first (f .0, sym (take-free-other out k (was .1) j d) ∙ f .1) d
 
   -- a return: buffer k, which was out, joins at the end
-  pub joins-ordered : (k : ℕ) → k < n → isOut out k ≡ true → Ordered (joinsLast row k) (out - 2 ^ k) n
+  pub joins-ordered : (k : ℕ) → k < n → isOut out k ≡ true → Ordered (joinsLast row (freeOf out n) k) (out - 2 ^ k) n
   joins-ordered k h marked =
       record {
-        long = length-joins row k ∙ o .long;
+        long = length-joins row (freeOf out n) k ∙ o .long;
         few = o .few;
         none = λ j ne. let d : j ≡ k → ⊥ = λ e. ne (subst (Free (out - 2 ^ k) n) (sym e) is) in
-            joins-other row k j d ∙ o .none j (λ f. ne (f .0, free-other j d ∙ f .1));
-        some = λ j f. ⊎-elim (λ e. at-least j e) (λ d. omega (arith, joins-other row k j d, o .some j (f .0, sym (free-other j d) ∙ f .1))) (eq-or-not j k);
-        small = λ j. ⊎-elim (λ e. omega (arith, here j e, more)) (λ d. omega (arith, joins-other row k j d, o .small j, more)) (eq-or-not j k);
+            joins-other row (freeOf out n) k j d ∙ o .none j (λ f. ne (f .0, free-other j d ∙ f .1));
+        some = λ j f. ⊎-elim (λ e. at-least j e) (λ d. omega (arith, joins-other row (freeOf out n) k j d, o .some j (f .0, sym (free-other j d) ∙ f .1))) (eq-or-not j k);
+        small = λ j. ⊎-elim (λ e. omega (arith, here j e, more)) (λ d. omega (arith, joins-other row (freeOf out n) k j d, o .small j, more)) (eq-or-not j k);
         once = once;
         full = full;
       }
@@ -225,30 +207,30 @@ module _ {row : List ℕ} {out n : ℕ} (o : Ordered row out n) where
       free-other : (j : ℕ) → (j ≡ k → ⊥) → isFree (out - 2 ^ k) j ≡ isFree out j
       free-other j d = back-free-other out k marked j d
 
-      here : (j : ℕ) → j ≡ k → getD (joinsLast row k) j 0 ≡ freeOf out n + 1
-      here j e = ap (λ (x : ℕ). getD (joinsLast row k) x 0) e ∙ joins-at row k (omega (arith, o .long, o .few)) ∙ behind-is
+      here : (j : ℕ) → j ≡ k → getD (joinsLast row (freeOf out n) k) j 0 ≡ freeOf out n + 1
+      here j e = ap (λ (x : ℕ). getD (joinsLast row (freeOf out n) k) x 0) e ∙ joins-at row (freeOf out n) k (omega (arith, o .long, o .few))
 
-      at-least : (j : ℕ) → j ≡ k → 1 ≤ getD (joinsLast row k) j 0
+      at-least : (j : ℕ) → j ≡ k → 1 ≤ getD (joinsLast row (freeOf out n) k) j 0
       at-least j e = omega (arith, here j e)
 
-      once : (i j : ℕ) → 1 ≤ getD (joinsLast row k) i 0 → getD (joinsLast row k) i 0 ≡ getD (joinsLast row k) j 0 → i ≡ j
+      once : (i j : ℕ) → 1 ≤ getD (joinsLast row (freeOf out n) k) i 0 → getD (joinsLast row (freeOf out n) k) i 0 ≡ getD (joinsLast row (freeOf out n) k) j 0 → i ≡ j
       once i j l e =
           ⊎-elim
-          (λ a. ⊎-elim (λ b. a ∙ sym b) (λ b. absurd (omega (arith, here i a, joins-other row k j b, o .small j))) (eq-or-not j k))
-          (λ a. ⊎-elim (λ b. absurd (omega (arith, here j b, joins-other row k i a, o .small i)))
-          (λ b. o .once i j (omega (arith, joins-other row k i a)) (sym (joins-other row k i a) ∙ e ∙ joins-other row k j b))
+          (λ a. ⊎-elim (λ b. a ∙ sym b) (λ b. absurd (omega (arith, here i a, joins-other row (freeOf out n) k j b, o .small j))) (eq-or-not j k))
+          (λ a. ⊎-elim (λ b. absurd (omega (arith, here j b, joins-other row (freeOf out n) k i a, o .small i)))
+          (λ b. o .once i j (omega (arith, joins-other row (freeOf out n) k i a)) (sym (joins-other row (freeOf out n) k i a) ∙ e ∙ joins-other row (freeOf out n) k j b))
           (eq-or-not j k))
           (eq-or-not i k)
 
-      full : (x : ℕ) → 1 ≤ x → x ≤ freeOf (out - 2 ^ k) n → (j : ℕ) × (getD (joinsLast row k) j 0 ≡ x)
+      full : (x : ℕ) → 1 ≤ x → x ≤ freeOf (out - 2 ^ k) n → (j : ℕ) × (getD (joinsLast row (freeOf out n) k) j 0 ≡ x)
       full x a b = ⊎-elim (λ l. old x a (omega arith)) (λ l. (k, here k refl ∙ omega (arith, more))) (lt-or-le x (freeOf out n + 1))
         where
-          old : (y : ℕ) → 1 ≤ y → y ≤ freeOf out n → (j : ℕ) × (getD (joinsLast row k) j 0 ≡ y)
+          old : (y : ℕ) → 1 ≤ y → y ≤ freeOf out n → (j : ℕ) × (getD (joinsLast row (freeOf out n) k) j 0 ≡ y)
           old y c d =
               let f : (j : ℕ) × (getD row j 0 ≡ y) = o .full y c d in
               let w : getD row k 0 ≡ 0 = o .none k (λ g. true-false (g .1) (out-not-free out k marked)) in
               let ne : f .0 ≡ k → ⊥ = λ e. absurd (omega (arith, f .1, ap (λ (z : ℕ). getD row z 0) e, w)) in
-              (f .0, joins-other row k (f .0) ne ∙ f .1)
+              (f .0, joins-other row (freeOf out n) k (f .0) ne ∙ f .1)
 
 -- a new pool: nothing is out, and the places ascend with the buffers
 all-free : (k : ℕ) → isFree 0 k ≡ true

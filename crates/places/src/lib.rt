@@ -5,9 +5,9 @@ ghost use mathlib.Core.Bool.{true, _&&_};
 ghost use Prim.Native.Nat.{ℕ, _+_, _-_, _*_, _%_, _<_, _≤_};
 ghost use lib.ListN.{length, getD};
 ghost use lib.Dec.{eqb, ltb, leb};
-ghost use Rattle.scope.specs.Choice.{pick, every, greater, topOf};
+ghost use Rattle.scope.specs.Choice.{pick, every};
 ghost use Rattle.scope.specs.Areas.{isFree, freeOf};
-ghost use Rattle.scope.specs.Places.{rowOf, withRow, onPlace, longestFree, firstLeaves, placeBehind, joinsLast, newRow};
+ghost use Rattle.scope.specs.Places.{rowOf, withRow, onPlace, longestFree, firstLeaves, joinsLast, newRow};
 ghost use Rattle.scope.specs.Rules.{placeRight, orderRight};
 
 // The row of pool `i`.
@@ -100,42 +100,12 @@ pub fn first_leaves(row: [u8; 64]) -> [u8; 64]
     r
 }
 
-fn larger(x: u8, y: u8) -> u8
-    ensures { λ r. ⌜ r ≡ greater x y ⌝ }
+// Buffer `k` of pool `i` joins at the end, behind the `free` ones. One place is written, and none is read.
+pub fn join_last(places: &mut [u8], i: usize, free: u32, k: usize)
+    requires { ⌜ (i * 64 + 64 ≤ length (now places)) × (free ≤ 64) × (k < 64) ⌝ }
+    ensures { λ r. ⌜ now (places .exit) ≡ withRow (now (places .entry)) i (joinsLast (rowOf (now (places .entry)) i) free k) ⌝ }
 {
-    if x < y {
-        return y;
-    }
-    x
-}
-
-// The last place that is taken, 0 where none is.
-fn top(row: [u8; 64]) -> u8
-    ensures { λ r. ⌜ r ≡ topOf row 64 ⌝ }
-{
-    let mut m: u8 = 0;
-    let mut k: usize = 0;
-    while k < 64 {
-        m = larger(m, row[k]);
-        k += 1;
-    }
-    m
-}
-
-// The place behind all.
-fn place_behind(row: [u8; 64]) -> u8
-    ensures { λ r. ⌜ r ≡ placeBehind row ⌝ }
-{
-    ((number(top(row)) + 1) % 256) as u8
-}
-
-// Buffer `k` of pool `i` joins at the end. One place is written: a row copied back for it would cost more than the rest.
-pub fn join_last(places: &mut [u8], i: usize, k: usize)
-    requires { ⌜ (i * 64 + 64 ≤ length (now places)) × (k < 64) ⌝ }
-    ensures { λ r. ⌜ now (places .exit) ≡ withRow (now (places .entry)) i (joinsLast (rowOf (now (places .entry)) i) k) ⌝ }
-{
-    let x = place_behind(row_of(&*places, i));
-    places[i * 64 + k] = x;
+    places[i * 64 + k] = (free + 1) as u8;
 }
 
 // The place of buffer `k` of `n` in a new pool.

@@ -294,8 +294,9 @@ fn ret_at(
     let k = areas::buffer_at(address[i], size[i], n, x);
     if k < 64 {
         if areas::is_out(marks, k) {
+            let free = areas::free_of(marks, n);
             out[i] = areas::give_back(marks, k);
-            places::join_last(place, i, k as usize);
+            places::join_last(place, i, free, k as usize);
             return answers::plain(scope::OK, running);
         }
     }

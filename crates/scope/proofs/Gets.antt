@@ -22,8 +22,8 @@ use Rattle.scope.specs.Statuses.{OK, NO-MORE-MEMORY, INVALID-BUFF}
 use Rattle.scope.specs.Views.{withPools}
 use Rattle.scope.specs.Answers.{answer, plain, gives, onFound}
 use Rattle.scope.specs.Areas.{isOut, isFree, bufferAddress, bufferAt}
-use Rattle.scope.specs.Places.{onPlace, longestFree, firstLeaves, placeBehind, joinsLast}
-use Rattle.scope.specs.Pools.{poolFound, poolBuffers, poolRow, withOut, poolGetBuffer, poolGetBuffAt, poolRetBuffer, poolRetBuffAt, poolInfoAt, poolGetBuff, poolRetBuff, poolInfo}
+use Rattle.scope.specs.Places.{onPlace, longestFree, firstLeaves, joinsLast}
+use Rattle.scope.specs.Pools.{poolFound, poolBuffers, poolRow, poolFree, withOut, poolGetBuffer, poolGetBuffAt, poolRetBuffer, poolRetBuffAt, poolInfoAt, poolGetBuff, poolRetBuff, poolInfo}
 use Rattle.scope.proofs.Choice.{both-true, least-true}
 use Rattle.scope.proofs.Buffers.{buffers-few}
 use Rattle.scope.proofs.Places.{length-row, row-same, row-other, leaves-at, length-leaves, joins-at, joins-other, length-joins}
@@ -61,7 +61,7 @@ pub record Returned (s : State) (i x : ℕ) (a : Answer) : Type 0 where
   pub within : buffer < poolBuffers (s .pools) i
   pub was : isOut (marks s i) buffer ≡ true
   pub is : isOut (marks (a .state) i) buffer ≡ false
-  pub last : getD (poolRow (a .state .pools) i) buffer 0 ≡ placeBehind (poolRow (s .pools) i)
+  pub last : getD (poolRow (a .state .pools) i) buffer 0 ≡ poolFree (s .pools) i + 1
   pub others : (j : ℕ) → (j ≡ buffer → ⊥) → getD (poolRow (a .state .pools) i) j 0 ≡ getD (poolRow (s .pools) i) j 0
   pub only : Only s i buffer (a .state)
   pub starts : getD (s .pools .address) i 0 + buffer * getD (s .pools .size) i 0 ≡ x
@@ -161,8 +161,8 @@ module _ (s : State) (x i : ℕ) (fits : Fits s i) where
       → (ltb k 64 && isOut (marks s i) k) ≡ true → isOut (marks s i) k ≡ true → Returned s i x (poolRetBuffer s i k)
   unfolding poolRetBuffer pick plain answer
   returned k h e b o =
-      let row : List ℕ = joinsLast (poolRow (s .pools) i) k in
-      let long : length row ≡ 64 = length-joins (poolRow (s .pools) i) k ∙ row-long s i fits in
+      let row : List ℕ = joinsLast (poolRow (s .pools) i) (poolFree (s .pools) i) k in
+      let long : length row ≡ 64 = length-joins (poolRow (s .pools) i) (poolFree (s .pools) i) k ∙ row-long s i fits in
       let m : marks (next s i k (marks s i - 2 ^ k) row fits long) i ≡ marks s i - 2 ^ k = marked s i k (marks s i - 2 ^ k) row fits long in
       let p : poolRow (next s i k (marks s i - 2 ^ k) row fits long .pools) i ≡ row = placed s i k (marks s i - 2 ^ k) row fits long in
       let l : k < length (poolRow (s .pools) i) = omega (arith, row-long s i fits, ltb-true k 64 (both-true (ltb k 64) _ b .0)) in
@@ -172,8 +172,8 @@ module _ (s : State) (x i : ℕ) (fits : Fits s i) where
         within = h;
         was = o;
         is = rw m (free-not-out (marks s i - 2 ^ k) k (back-same (marks s i) k o));
-        last = ap (λ (r : List ℕ). getD r k 0) p ∙ joins-at (poolRow (s .pools) i) k l;
-        others = λ j d. ap (λ (r : List ℕ). getD r j 0) p ∙ joins-other (poolRow (s .pools) i) k j d;
+        last = ap (λ (r : List ℕ). getD r k 0) p ∙ joins-at (poolRow (s .pools) i) (poolFree (s .pools) i) k l;
+        others = λ j d. ap (λ (r : List ℕ). getD r j 0) p ∙ joins-other (poolRow (s .pools) i) (poolFree (s .pools) i) k j d;
         only = only s i k (marks s i - 2 ^ k) row fits long (back-other (marks s i) k o);
         starts = e;
       })

@@ -1,7 +1,7 @@
 -- The places of free buffers: a row of one pool among the rows of all, and what leaving, joining and a new pool do to each place.
 -- A row is a part of the list, so a change of it is read place by place.
 -- Assumes nothing.
-use Prim.Native.Nat.{ℕ, zero, suc, _+_, _-_, _*_, _%_, _≤_, _<_}
+use Prim.Native.Nat.{ℕ, zero, suc, _+_, _-_, _*_, _≤_, _<_}
 use native.Mathlib.Omega.{arith}
 use native.Mathlib.Nat.{eq-zero-or-pos, not-suc-le-zero, le-of-suc-le-suc}
 use mathlib.Core.Path.{_≡_, refl, sym, ap, _∙_}
@@ -11,7 +11,7 @@ use lib.ListN.{length, getD, take, drop, length-append, length-drop, length-set,
 use lib.Seq.{length-take-le, take-at, drop-at, getD-append-add, getD-take, getD-drop, getD-set-same, getD-set-other, ext-getD}
 use lib.Dec.{ltb}
 use Rattle.scope.specs.Choice.{pick}
-use Rattle.scope.specs.Places.{rowOf, withRow, firstLeaves, placeBehind, joinsLast, placesFrom, newRow}
+use Rattle.scope.specs.Places.{rowOf, withRow, firstLeaves, joinsLast, placesFrom, newRow}
 
 -- the rows of `places`, of which there are more than i
 module _ (places : List ℕ) (i : ℕ) (room : i * 64 + 64 ≤ length places) where
@@ -88,19 +88,19 @@ pub length-leaves : (row : List ℕ) → length (firstLeaves row) ≡ length row
 unfolding firstLeaves
 length-leaves row = length-map row (λ x. x - 1)
 
--- buffer k joins at the end
-module _ (row : List ℕ) (k : ℕ) where
-  pub joins-at : k < length row → getD (joinsLast row k) k 0 ≡ placeBehind row
+-- buffer k joins at the end, behind those that are free
+module _ (row : List ℕ) (free k : ℕ) where
+  pub joins-at : k < length row → getD (joinsLast row free k) k 0 ≡ free + 1
   unfolding joinsLast
-  joins-at h = getD-set-same row k (placeBehind row) 0 h
+  joins-at h = getD-set-same row k (free + 1) 0 h
 
-  pub joins-other : (j : ℕ) → (j ≡ k → ⊥) → getD (joinsLast row k) j 0 ≡ getD row j 0
+  pub joins-other : (j : ℕ) → (j ≡ k → ⊥) → getD (joinsLast row free k) j 0 ≡ getD row j 0
   unfolding joinsLast
-  joins-other j ne = getD-set-other row k j (placeBehind row) 0 ne
+  joins-other j ne = getD-set-other row k j (free + 1) 0 ne
 
-  pub length-joins : length (joinsLast row k) ≡ length row
+  pub length-joins : length (joinsLast row free k) ≡ length row
   unfolding joinsLast
-  length-joins = length-set row k (placeBehind row)
+  length-joins = length-set row k (free + 1)
 
 -- a new pool of n buffers
 module _ (n : ℕ) where

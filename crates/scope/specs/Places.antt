@@ -3,11 +3,11 @@
 -- buffer that is out and for one that the pool does not have. `places` is the list of all pools' places, 64 a pool; `row` is one
 -- pool's 64, by buffer. Buffer 64 is none.
 -- Assumes nothing.
-use Prim.Native.Nat.{ℕ, zero, suc, _+_, _-_, _*_, _%_}
+use Prim.Native.Nat.{ℕ, zero, suc, _+_, _-_, _*_}
 use mathlib.Core.List.{List, [], _∷_, _++_, map}
 use lib.ListN.{take, drop, set, replicate}
 use lib.Dec.{ltb}
-use Rattle.scope.specs.Choice.{pick, least, topOf}
+use Rattle.scope.specs.Choice.{pick, least}
 use Rattle.scope.specs.Seats.{isOn}
 
 -- the row of pool i
@@ -30,13 +30,9 @@ longestFree row = onPlace row 1
 unfoldable pub firstLeaves : List ℕ → List ℕ
 firstLeaves row = map (λ x. x - 1) row
 
--- the place behind all. Where no rule is broken it is 64 at most, so the remainder takes nothing away there.
-abbrev pub placeBehind : List ℕ → ℕ
-placeBehind row = (topOf row 64 + 1) % 256
-
--- buffer k, which is in nobody's hands any more, joins at the end
-unfoldable pub joinsLast : List ℕ → ℕ → List ℕ
-joinsLast row k = set row k (placeBehind row)
+-- buffer k, which is in nobody's hands any more, joins at the end: so many buffers are free already, and it comes behind them
+unfoldable pub joinsLast : List ℕ → ℕ → ℕ → List ℕ
+joinsLast row free k = set row k (free + 1)
 
 -- "in a new pool, ascending addresses": of n buffers, buffer k is on place k + 1
 abbrev pub placesFrom : ℕ → ℕ → ℕ → List ℕ

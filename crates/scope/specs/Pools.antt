@@ -122,11 +122,15 @@ poolGetBuffer s i k =
 unfoldable pub poolGetBuffAt : State → ℕ → Answer
 poolGetBuffAt s i = poolGetBuffer s i (longestFree (poolRow (s .pools) i))
 
+-- how many of pool i's buffers are free
+abbrev pub poolFree : Pools → ℕ → ℕ
+poolFree p i = freeOf (getD (p .out) i 0) (poolBuffers p i)
+
 -- "Any task may return a buffer." "address not the start of a buffer out": 18. What is returned has been free for the shortest time.
 unfoldable pub poolRetBuffer : State → ℕ → ℕ → Answer
 poolRetBuffer s i k =
     pick (not (ltb k 64 && isOut (getD (s .pools .out) i 0) k)) (plain s INVALID-BUFF)
-    (plain (withPools s (withOut (s .pools) i (getD (s .pools .out) i 0 - 2 ^ k) (joinsLast (poolRow (s .pools) i) k))) OK)
+    (plain (withPools s (withOut (s .pools) i (getD (s .pools .out) i 0 - 2 ^ k) (joinsLast (poolRow (s .pools) i) (poolFree (s .pools) i) k))) OK)
 
 unfoldable pub poolRetBuffAt : State → ℕ → ℕ → Answer
 poolRetBuffAt s x i =
@@ -135,7 +139,7 @@ poolRetBuffAt s x i =
 -- "pool_info gives buffers, free, size, options"
 unfoldable pub poolInfoAt : State → ℕ → Answer
 poolInfoAt s i =
-    answer s OK (poolBuffers (s .pools) i) (freeOf (getD (s .pools .out) i 0) (poolBuffers (s .pools) i))
+    answer s OK (poolBuffers (s .pools) i) (poolFree (s .pools) i)
     (getD (s .pools .size) i 0) (bitOf (getD (s .pools .forced) i false)) false
 
 -- the calls with a pool's identifier
