@@ -19,25 +19,27 @@ no-ones : ones 0 ≡ 0
 no-ones = ones-ones 0
 
 -- the mark of buffer k, as a digit, and whether it is free
-digit-out : (out k : ℕ) → out / 2 ^ k % 2 ≡ 1 → isFree out k ≡ false
+pub digit-out : (out k : ℕ) → out / 2 ^ k % 2 ≡ 1 → isFree out k ≡ false
 unfolding isFree isOut
 digit-out out k e = not-of-true _ (eq-eqb (out / 2 ^ k % 2) 1 e)
 
-digit-free : (out k : ℕ) → out / 2 ^ k % 2 ≡ 0 → isFree out k ≡ true
+pub digit-free : (out k : ℕ) → out / 2 ^ k % 2 ≡ 0 → isFree out k ≡ true
 unfolding isFree isOut
 digit-free out k e = rw e
 
-zero-or-one : (x : ℕ) → x < 2 → (x ≡ 0) ⊎ (x ≡ 1)
+pub zero-or-one : (x : ℕ) → x < 2 → (x ≡ 0) ⊎ (x ≡ 1)
 zero-or-one zero h = inl refl
 zero-or-one (suc zero) h = inr refl
 zero-or-one (suc (suc x)) h = absurd (omega arith)
 
--- one mark more
+-- one digit more
+pub digit-more : (out n d : ℕ) → out / 2 ^ n % 2 ≡ d → out % 2 ^ suc n ≡ d * 2 ^ n + out % 2 ^ n
+digit-more out n d e =
+    ap (λ (m : ℕ). out % 2 ^ m) {x = suc n} {y = 1 + n} (omega arith) ∙ mod-pow-add out 1 n ∙ ap (λ (x : ℕ). x * 2 ^ n + out % 2 ^ n) e
+
 ones-more : (out n : ℕ) → ones (out % 2 ^ suc n) ≡ ones (out / 2 ^ n % 2) + ones (out % 2 ^ n)
 ones-more out n =
-    ap (λ (m : ℕ). ones (out % 2 ^ m)) {x = suc n} {y = 1 + n} (omega arith)
-    ∙ ap ones (mod-pow-add out 1 n)
-    ∙ ones-cat n (out / 2 ^ n % 2) (out % 2 ^ n) (mod-lt out (pow-pos n))
+    ap ones (digit-more out n (out / 2 ^ n % 2) refl) ∙ ones-cat n (out / 2 ^ n % 2) (out % 2 ^ n) (mod-lt out (pow-pos n))
 
 -- the buffers out and the free ones are all
 pub out-and-free : (out n : ℕ) → ones (out % 2 ^ n) + freeOf out n ≡ n

@@ -1,3 +1,4 @@
 pub mod Rows
-pub mod Placing
+pub mod Words
 pub mod Orders
+pub mod Gathering

@@ -25,7 +25,7 @@ use Rattle.areas.proofs.Marks.{take-free, back-free, take-free-other, take-same
 use Rattle.places.specs.Order.{Free, Ordered}
 
 -- a buffer is free or not
-free-or-not : (out n k : ℕ) → Free out n k ⊎ (Free out n k → ⊥)
+pub free-or-not : (out n k : ℕ) → Free out n k ⊎ (Free out n k → ⊥)
 free-or-not out n k =
     ⊎-elim
     (λ h. ⊎-elim (λ e. inl (h, e)) (λ e. inr (λ f. true-false (f .1) e)) (true-or-false (isFree out k)))

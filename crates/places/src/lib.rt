@@ -1,14 +1,13 @@
 // The order of a pool's free buffers: its row of 64 places, by buffer, out of the places of all pools. (scope's specs/Places.antt.)
 // A row is copied out and in, and the loops over it have no way out in their middle: the compiler takes sixteen places at a time.
 ghost use mathlib.Core.Path.{_≡_};
-ghost use mathlib.Core.Bool.{true, _&&_};
-ghost use Prim.Native.Nat.{ℕ, _+_, _-_, _*_, _%_, _<_, _≤_};
+ghost use Prim.Native.Nat.{_+_, _-_, _*_, _%_, _^_, _<_, _≤_};
 ghost use lib.ListN.{length, getD};
 ghost use lib.Dec.{eqb, ltb, leb};
-ghost use Rattle.scope.specs.Choice.{pick, every};
-ghost use Rattle.scope.specs.Areas.{isFree, freeOf};
-ghost use Rattle.scope.specs.Places.{rowOf, withRow, onPlace, longestFree, firstLeaves, joinsLast, newRow};
-ghost use Rattle.scope.specs.Rules.{placeRight, orderRight};
+ghost use Rattle.scope.specs.Choice.{pick, every, bits};
+ghost use Rattle.scope.specs.Areas.{isFree};
+ghost use Rattle.scope.specs.Places.{rowOf, withRow, longestFree, firstLeaves, joinsLast, newRow};
+ghost use Rattle.scope.specs.Rules.{orderRight};
 
 // The row of pool `i`.
 pub fn row_of(places: &[u8], i: usize) -> [u8; 64]
@@ -132,105 +131,88 @@ pub fn new_row(n: usize) -> [u8; 64]
     r
 }
 
-fn index(x: u8) -> usize
-    ensures { λ r. ⌜ (r ≡ x) × (r < 256) ⌝ }
-{
-    x as usize
-}
-
-// For each place the buffer that is on it, 64 where there is none. From the last buffer down, so that of two the lower stays.
-fn by_place(row: [u8; 64]) -> [u8; 256]
-    ensures { λ r. ⌜ ((x : ℕ) → x < 256 → getD r x 0 ≡ onPlace row x) ⌝ }
-{
-    let mut on = [64u8; 256];
-    let mut k: usize = 64;
-    while 0 < k {
-        k -= 1;
-        let x = index(row[k]);
-        on[x] = k as u8;
-    }
-    on
-}
-
-// Whether buffer `k` is one of `n` and free.
-fn is_free(out: u64, n: u32, k: u32) -> bool
-    requires { ⌜ k < 64 ⌝ }
-    ensures { λ r. ⌜ r ≡ (ltb k n && isFree out k) ⌝ }
-{
-    if k < n {
-        return !areas::is_out(out, k);
-    }
-    false
-}
-
-// Whether `x` is a right place of a buffer: one of `most`, and its own, if the buffer is free; else 0.
-fn place_right(free: bool, x: u8, most: u32, own: bool) -> bool
-    ensures { λ r. ⌜ r ≡ pick free (leb 1 x && (leb x most && own)) (eqb x 0) ⌝ }
-{
-    if free {
-        return (1 <= x) & ((number(x) <= most) & own);
-    }
-    x == 0
-}
-
-// Whether every buffer has a right place; `on` says who is on each place, `most` how many buffers are free.
-fn places_right(row: [u8; 64], on: [u8; 256], out: u64, n: u32, most: u32) -> bool
-    ensures { λ r. ⌜ (((x : ℕ) → x < 256 → getD on x 0 ≡ onPlace row x) → most ≡ freeOf out n → r ≡ every (placeRight row out n) 64) ⌝ }
-{
-    let mut ok = true;
-    let mut k: u32 = 0;
-    while k < 64 {
-        let x = row[k as usize];
-        let own = number(on[index(x)]) == k;
-        let right = place_right(is_free(out, n, k), x, most, own);
-        ok = right & ok;
-        k += 1;
-    }
-    ok
-}
-
-// Whether somebody is on each of the first `most` places.
-fn places_taken(on: [u8; 256], most: u32) -> bool
-    requires { ⌜ most ≤ 64 ⌝ }
-    ensures { λ r. ⌜ r ≡ every (λ x. ltb (getD on (x + 1) 0) 64) most ⌝ }
-{
-    let mut ok = true;
-    let mut x: u32 = 0;
-    while x < most {
-        let taken = on[(x + 1) as usize] < 64;
-        ok = taken & ok;
-        x += 1;
-    }
-    ok
-}
-
-// Whether the row of pool `i` holds no place: that of a slot without a pool, as most are. It is read where it lies.
-fn is_clear(places: &[u8], i: usize) -> bool
+// Whether no place of pool `i`'s row is above `most`. The row is read where it lies.
+fn none_above(places: &[u8], i: usize, most: u8) -> bool
     requires { ⌜ i * 64 + 64 ≤ length (now places) ⌝ }
-    ensures { λ r. ⌜ ((out : ℕ) → r ≡ orderRight (rowOf (now (places .entry)) i) out 0) ⌝ }
+    ensures { λ r. ⌜ r ≡ every (λ k. leb (getD (rowOf (now (places .entry)) i) k 0) most) 64 ⌝ }
 {
     let base = i * 64;
     let mut ok = true;
     let mut k: usize = 0;
     while k < 64 {
-        let right = places[base + k] == 0;
+        let right = places[base + k] <= most;
         ok = right & ok;
         k += 1;
     }
     ok
 }
 
+// 1 where a buffer has a place, else 0.
+fn has_place(x: u8) -> u64
+    ensures { λ r. ⌜ r ≡ pick (ltb 0 x) 1 0 ⌝ }
+{
+    if 0 < x {
+        return 1;
+    }
+    0
+}
+
+// The bit of place `x` in a word: that of place 64 is the one of 0, which a buffer without a place has.
+fn place_bit(x: u8) -> u64
+    ensures { λ r. ⌜ r ≡ 2 ^ (x % 64) ⌝ }
+{
+    1u64 << (number(x) % 64)
+}
+
+// The word whose lowest `w` bits are set.
+fn lowest(w: u32) -> u64
+    requires { ⌜ (1 ≤ w) × (w ≤ 64) ⌝ }
+    ensures { λ r. ⌜ r ≡ 2 ^ w - 1 ⌝ }
+{
+    18446744073709551615 >> (64 - w)
+}
+
+// The word of the free buffers, of `n`.
+fn free_bits(out: u64, n: u32) -> u64
+    requires { ⌜ (1 ≤ n) × (n ≤ 64) ⌝ }
+    ensures { λ r. ⌜ r ≡ bits (isFree out) n ⌝ }
+{
+    let all = lowest(n);
+    all - (out & all)
+}
+
+// The bits of the places up to `most`, and of 0: with fewer than 64 free buffers some buffer has no place.
+fn bits_upto(most: u32) -> u64
+    requires { ⌜ most ≤ 64 ⌝ }
+    ensures { λ r. ⌜ r ≡ 2 ^ pick (ltb most 64) (most + 1) 64 - 1 ⌝ }
+{
+    if most < 64 {
+        return lowest(most + 1);
+    }
+    lowest(64)
+}
+
 // "The order of free buffers joins the state, each free buffer once": of `n` buffers of pool `i`, those that are free have the places
-// 1 to their number.
+// 1 to their number. One pass gathers who has a place and which places are taken: as many buffers as places, and none is empty.
 pub fn order_right(places: &[u8], i: usize, out: u64, n: u32) -> bool
     requires { ⌜ (i * 64 + 64 ≤ length (now places)) × (n ≤ 64) ⌝ }
     ensures { λ r. ⌜ r ≡ orderRight (rowOf (now (places .entry)) i) out n ⌝ }
 {
     if n == 0 {
-        return is_clear(places, i);
+        return none_above(places, i, 0);
     }
-    let row = row_of(places, i);
+    let base = i * 64;
+    let mut taken: u64 = 0;
+    let mut seen: u64 = 0;
+    let mut k: usize = 64;
+    while 0 < k {
+        k -= 1;
+        let x = places[base + k];
+        taken = taken * 2 + has_place(x);
+        seen = seen | place_bit(x);
+    }
     let most = areas::free_of(out, n);
-    let on = by_place(row);
-    places_right(row, on, out, n, most) & places_taken(on, most)
+    let small = none_above(places, i, most as u8);
+    let all = bits_upto(most);
+    (taken == free_bits(out, n)) & ((seen == all) & small)
 }

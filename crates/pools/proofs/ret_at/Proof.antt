@@ -8,7 +8,7 @@ use borrow.Author.Tests.{lt-ltb, le-ltb}
 use Rattle.scope.specs.Pools.{poolRetBuffer, poolRetBuffAt}
 use Rattle.laws.proofs.Branches.{pick-yes, pick-no, both, first-fails, second-fails, not-of-true, not-of-false}
 use Rattle.answers.proofs.Outcomes.{plain-of}
-use Rattle.places.proofs.Placing.{free-few}
+use Rattle.places.proofs.Gathering.{free-few}
 use Rattle.pools.proofs.Laws.{marked}
 use Rattle.pools.proofs.ret_at.Statement.{statement}
 use Rattle.pools.proofs.ret_at.Tie as tie

@@ -1,20 +1,20 @@
--- `places::is_clear`: before place k the loop holds the test of all places passed.
+-- `places::none_above`: before place k the loop holds the test of all places passed.
 -- Assumes nothing.
 use Prim.Native.Nat.{_+_, _-_, _*_}
 use mathlib.Core.Path.{refl, _∙_}
 use lib.ListN.{getD}
-use lib.Dec.{eqb}
+use lib.Dec.{leb}
 use borrow.Author.Needs.{needs}
 use Rattle.laws.proofs.Testing.{Testing, testing-start, testing-more, testing-done}
-use Rattle.places.proofs.Placing.{clear-right}
-use Rattle.places.proofs.is_clear.Statement.{statement}
-use Rattle.places.proofs.is_clear.Tie as tie
+use Rattle.places.proofs.Gathering.{row-tested}
+use Rattle.places.proofs.none_above.Statement.{statement}
+use Rattle.places.proofs.none_above.Tie as tie
 
 abbrev Inv-loop : tie.InvT-loop
-Inv-loop places i base ok₀ k₀ ok k = Testing 64 (λ j. eqb (getD places (base + j) 0) 0) ok k
+Inv-loop places i most base ok₀ k₀ ok k = Testing 64 (λ j. leb (getD places (base + j) 0) most) ok k
 
 abbrev μ-loop : tie.MeasureT-loop
-μ-loop places i base ok₀ k₀ ok k = 64 - k
+μ-loop places i most base ok₀ k₀ ok k = 64 - k
 
 mul-base : tie.Need-mul-base Inv-loop μ-loop
 mul-base c = search needs
@@ -38,10 +38,12 @@ loop-again : tie.Need-loop-again Inv-loop μ-loop
 loop-again c = testing-more (c .before .before .loop .inv) (search needs) refl
 
 returns : tie.Need-returns Inv-loop μ-loop
-returns c = λ out. testing-done (c .before .loop .inv) (search needs) ∙ clear-right (c .before .before .args .places .now) (c .before .before .args .i) out (c .before .before .pre)
+returns c =
+    let a = c .before .before .args in
+    testing-done (c .before .loop .inv) (search needs) ∙ row-tested (a .places .now) (a .i) (a .most) (c .before .before .pre)
 
-pub is-clear-spec : {M : Type 1} → statement M
-is-clear-spec =
+pub none-above-spec : {M : Type 1} → statement M
+none-above-spec =
     tie.close
     (tie.spec
     Inv-loop
