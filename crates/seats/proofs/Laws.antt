@@ -1,81 +1,96 @@
--- What the loops of the seats lean on: the last seat ahead is the greatest that counts; a join's seat lies in its queue, and its
--- two steps make `joins`; one task more counted.
+-- What the loops of the seats lean on: the last seat ahead is the one of the least way to the queue's end; a join's seat lies in its
+-- queue, and its two steps make `joins`; one task more counted.
 -- Assumes nothing.
-use Prim.Native.Nat.{ℕ, zero, suc, _+_, _≤_, _<_}
+use Prim.Native.Nat.{ℕ, zero, suc, _+_, _-_, _%_, _^_, _≤_, _<_}
 use native.Mathlib.Omega.{arith}
 use native.Mathlib.Numerals.{add-one}
-use mathlib.Core.Path.{_≡_, refl, sym, ap, _∙_}
+use mathlib.Core.Path.{_≡_, refl, sym, _∙_}
 use mathlib.Core.Logic.{_⊎_, inl, inr, ⊎-elim}
 use mathlib.Core.Bool.{Bool, true, false, _&&_}
 use mathlib.Core.List.{List, map}
 use lib.ListN.{getD, set}
 use lib.Dec.{ltb, leb}
-use borrow.Author.Tests.{lt-ltb, le-ltb, ltb-true}
-use Rattle.scope.specs.Choice.{pick, number, greater, topOf}
+use borrow.Author.Tests.{le-ltb, ltb-true, ltb-false, leb-false}
+use Rattle.scope.specs.Choice.{pick, number}
 use Rattle.scope.specs.Seats.{lower, leaves, seatsEnd, laterOf, aheadOf, raise, joins, standsIn}
 use Rattle.laws.proofs.Arrays.{Changing}
-use Rattle.laws.proofs.Branches.{lt-or-le, pick-yes, pick-no, picked-yes, picked-no}
+use Rattle.laws.proofs.Branches.{lt-or-le}
 
--- the greater of two, by which it is
-greater-second : (x y : ℕ) → x < y → greater x y ≡ y
-unfolding greater
-greater-second x y h = picked-yes (ltb x y) y x (lt-ltb x y h)
+-- what two numbers make, less what wraps: the second is the way from the first to c, or both lie past c
+pub wrapped : (c y d : ℕ) → c < 65536 → y < 65536 → d < 65536 → (d + y) % 2 ^ 16 ≡ c → (d + y ≡ c) ⊎ ((c < y) × (c < d))
+wrapped c y d h l m e = ⊎-elim (λ f. inl (omega (arith, e, f))) (λ f. inr (omega (arith, e, f), omega (arith, e, f))) (lt-or-le (d + y) 65536)
 
-greater-first : (x y : ℕ) → y ≤ x → greater x y ≡ x
-unfolding greater
-greater-first x y h = picked-no (ltb x y) y x (le-ltb x y h)
-
--- the greatest of three, from either side
-greater-of-three : (x y z : ℕ) → greater x (greater y z) ≡ greater (greater x y) z
-greater-of-three x y z = go (lt-or-le x y) (lt-or-le y z)
-  where
-    go : (x < y) ⊎ (y ≤ x) → (y < z) ⊎ (z ≤ y) → greater x (greater y z) ≡ greater (greater x y) z
-    go (inl g) (inl h) = rw (greater-second y z h, greater-second x y g, greater-second x z (omega arith), greater-second y z h)
-    go (inl g) (inr h) = rw (greater-first y z h, greater-second x y g, greater-first y z h)
-    go (inr g) (inl h) = rw (greater-second y z h, greater-first x y g)
-    go (inr g) (inr h) = rw (greater-first y z h, greater-first x y g, greater-first x z (omega arith))
-
--- the later of nowhere and a seat is the seat if it counts, and 0 if not: a seat of 0 is 0 either way
-pub from-nowhere : (y e k p : ℕ) {r : ℕ} → r ≡ pick (ltb y e) (pick (leb p k) y 0) 0 → r ≡ laterOf 0 y e k p
+-- the lesser way ends at the later seat, and the way from a seat past the queue is never the lesser
+way-more : (b y d w k : ℕ) → w ≤ 62 → (d + y ≡ b + 62) ⊎ ((b + 62 < y) × (b + 62 < d))
+    → b + 62 - pick (ltb d w) d w ≡ laterOf (b + 62 - w) y (b + 63) k 0
 unfolding laterOf pick
-from-nowhere y e k p h =
-    ⊎-elim
-    (λ l. pick-yes (ltb 0 y) _ 0 (lt-ltb 0 y l) h)
-    (λ l. pick-no (ltb 0 y) _ 0 (le-ltb 0 y l) (h ∙ none l (ltb y e) (leb p k)))
-    (lt-or-le 0 y)
+way-more b y d w k h (inl e) = go (ltb d w) refl (ltb (b + 62 - w) y) refl (ltb y (b + 63)) refl (leb 0 k) refl
   where
-    none : y ≤ 0 → (b d : Bool) → _≡_ {A = ℕ} (pick b (pick d y 0) 0) 0
-    none l true true = omega arith
-    none l true false = refl
-    none l false d = refl
-
--- a seat that does not count is nowhere, so the later of m and a seat is the greater
-later-greater : (m y e k p : ℕ) → greater m (laterOf 0 y e k p) ≡ laterOf m y e k p
-unfolding greater laterOf pick
-later-greater m y e k p = ap (greater m) (sym (from-nowhere y e k p refl)) ∙ go (ltb y e) (leb p k)
+    go : (p : Bool) → ltb d w ≡ p → (a : Bool) → ltb (b + 62 - w) y ≡ a → (f : Bool) → ltb y (b + 63) ≡ f → (g : Bool) → leb 0 k ≡ g
+        → b + 62 - pick p d w ≡ pick a (pick f (pick g y (b + 62 - w)) (b + 62 - w)) (b + 62 - w)
+    go true p true a true f true g = omega (arith, e)
+    go true p true a true f false g = absurd (omega (arith, leb-false 0 k g))
+    go true p true a false f v g = absurd (omega (arith, e, ltb-false y (b + 63) f))
+    go true p false a u f v g = absurd (omega (arith, e, ltb-true d w p, ltb-false (b + 62 - w) y a))
+    go false p true a u f v g = absurd (omega (arith, e, ltb-false d w p, ltb-true (b + 62 - w) y a))
+    go false p false a u f v g = refl
+way-more b y d w k h (inr e) = go (ltb d w) refl (ltb (b + 62 - w) y) (ltb y (b + 63)) refl (leb 0 k)
   where
-    never : (b : Bool) → greater m 0 ≡ pick b m m
-    never true = greater-first m 0 (omega arith)
-    never false = greater-first m 0 (omega arith)
+    go : (p : Bool) → ltb d w ≡ p → (a f : Bool) → ltb y (b + 63) ≡ f → (g : Bool)
+        → b + 62 - pick p d w ≡ pick a (pick f (pick g y (b + 62 - w)) (b + 62 - w)) (b + 62 - w)
+    go true p a f v g = absurd (omega (arith, e .1, ltb-true d w p))
+    go false p true true f g = absurd (omega (arith, e .0, ltb-true y (b + 63) f))
+    go false p true false f g = refl
+    go false p false u f g = refl
 
-    go : (b d : Bool) → greater m (pick b (pick d y 0) 0) ≡ pick (ltb m y) (pick b (pick d y m) m) m
-    go true true = refl
-    go true false = never (ltb m y)
-    go false d = never (ltb m y)
+-- the loop of `hindmost`: the least way so far ends at the last seat of the first n tasks, whatever their keys
+abbrev pub Nearest : List ℕ → ℕ → ℕ → ℕ → Type 0
+Nearest q b w n = (w ≤ 62) × ((key : List ℕ) → b + 62 - w ≡ aheadOf q key b (b + 63) 0 n)
 
--- where s has the seats that count among the first n, and 0 for the others, the last seat ahead is the greatest of `base` and s
-ahead-top : (q key s : List ℕ) (b e p n : ℕ) → ((j : ℕ) → j < n → getD s j 0 ≡ laterOf 0 (getD q j 0) e (getD key j 0) p)
-    → greater b (topOf s n) ≡ aheadOf q key b e p n
-unfolding aheadOf topOf
-ahead-top q key s b e p zero all = greater-first b 0 (omega arith)
-ahead-top q key s b e p (suc n) all =
-    greater-of-three b (topOf s n) (getD s n 0)
-    ∙ rw (ahead-top q key s b e p n (λ j h. all j (omega arith)), all n (omega arith)) (later-greater (aheadOf q key b e p n) (getD q n 0) e (getD key n 0) p)
+pub nearest-start : (q : List ℕ) (b : ℕ) → Nearest q b 62 0
+unfolding aheadOf
+nearest-start q b = (omega arith, λ key. omega arith)
 
--- the loop that makes s is done, and the greatest taken
-pub ahead-found : (q key s : List ℕ) (b e p k m r : ℕ) → 32 ≤ k → m ≡ topOf s 32 → r ≡ greater b m
-    → Changing 32 (λ j y. laterOf 0 y e (getD key j 0) p) q s k → r ≡ aheadOf q key b e p 32
-ahead-found q key s b e p k m r h t g c = g ∙ rw t (ahead-top q key s b e p 32 (λ j l. c .3 j (omega arith)))
+pub nearest-more : (q : List ℕ) (b w n d v : ℕ) → (d + getD q n 0 ≡ b + 62) ⊎ ((b + 62 < getD q n 0) × (b + 62 < d))
+    → v ≡ pick (ltb d w) d w → Nearest q b w n → Nearest q b v (n + 1)
+unfolding aheadOf pick
+nearest-more q b w n d v e g (small, all) = (
+  rw g (lesser (ltb d w) refl),
+  λ key. rw (g, add-one n, aheadOf, ← all key) (way-more b (getD q n 0) d w (getD key n 0) small e),
+)
+  where
+    lesser : (p : Bool) → ltb d w ≡ p → pick p d w ≤ 62
+    lesser true p = omega (arith, ltb-true d w p)
+    lesser false p = small
+
+-- where s has the seats of those whose key is p or more, and 0 for the others, keys need not be looked at again
+later-masked : (m y e k j p : ℕ) → laterOf m (pick (leb p k) y 0) e j 0 ≡ laterOf m y e k p
+unfolding laterOf pick
+later-masked m y e k j p = go (leb p k) (leb 0 j) refl
+  where
+    never : (a b : Bool) → pick a (pick b m m) m ≡ m
+    never true true = refl
+    never true false = refl
+    never false b = refl
+
+    go : (d g : Bool) → leb 0 j ≡ g
+        → pick (ltb m (pick d y 0)) (pick (ltb (pick d y 0) e) (pick g (pick d y 0) m) m) m ≡ pick (ltb m y) (pick (ltb y e) (pick d y m) m) m
+    go d false h = absurd (omega (arith, leb-false 0 j h))
+    go true true h = refl
+    go false true h = rw (le-ltb m 0 (omega arith)) (sym (never (ltb m y) (ltb y e)))
+
+ahead-masked : (q key s : List ℕ) (b e p n : ℕ) → ((j : ℕ) → j < n → getD s j 0 ≡ pick (leb p (getD key j 0)) (getD q j 0) 0)
+    → aheadOf s key b e 0 n ≡ aheadOf q key b e p n
+unfolding aheadOf
+ahead-masked q key s b e p zero all = refl
+ahead-masked q key s b e p (suc n) all =
+    rw (ahead-masked q key s b e p n (λ j h. all j (omega arith)), all n (omega arith))
+    (later-masked (aheadOf q key b e p n) (getD q n 0) e (getD key n 0) (getD key n 0) p)
+
+-- the loop that makes s is done
+pub ahead-found : (q key s : List ℕ) (b e p k r : ℕ) → 32 ≤ k → r ≡ aheadOf s key b e 0 32
+    → Changing 32 (λ j y. pick (leb p (getD key j 0)) y 0) q s k → r ≡ aheadOf q key b e p 32
+ahead-found q key s b e p k r h g c = g ∙ ahead-masked q key s b e p 32 (λ j l. c .3 j (omega arith))
 
 -- the last seat ahead lies between the queue's beginning and its end
 later-below : (m y e k p : ℕ) → m < e → laterOf m y e k p < e

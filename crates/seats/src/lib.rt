@@ -2,13 +2,14 @@
 // hold a task. Nobody else touches a seat.
 // A seat is queue × 64 + place; slot 32 is nobody. (scope's specs/Seats.antt.)
 ghost use mathlib.Core.Path.{_≡_};
+ghost use mathlib.Core.Logic.{_⊎_};
 ghost use mathlib.Core.Bool.{_&&_};
-ghost use mathlib.Core.List.{map};
+ghost use mathlib.Core.List.{List, map};
 ghost use lib.ListN.{set};
-ghost use Prim.Native.Nat.{ℕ, _<_};
-ghost use lib.Dec.{ltb};
-ghost use Rattle.scope.specs.Choice.{pick, hasBit, greater, topOf};
-ghost use Rattle.scope.specs.Seats.{lower, raise, leaves, joins, becomesReady, laterOf, aheadOf, onSeat, firstOf, standing, runnerOf, waitsOn, queueSeats, seatsEnd};
+ghost use Prim.Native.Nat.{ℕ, _+_, _<_};
+ghost use lib.Dec.{ltb, leb};
+ghost use Rattle.scope.specs.Choice.{pick, hasBit};
+ghost use Rattle.scope.specs.Seats.{lower, raise, leaves, joins, becomesReady, aheadOf, onSeat, firstOf, standing, runnerOf, waitsOn, queueSeats, seatsEnd};
 ghost use Rattle.scope.specs.Seats.{maskFilled, maskEmptied, maskLeft, ringsLeft, ringsReady};
 
 // A seat after seat `x` was left; `end` is the end of its queue's seats.
@@ -33,13 +34,10 @@ fn end_of(x: u16) -> u16
     x / 64 * 64 + 63
 }
 
-// Task `t` leaves the queue it stands in; those behind it come forward.
-pub fn leave(q: [u16; 32], t: usize) -> [u16; 32]
-    requires { ⌜ t < 32 ⌝ }
-    ensures { λ r. ⌜ r ≡ leaves q t ⌝ }
+// The seats after seat `x` was left; `end` is the end of its queue's seats.
+fn close_up(q: [u16; 32], x: u16, end: u16) -> [u16; 32]
+    ensures { λ r. ⌜ r ≡ map (lower x end) q ⌝ }
 {
-    let x = q[t];
-    let end = end_of(x);
     let mut r = q;
     let mut k: usize = 0;
     while k < 32 {
@@ -48,6 +46,16 @@ pub fn leave(q: [u16; 32], t: usize) -> [u16; 32]
         k += 1;
     }
     r
+}
+
+// Task `t` leaves the queue it stands in; those behind it come forward. Its seat is read where it lies: read from a copy of all seats,
+// the copy would have to be made.
+pub fn leave(seat: &mut [u16; 32], t: usize)
+    requires { ⌜ t < 32 ⌝ }
+    ensures { λ r. ⌜ now (seat .exit) ≡ leaves (now (seat .entry)) t ⌝ }
+{
+    let x = seat[t];
+    *seat = close_up(*seat, x, end_of(x));
 }
 
 // A seat after another task took seat `x`.
@@ -62,31 +70,61 @@ fn raised(y: u16, x: u16, end: u16) -> u16
     y
 }
 
-// Seat `y` if it counts: before `end`, of a task whose key is `p` or more; else 0, which is nowhere.
-fn seat_ahead(y: u16, end: u16, key: u8, p: u8) -> u16
-    ensures { λ r. ⌜ r ≡ laterOf 0 y end key p ⌝ }
+fn smaller(x: u16, y: u16) -> u16
+    ensures { λ r. ⌜ r ≡ pick (ltb y x) y x ⌝ }
 {
-    if y < end {
-        if p <= key {
-            return y;
-        }
+    if y < x {
+        return y;
+    }
+    x
+}
+
+// The way from seat `y` to seat `last`; from a seat past that it wraps, and is longer than any.
+fn way_to(last: u16, y: u16) -> u16
+    ensures { λ r. ⌜ (r + y ≡ last) ⊎ ((last < y) × (last < r)) ⌝ }
+{
+    std::num::wrapping_sub_u16(last, y)
+}
+
+// The last seat taken above `base`, in a queue's 62 seats; `base` if there is none. By the least way from a seat to the queue's last,
+// with no branch for each task: the compiler takes many seats at a time.
+fn hindmost(q: [u16; 32], base: u16) -> u16
+    requires { ⌜ base < 65000 ⌝ }
+    ensures { λ r. ⌜ ((key : List ℕ) → r ≡ aheadOf q key base (base + 63) 0 32) ⌝ }
+{
+    let last = base + 62;
+    let mut way: u16 = 62;
+    let mut k: usize = 0;
+    while k < 32 {
+        way = smaller(way, way_to(last, q[k]));
+        k += 1;
+    }
+    last - way
+}
+
+// Seat `y` if its task's key is `p` or more; else 0, which is nowhere.
+fn seat_ahead(y: u16, key: u8, p: u8) -> u16
+    ensures { λ r. ⌜ r ≡ pick (leb p key) y 0 ⌝ }
+{
+    if p <= key {
+        return y;
     }
     0
 }
 
-// The last seat above `base` and before `end` of a task whose key is `p` or more; `base` if there is none.
-// In two loops, since the compiler takes many seats at a time in each of them, and one at a time where one loop does both.
-fn ahead(q: [u16; 32], key: [u8; 32], base: u16, end: u16, p: u8) -> u16
-    ensures { λ r. ⌜ r ≡ aheadOf q key base end p 32 ⌝ }
+// The last of those seats whose task's key is `p` or more; `base` if there is none.
+fn ahead(q: [u16; 32], key: [u8; 32], base: u16, p: u8) -> u16
+    requires { ⌜ base < 65000 ⌝ }
+    ensures { λ r. ⌜ r ≡ aheadOf q key base (base + 63) p 32 ⌝ }
 {
     let mut s = q;
     let mut k: usize = 0;
     while k < 32 {
-        let y = seat_ahead(s[k], end, key[k], p);
+        let y = seat_ahead(s[k], key[k], p);
         s[k] = y;
         k += 1;
     }
-    larger(base, top(s))
+    hindmost(s, base)
 }
 
 // The seats after another task took seat `x`; `end` is the end of its queue's seats.
@@ -109,9 +147,8 @@ pub fn join(seat: &mut [u16; 32], key: &[u8; 32], t: usize, base: u16, p: u8)
     requires { ⌜ (t < 32) × (base < 65000) ⌝ }
     ensures { λ r. ⌜ now (seat .exit) ≡ joins (now (seat .entry)) (now (key .entry)) t base p ⌝ }
 {
-    let end = base + 63;
-    let x = ahead(*seat, *key, base, end, p) + 1;
-    *seat = make_room(*seat, x, end);
+    let x = ahead(*seat, *key, base, p) + 1;
+    *seat = make_room(*seat, x, base + 63);
     seat[t] = x;
 }
 
@@ -121,21 +158,29 @@ fn wide(p: u8) -> u16
     p as u16
 }
 
-// The seat behind all ready tasks of priority `p`. Nobody there has to go back for who takes it.
-fn seat_behind(q: [u16; 32], key: [u8; 32], p: u8) -> u16
-    ensures { λ r. ⌜ ((t : ℕ) → set q t r ≡ becomesReady q key t p) ⌝ }
+// The seat behind all of that queue. Nobody there has to go back for who takes it.
+fn seat_behind(q: [u16; 32], base: u16) -> u16
+    requires { ⌜ base < 65000 ⌝ }
+    ensures { λ r. ⌜ ((key : List ℕ) (t : ℕ) → set q t r ≡ joins q key t base 0) ⌝ }
 {
-    let base = wide(p) * 64 + 2048;
-    ahead(q, key, base, base + 63, 0) + 1
+    hindmost(q, base) + 1
 }
 
-// Task `t`, which stands nowhere, goes there.
-pub fn make_ready(seat: &mut [u16; 32], key: &[u8; 32], t: usize, p: u8)
-    requires { ⌜ t < 32 ⌝ }
-    ensures { λ r. ⌜ now (seat .exit) ≡ becomesReady (now (seat .entry)) (now (key .entry)) t p ⌝ }
+// Task `t`, which stands nowhere, joins that queue behind all.
+pub fn join_last(seat: &mut [u16; 32], t: usize, base: u16)
+    requires { ⌜ (t < 32) × (base < 65000) ⌝ }
+    ensures { λ r. ⌜ ((key : List ℕ) → now (seat .exit) ≡ joins (now (seat .entry)) key t base 0) ⌝ }
 {
-    let x = seat_behind(*seat, *key, p);
+    let x = seat_behind(*seat, base);
     seat[t] = x;
+}
+
+// Task `t`, which stands nowhere, goes behind all ready tasks of priority `p`.
+pub fn make_ready(seat: &mut [u16; 32], t: usize, p: u8)
+    requires { ⌜ t < 32 ⌝ }
+    ensures { λ r. ⌜ ((key : List ℕ) → now (seat .exit) ≡ becomesReady (now (seat .entry)) key t p) ⌝ }
+{
+    join_last(seat, t, wide(p) * 64 + 2048);
 }
 
 // The task on seat `x`; 32 if there is none.
@@ -205,28 +250,6 @@ pub fn waiters(q: [u16; 32], i: usize) -> usize
     n
 }
 
-fn larger(x: u16, y: u16) -> u16
-    ensures { λ r. ⌜ r ≡ greater x y ⌝ }
-{
-    if x < y {
-        return y;
-    }
-    x
-}
-
-// The greatest of all seats.
-fn top(q: [u16; 32]) -> u16
-    ensures { λ r. ⌜ r ≡ topOf q 32 ⌝ }
-{
-    let mut m: u16 = 0;
-    let mut t: usize = 0;
-    while t < 32 {
-        m = larger(m, q[t]);
-        t += 1;
-    }
-    m
-}
-
 // Whether bit `k` of a mask is set.
 fn has_bit(mask: u16, k: u32) -> bool
     requires { ⌜ k < 16 ⌝ }
@@ -283,7 +306,7 @@ pub fn take_out(seat: &mut [u16; 32], rings: &mut [u16; 1], t: usize)
         × (now (rings .exit) ≡ ringsLeft (now (rings .entry)) (now (seat .entry)) t) ⌝ }
 {
     let x = seat[t];
-    *seat = leave(*seat, t);
+    leave(seat, t);
     let mask = mask_left(rings[0], *seat, x);
     rings[0] = mask;
 }
@@ -294,7 +317,7 @@ pub fn put_in(seat: &mut [u16; 32], key: &[u8; 32], rings: &mut [u16; 1], t: usi
     ensures { λ r. ⌜ (now (seat .exit) ≡ becomesReady (now (seat .entry)) (now (key .entry)) t p)
         × (now (rings .exit) ≡ ringsReady (now (rings .entry)) p) ⌝ }
 {
-    make_ready(seat, key, t, p);
+    make_ready(seat, t, p);
     let mask = mask_filled(rings[0], p);
     rings[0] = mask;
 }

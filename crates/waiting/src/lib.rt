@@ -5,18 +5,28 @@ ghost use Prim.Native.Nat.{ℕ, _+_, _<_};
 ghost use mathlib.Core.List.{List};
 ghost use Rattle.scope.specs.declared.Tasks.{Tasks};
 ghost use Rattle.scope.specs.Choice.{pick};
-ghost use Rattle.scope.specs.Seats.{maskFilled};
+ghost use Rattle.scope.specs.Seats.{maskFilled, joins};
 ghost use Rattle.scope.specs.Waiting.{queueKey, waits, wokenSeats, wakeNext, wakeAll};
 ghost use Rattle.answers.specs.Columns.{lineOf, wakers, wakingOf};
 
-// Whom a task stands behind: "FIFO queues grow at the end. Others are by priority at the moment of joining".
-fn queue_key(fifo: bool, priority: u8) -> u8
-    ensures { λ r. ⌜ r ≡ queueKey fifo priority ⌝ }
+// Task `t`, which stands nowhere, joins the queue whose seats begin above `base`: "FIFO queues grow at the end. Others are by
+// priority at the moment of joining". Whoever joins at the end asks for no priority, and sends nobody back.
+fn join_queue(
+    seat: &mut [u16; 32],
+    joined: &[u8; 32],
+    t: usize,
+    base: u16,
+    fifo: bool,
+    priority: u8,
+)
+    requires { ⌜ (t < 32) × (base < 65000) ⌝ }
+    ensures { λ r. ⌜ now (seat .exit) ≡ joins (now (seat .entry)) (now (joined .entry)) t base (queueKey fifo priority) ⌝ }
 {
     if fifo {
-        return 0;
+        seats::join_last(seat, t, base);
+        return;
     }
-    priority
+    seats::join(seat, joined, t, base, priority);
 }
 
 // Task `t` leaves the ready order and joins the queue of object `i`.
@@ -37,23 +47,22 @@ pub fn wait(
 {
     seats::take_out(seat, rings, t);
     let base = (i * 64 + 64) as u16;
-    let key = queue_key(fifo, priority);
-    seats::join(seat, joined, t, base, key);
+    join_queue(seat, joined, t, base, fifo, priority);
     left[t] = ticks;
     joined[t] = priority;
 }
 
 // Where the tasks stand once task `t` is woken: "it becomes ready when it neither waits nor is suspended".
-fn leave_queue(seat: &mut [u16; 32], joined: &[u8; 32], suspended: bool, priority: u8, t: usize)
+fn leave_queue(seat: &mut [u16; 32], suspended: bool, priority: u8, t: usize)
     requires { ⌜ t < 32 ⌝ }
-    ensures { λ r. ⌜ ((left rings : List ℕ) → now (seat .exit)
-        ≡ wokenSeats (lineOf left (now (seat .entry)) (now (joined .entry)) rings) suspended priority t) ⌝ }
+    ensures { λ r. ⌜ ((left joined rings : List ℕ) → now (seat .exit)
+        ≡ wokenSeats (lineOf left (now (seat .entry)) joined rings) suspended priority t) ⌝ }
 {
-    *seat = seats::leave(*seat, t);
+    seats::leave(seat, t);
     if suspended {
         return;
     }
-    seats::make_ready(seat, joined, t, priority);
+    seats::make_ready(seat, t, priority);
 }
 
 // The mask of the rings then: the queue that the task leaves is no ring.
@@ -84,7 +93,7 @@ pub fn wake_next(
         (now (wakes .exit)) (woken + 1) ≡ wakeNext (wakers k (now (serial .entry)) (now (suspended .entry))
         (now (priority .entry))) (wakingOf (now (left .entry)) (now (seat .entry)) (now (joined .entry)) (now (rings .entry)) (now (wakes .entry)) woken) t) ⌝ }
 {
-    leave_queue(seat, joined, suspended[t], priority[t], t);
+    leave_queue(seat, suspended[t], priority[t], t);
     let mask = woken_mask(rings[0], suspended[t], priority[t]);
     rings[0] = mask;
     left[t] = 0;

@@ -1,22 +1,23 @@
--- `seats::ahead`: the loop leaves the seats that count and makes the others 0, and the greatest of those and `base` is `aheadOf`.
+-- `seats::ahead`: the loop leaves the seats of those whose key is great enough and makes the others 0, and the last of those is `aheadOf`.
 -- Assumes nothing.
-use Prim.Native.Nat.{_-_}
+use Prim.Native.Nat.{_-_, _+_}
 use lib.ListN.{getD}
+use lib.Dec.{leb}
 use borrow.Author.Needs.{needs}
 use Rattle.laws.proofs.Arrays.{Changing, changing-start, changing-more}
-use Rattle.scope.specs.Seats.{laterOf}
+use Rattle.scope.specs.Choice.{pick}
 use Rattle.seats.proofs.Laws.{ahead-found}
 use Rattle.seats.proofs.ahead.Statement.{statement}
 use Rattle.seats.proofs.ahead.Tie as tie
 
 abbrev Inv-loop : tie.InvT-loop
-Inv-loop base end p key s₀ k₀ s k = Changing 32 (λ j y. laterOf 0 y end (getD key j 0) p) s₀ s k
+Inv-loop base p key s₀ k₀ s k = Changing 32 (λ j y. pick (leb p (getD key j 0)) y 0) s₀ s k
 
 abbrev μ-loop : tie.MeasureT-loop
-μ-loop base end p key s₀ k₀ s k = 32 - k
+μ-loop base p key s₀ k₀ s k = 32 - k
 
 loop-holds : tie.Need-loop-holds Inv-loop μ-loop
-loop-holds c = changing-start 32 (λ j y. laterOf 0 y (c .args .end) (getD (c .args .t2) j 0) (c .args .p)) (c .args .q) (search needs)
+loop-holds c = changing-start 32 (λ j y. pick (leb (c .args .p) (getD (c .args .t2) j 0)) y 0) (c .args .q) (search needs)
 
 mul-seat-ahead : tie.Need-mul-seat-ahead Inv-loop μ-loop
 mul-seat-ahead c = search needs
@@ -45,18 +46,15 @@ loop-less c = search needs
 loop-again : tie.Need-loop-again Inv-loop μ-loop
 loop-again c =
     let a = c .before .before .before .args in
-    changing-more 32 (λ j y. laterOf 0 y (a .end) (getD (a .t2) j 0) (a .p)) (a .q) (c .before .before .loop .s) (c .before .before .loop .k) _ (search needs) (c .seat-ahead .ensures) (c .before .before .loop .inv)
+    changing-more 32 (λ j y. pick (leb (a .p) (getD (a .t2) j 0)) y 0) (a .q) (c .before .before .loop .s) (c .before .before .loop .k) _ (search needs) (c .seat-ahead .ensures) (c .before .before .loop .inv)
 
-top-requires : tie.Need-top-requires Inv-loop μ-loop
-top-requires c κs = search needs
-
-larger-requires : tie.Need-larger-requires Inv-loop μ-loop
-larger-requires c κs = search needs
+hindmost-requires : tie.Need-hindmost-requires Inv-loop μ-loop
+hindmost-requires c κs = search needs
 
 returns : tie.Need-returns Inv-loop μ-loop
 returns c =
-    let a = c .before .before .before .before .args in
-    ahead-found (a .q) (a .t2) (c .before .before .before .loop .s) (a .base) (a .end) (a .p) (c .before .before .before .loop .k) _ _ (search needs) (c .before .top .ensures) (c .larger .ensures) (c .before .before .before .loop .inv)
+    let a = c .before .before .before .args in
+    ahead-found (a .q) (a .t2) (c .before .before .loop .s) (a .base) (a .base + 63) (a .p) (c .before .before .loop .k) _ (search needs) (c .hindmost .ensures (a .t2)) (c .before .before .loop .inv)
 
 pub ahead-spec : {M : Type 1} → statement M
 ahead-spec =
@@ -74,6 +72,5 @@ ahead-spec =
     add-k
     loop-less
     loop-again
-    top-requires
-    larger-requires
+    hindmost-requires
     returns)

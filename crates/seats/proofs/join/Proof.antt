@@ -8,14 +8,14 @@ use Rattle.seats.proofs.Laws.{joined, small}
 use Rattle.seats.proofs.join.Statement.{statement}
 use Rattle.seats.proofs.join.Tie as tie
 
-add-end : tie.Need-add-end
-add-end c = search needs
-
 ahead-requires : tie.Need-ahead-requires
 ahead-requires c κs = search needs
 
 add-x : tie.Need-add-x
-add-x c = omega (arith, small (c .before .before .before .args .seat .now) (c .before .before .before .args .key .now) (c .before .before .before .args .base) (c .before .before .before .args .base + 63) (c .before .before .before .args .p) (c .ahead .result) (search needs) refl (c .ahead .ensures))
+add-x c = let a = c .before .before .before .args in omega (arith, small (a .seat .now) (a .key .now) (a .base) (a .base + 63) (a .p) (c .ahead .result) (search needs) refl (c .ahead .ensures))
+
+add-make-room : tie.Need-add-make-room
+add-make-room c = search needs
 
 make-room-requires : tie.Need-make-room-requires
 make-room-requires c κs = search needs
@@ -27,8 +27,18 @@ element-write-seat : tie.Need-element-write-seat
 element-write-seat c = search needs
 
 returns : tie.Need-returns
-returns c = joined (c .before .before .before .before .before .args .seat .now) (c .before .before .before .before .before .args .key .now) (c .make-room .result) (c .before .before .before .before .before .args .t) (c .before .before .before .before .before .args .base) (c .before .before .before .before .before .args .base + 63) (c .before .before .before .before .before .args .p) (c .before .before .ahead .result) refl (c .before .before .ahead .ensures) (c .make-room .ensures)
+returns c =
+    let a = c .before .before .before .before .before .args in
+    joined (a .seat .now) (a .key .now) (c .make-room .result) (a .t) (a .base) (a .base + 63) (a .p) (c .before .before .ahead .result) refl (c .before .before .ahead .ensures) (c .make-room .ensures)
 
 pub join-spec : {M : Type 1} → statement M
 join-spec =
-    tie.close (tie.spec add-end ahead-requires add-x make-room-requires mul-seat element-write-seat returns)
+    tie.close
+    (tie.spec
+    ahead-requires
+    add-x
+    add-make-room
+    make-room-requires
+    mul-seat
+    element-write-seat
+    returns)

@@ -19,7 +19,7 @@ element-write-rings c = search needs
 
 returns : tie.Need-returns
 unfolding ringsReady
-returns c = (c .before .before .make-ready .ensures, rw (c .mask-filled .ensures))
+returns c = (c .before .before .make-ready .ensures (c .before .before .before .before .args .key .now), rw (c .mask-filled .ensures))
 
 pub put-in-spec : {M : Type 1} → statement M
 put-in-spec =

@@ -11,14 +11,14 @@ leave-requires c κs = search needs
 
 returns : tie.Need-returns
 unfolding wokenSeats
-returns c = λ left rings. pick-yes _ _ _ (c .if1 .taken) (c .before .leave .ensures)
+returns c = λ left joined rings. pick-yes _ _ _ (c .if1 .taken) (c .before .leave .ensures)
 
 make-ready-requires : tie.Need-make-ready-requires
 make-ready-requires c κs = search needs
 
 returns-2 : tie.Need-returns-2
 unfolding wokenSeats
-returns-2 c = λ left rings. pick-no _ _ _ (c .before .before .if1 .left) (rw (c .make-ready .ensures, c .before .before .before .leave .ensures))
+returns-2 c = λ left joined rings. pick-no _ _ _ (c .before .before .if1 .left) (rw (c .make-ready .ensures joined, c .before .before .before .leave .ensures))
 
 pub leave-queue-spec : {M : Type 1} → statement M
 leave-queue-spec = tie.close (tie.spec leave-requires returns make-ready-requires returns-2)

@@ -17,11 +17,8 @@ add-base c = search needs
 cast-base : tie.Need-cast-base
 cast-base c = search needs
 
-queue-key-requires : tie.Need-queue-key-requires
-queue-key-requires c κs = search needs
-
-join-requires : tie.Need-join-requires
-join-requires c κs = search needs
+join-queue-requires : tie.Need-join-queue-requires
+join-queue-requires c κs = search needs
 
 mul-left : tie.Need-mul-left
 mul-left c = search needs
@@ -34,7 +31,7 @@ element-write-joined c = search needs
 
 returns : tie.Need-returns
 unfolding waits
-returns c = rw (c .join .ensures, c .before .before .before .queue-key .ensures, c .before .before .before .before .take-out .ensures .0, c .before .before .before .before .take-out .ensures .1)
+returns c = rw (c .join-queue .ensures, c .before .before .before .take-out .ensures .0, c .before .before .before .take-out .ensures .1)
 
 pub wait-spec : {M : Type 1} → statement M
 wait-spec =
@@ -44,8 +41,7 @@ wait-spec =
     mul-base
     add-base
     cast-base
-    queue-key-requires
-    join-requires
+    join-queue-requires
     mul-left
     element-write-left
     element-write-joined

@@ -59,9 +59,9 @@ element-write-wakes c = search needs
 returns : tie.Need-returns
 unfolding wakeNext wake wokenRings ringsReady
 returns c =
-    let a = c .before .before .before .before .before .before .before .before .before .before .before .args in
+    let a = c .before .before .before .before .before .before .before .before .before .before .args in
     λ k. rw (
-      c .before .before .before .before .before .before .leave-queue .ensures (now (a .left)) (now (a .rings)),
+      c .before .before .before .before .before .before .leave-queue .ensures (now (a .left)) (now (a .joined)) (now (a .rings)),
       c .before .before .woken-mask .ensures,
       woken-rings (now (a .rings)),
       c .identifier .ensures,
