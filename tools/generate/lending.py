@@ -1,5 +1,6 @@
 # Prints crate `lending`: src/lib.rt, proofs/Columns.antt and a walk for each chapter, which lends the chapter its columns of the
-# state, all at once, and takes them back.
+# state, all at once, and takes them back. The readers' walks are readers.py's.
+import readers
 from table import CHAPTERS, NUMS, TABLES, cols, layout, table
 from walk import Walk, chain, path
 
@@ -25,6 +26,7 @@ use scope::State;
 ghost use mathlib.Core.Path.{_≡_};
 ghost use Prim.Native.Nat.{_<_, _≤_};
 ghost use Rattle.scope.specs.Step.{answered};
+ghost use Rattle.scope.specs.Views.{runningTask};
 ghost use Rattle.answers.specs.Outcomes.{answerOf};
 '''
     par = '    s: &mut State,\n    wakes: &mut [u32; 32],\n' + ''.join(f'    {x}: u32,\n' for x in NUMS)
@@ -33,7 +35,7 @@ ghost use Rattle.answers.specs.Outcomes.{answerOf};
         o += '    let x = Asked {\n' + ''.join(f'        {x}: {x},\n' for x in NUMS) + f'    }};\n    let o = chapters::{n}_part(\n'
         for g, c, shr in cols(segs): o += f'        &{"" if shr else "mut "}s.{table(g)[2]}.{c},\n'
         o += ''.join(f'        {x},\n' for x in ['wakes', 'running', 'x']) + '    );\n    s.running = o.runs;\n    o\n}\n'
-    return o
+    return o + readers.source()
 
 # ---- the columns of each table, and a table taken apart and put together
 def columns():
@@ -447,4 +449,4 @@ unfolding code.routine tablesOf
 def files():
     r = {'src/lib.rt': source(), 'proofs/Columns.antt': columns()}
     for c in CHAPTERS: r[f'proofs/{c[0]}/Proof.antt'] = walk(*c)
-    return {f'crates/{CRATE}/{p}': t for p, t in r.items()}
+    return {f'crates/{CRATE}/{p}': t for p, t in r.items()} | readers.files()

@@ -16,6 +16,14 @@ CHAPTERS = [
     ('sem', 'lentSemaphores', [('L', 'mut', None), ('K', 'shr', WAKING), ('Q', 'mut', None)], '(8 ≤ call) × (call < 14)'),
     ('pool', 'lentPools', [('P', 'mut', None)], '14 ≤ call'),
 ]
+# The readers: what is lent them is only read, so all of it is lent shared.
+READERS = [
+    {'name': 'runner', 'head': 'The identifier of the task that runs; 0 for nobody.', 'type': 'u32', 'is': 'runningTask ({})',
+     'crate': 'answers', 'callee': 'running_task', 'lent': [('K', 'shr', ['serial'])], 'running': True,
+     'said': 'r ≡ choose (ltb (d .running) 32) (getD (d .tasks .serial) (d .running) 0 * 64 + d .running) 0',
+     'unfolding': 'runningTask', 'so': 'said',
+     'uses': 'use Rattle.scope.specs.Choice.{pick as choose}\nuse Rattle.scope.specs.Views.{runningTask}\n'},
+]
 NUMS = ['call', 'mark', 'a', 'b', 'c', 'd', 'e']
 
 def table(g):

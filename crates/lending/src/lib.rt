@@ -6,6 +6,7 @@ use scope::State;
 ghost use mathlib.Core.Path.{_≡_};
 ghost use Prim.Native.Nat.{_<_, _≤_};
 ghost use Rattle.scope.specs.Step.{answered};
+ghost use Rattle.scope.specs.Views.{runningTask};
 ghost use Rattle.answers.specs.Outcomes.{answerOf};
 
 // The tick.
@@ -180,4 +181,12 @@ pub fn pool(
     );
     s.running = o.runs;
     o
+}
+
+// The identifier of the task that runs; 0 for nobody.
+pub fn runner(s: &mut State) -> u32
+    ensures { λ r. ⌜ (r ≡ runningTask (now (s .entry))) × (now (s .exit) ≡ now (s .entry)) ⌝ }
+{
+    let running = s.running;
+    answers::running_task(&s.tasks.serial, running)
 }
