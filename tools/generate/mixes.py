@@ -1,6 +1,6 @@
 # Prints the walks of mixes::play and mixes_checked::play: a loop that makes `&mut` of a local state. It names no column.
 from table import NUMS
-from walk import Walk, chain, path
+from walk import Walk, chain, path, runner_ghost, runner_walk
 
 PERFORM = ('mixes', 'perform', '''use Rattle.scope.specs.Step.{answered}
 use Rattle.answers.specs.Outcomes.{answerOf}
@@ -13,7 +13,7 @@ def walk(CRATE, STEPS, USES, SAID):
     N = 18
     W = Walk(); w = W.w
     LS = ' '.join(f'l{i}' for i in range(N))
-    TY = {0: 'plTy', 1: 'sl0', 2: 'word', 3: 'word', 4: 'plTy', 5: 'stTy', 6: 'wTy', 7: 'num', 8: 'word', 9: 'rcTy', 10: 'oTy', 11: 'tyBool', 12: 'refS', 13: 'refW', 14: 'num', 15: 'stTy', 16: 'refI', 17: 'stTy'}
+    TY = {0: 'plTy', 1: 'sl0', 2: 'word', 3: 'word', 4: 'plTy', 5: 'stTy', 6: 'wTy', 7: 'num', 8: 'word', 9: 'rcTy', 10: 'oTy', 11: 'tyBool', 12: 'refS', 13: 'refW', 14: 'num', 15: 'refS', 16: 'refI', 17: 'stTy'}
     order = [5, 6, 7, 8] + list(range(9, 18)) + [4, 3, 2, 1, 0]
     VAL = {5: 'val d', 6: 'wval ws', 7: 'vint w32 m', 8: 'vint w64 t', 4: 'pval p', 3: 'vint w64 to', 2: 'vint w64 from₀', 1: 'sliceVal (b, o) (length ys)'}
     def cell(i): return f'‵ (fat fullShare {TY[i]} l{i} 0 ({VAL[i]}))' if i in VAL else f'‵ (froom {TY[i]} l{i} 0)'
@@ -24,7 +24,7 @@ use Rattle.{crate}.proofs.{f}.Symbol as {nm}-def
 use Rattle.{crate}.proofs.{f}.Symbol.{{name as #{nm}}}
 use Rattle.{crate}.proofs.{f}.Met as {nm}-thm
 '''
-    CALL = [('rd', 'mixing', 'record_at'), ('pf', 'kernel', STEPS), ('ru', 'kernel', 'runner'), ('su', 'mixing', 'summed')]
+    CALL = [('rd', 'mixing', 'record_at'), ('pf', 'kernel', STEPS), ('ru', 'lending', 'runner'), ('su', 'mixing', 'summed')]
     w(f'''-- `{CRATE}::play` meets its contract, which is that it is safe and ends: a walk of its MIR, by hand. The state is a local that is lent to each step as one thing.
 -- Assumes nothing. Printed by tools/generate/run.
 ''' + '''use mathlib.Core.Path.{_≡_, refl, ap}
@@ -281,9 +281,7 @@ module _ {M : Type 1} (𝓤 : URA M) (H : Heap 𝓤) (A : Atoms 𝓤) (W : Given
             goes : ent 𝓤 (sep 𝓤 (sem 𝓤 H A (tokens csS kS P1)) (sem 𝓤 H A (refs l5 csS (d, tt) kS T1))) (Gpf 𝓤 H A at-mem run .pre to-pf)
             goes = qed W (‵ (tokens csS kS P1) ∷ ‵ (refs l5 csS (d, tt) kS T1) ∷ []) ∵ join ! $ frame ! $ done !
 
-      abbrev to-ru : State → Gru 𝓤 H A at-mem run .Ghost
-      to-ru e = ((tt, tt, tt, (e, tt), (val e ∷ [], tt)), tt)
-
+{runner_ghost(5)}
       -- the checksum: the outcome r, who runs, the wake list xs
       module _ (r : Outcome) (id : ℕ) (xs : List ℕ) (kW : Keys csW) where
         abbrev to-su : Gsu 𝓤 H A at-mem run .Ghost
@@ -351,18 +349,9 @@ module _ {M : Type 1} (𝓤 : URA M) (H : Heap 𝓤) (A : Atoms 𝓤) (W : Given
     w('use1 W (given (IsS (z .0)) (‵ (fat fullShare stTy l5 0 (val (z .0))))) (local-out S.the-type S′.the-laws S′.the-plain 𝓤 H A W l5 0 (z .0)) $ learn ! (λ isE.\n          '); close2 += 1
     W.move('P', 'keptW', 'T'); w('use3 W (later (‵ (lie l6 csW (z .1 .0, tt)) ⊛ ‵ ftrue ⊛ ‵ (L0 rec))) (backs l6 𝓤 H A W ftrue (L0 rec) csW (z .1 .0, tt) kW) $ await ! tt $ split3 ! $ fsplit ! $ '); W.head(3, 'l6', 'tt2', 'tt3', 'tt4')
     w('use1 W (given (IsW (z .1 .0)) (‵ (fat fullShare wTy l6 0 (wval (z .1 .0))))) (array-out u32 32 wval wtells 𝓤 H A W (wmakes 𝓤 H A W) l6 0 (z .1 .0)) $ learn ! (λ isX.\n'); close2 += 1
-    w(f'''          assigns ! (of-opd ! {ld(5)}) (from ! (stop !)) (init ! {L(15)} refl {lawS('(z .0)', 'isE')}) $
-          nothing ! $ owned ! R (Is R) (LL.makes S.the-type S′.the-plain 𝓤 H A) (z .0) _ isE $ fjoin ! $ nothing ! $
-          use2 W (raw (Gru 𝓤 H A at-mem run .pre (to-ru (z .0)))) (qed W (‵ ftrue ∷ ‵ (owns (R ∷ []) (z .0, tt) (val (z .0) ∷ [], tt)) ∷ []) ∵ join ! $ frame ! $ done !) $
-'''); W.ctx.insert(0, 'pre')
-    w(f'''          calls-at ! fm (Gru 𝓤 H A at-mem run) known-ru (to-ru (z .0)) {ands([ld(15)])} (λ v₄.
-          use1 W (later (some (λ (id : ℕ). (‵ ftrue ⊛ ‵ (u32 .own id (v₄ ∷ []))) ⊛ raw (ensured 𝓤 H A ru.ended (ru.clauses 𝓤 H A at-mem run) tt (z .0, tt) tt id)))) (id⊢ 𝓤 _) $ await ! tt $ pick ! (λ id.
-          split ! $ move ! (1 ∷ []) $ drop ! $
-          split ! $ drop ! $ peeks ! u32 (Is u32) (shows 𝓤 H A u32) id (v₄ ∷ []) (λ isI.
-'''); W.ctx[0] = 'own'; close2 += 3
-    w(f'''          land ! (from ! (stop !)) (init ! {L(14)} refl (uint-lawful 𝓤 H A W w32 .typed id _ isI .0)) $ rewrite ! {L(14)} (λ (u : Val). ‵ (fat fullShare num l14 0 u)) (ap only (uint-tells w32 id (v₄ ∷ []) isI)) refl $ drop ! $
-          -- the checksum
-          '''); W.ctx.pop(0)
+    close2 += runner_walk(W, 5, 15, 14)
+    w('''          -- the checksum
+          ''')
     w(f'assigns ! (addr ! (from ! (stop !))) (from ! (stop !)) (init ! {L(16)} refl (tt, tt)) $\n          ')
     W.move('l6'); w('use1 W (‵ (mem Q .lies (z .1 .0) l6 0)) (array-in u32 32 wval wtells 𝓤 H A W (wmakes 𝓤 H A W) l6 0 (z .1 .0) isX) $ nothing ! $ move ! (1 ∷ 0 ∷ []) $ fjoin ! $ '); W.head(1, 'lie')
     w('nothing ! $ '); W.ctx.insert(0, 'T'); w('nothing ! $ '); W.ctx.insert(0, 'P'); W.move('lie', 'P', 'T')

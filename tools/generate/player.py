@@ -1,10 +1,10 @@
 # Prints the walk of player::play_part: a loop that makes `&mut` of a local state, reads a lent slice and writes another. It names no column.
-from walk import Walk, chain, path
+from walk import Walk, chain, path, runner_ghost, runner_walk
 
 N = 23
 W = Walk(); w = W.w
 LS = ' '.join(f'l{i}' for i in range(N))
-TY = {0: 'ptTy', 1: 'sl0', 2: 'plTy', 3: 'sl1', 4: 'stTy', 5: 'wTy', 6: 'num', 7: 'num', 8: 'word', 9: 'word', 10: 'rcTy', 11: 'oTy', 12: 'plTy', 13: 'tyBool', 14: 'word', 15: 'refS', 16: 'refW', 17: 'refB', 18: 'slE', 19: 'refI', 20: 'num', 21: 'stTy', 22: 'stTy'}
+TY = {0: 'ptTy', 1: 'sl0', 2: 'plTy', 3: 'sl1', 4: 'stTy', 5: 'wTy', 6: 'num', 7: 'num', 8: 'word', 9: 'word', 10: 'rcTy', 11: 'oTy', 12: 'plTy', 13: 'tyBool', 14: 'word', 15: 'refS', 16: 'refW', 17: 'refB', 18: 'slE', 19: 'refI', 20: 'num', 21: 'refS', 22: 'stTy'}
 order = [4, 5, 6, 7, 8, 9] + list(range(10, 23)) + [3, 2, 1, 0]
 VAL = {4: 'val d', 5: 'wval ws', 6: 'vint w32 m', 7: 'vint w32 n', 8: 'vint w64 t', 9: 'vint w64 k', 3: 'sliceVal (b₁, o₁) (length out)', 2: 'pval p', 1: 'sliceVal (b, o) (length ys)'}
 def cell(i): return f'‵ (fat fullShare {TY[i]} l{i} 0 ({VAL[i]}))' if i in VAL else f'‵ (froom {TY[i]} l{i} 0)'
@@ -16,7 +16,7 @@ use Rattle.{crate}{'·proofs' if own else ''}.proofs.{path_}.Symbol as {nm}-def
 use Rattle.{crate}{'·proofs' if own else ''}.proofs.{path_}.Symbol.{{name as #{nm}}}
 use Rattle.{crate}{'·proofs' if own else ''}.proofs.{path_}.Met as {nm}-thm
 '''
-CALL = [('go', 'player', 'goes_on', True), ('rd', 'text', 'read_record', False), ('pf', 'kernel', 'perform', False), ('ru', 'kernel', 'runner', False), ('pu', 'text', 'put_line', False)]
+CALL = [('go', 'player', 'goes_on', True), ('rd', 'text', 'read_record', False), ('pf', 'kernel', 'perform', False), ('ru', 'lending', 'runner', False), ('pu', 'text', 'put_line', False)]
 w('''-- `play_part` meets its contract: a walk of its MIR, by hand. The state is a local that is lent to each step as one thing, and the lines are lent again to each line.
 -- Assumes nothing. Printed by tools/generate/run.
 use mathlib.Core.Path.{_≡_, refl, sym, _∙_, ap, subst}
@@ -346,9 +346,7 @@ w(f'''      module _ (rec : Record) where
             goes : ent 𝓤 (sep 𝓤 (sem 𝓤 H A (tokens csS kS P1)) (sem 𝓤 H A (refs l4 csS (d, tt) kS T1))) (Gpf 𝓤 H A at-mem run .pre to-pf)
             goes = qed W (‵ (tokens csS kS P1) ∷ ‵ (refs l4 csS (d, tt) kS T1) ∷ []) ∵ join ! $ frame ! $ done !
 
-      abbrev to-ru : State → Gru 𝓤 H A at-mem run .Ghost
-      to-ru e = ((tt, tt, tt, (e, tt), (val e ∷ [], tt)), tt)
-
+{runner_ghost(4)}
       -- the line: the outcome r, the wake list xs, who runs
       module _ (r : Outcome) (xs : List ℕ) (id : ℕ) (α : ℕ) (γ₂ : GName) (kW : Keys csW) where
         abbrev T2 : Fml
@@ -456,18 +454,10 @@ w('use1 W (given (IsW (z .1 .0)) (‵ (fat fullShare wTy l5 0 (wval (z .1 .0))))
 sltyped = '(tt, (tt, (record { fits = gout .0 }, tt)))'
 w(f'''          assigns ! (addr ! (from ! (fld ! refl (hop ! (look-in ! {L(3)} (sub ! 0 refl (whole !))) (stop !))))) (from ! (stop !)) (init ! {L(17)} refl (tt, tt)) $
           assigns ! (agg ! {ands([ld(17), ldf(3, 1)])}) (from ! (stop !)) (init ! {L(18)} refl {sltyped}) $ assigns ! (addr ! (from ! (stop !))) (from ! (stop !)) (init ! {L(19)} refl (tt, tt)) $
-          assigns ! (of-opd ! {ld(4)}) (from ! (stop !)) (init ! {L(21)} refl {lawS('(z .0)', 'isE')}) $
-          nothing ! $ owned ! R (Is R) (LL.makes S.the-type S′.the-plain 𝓤 H A) (z .0) _ isE $ fjoin ! $ nothing ! $
-          use2 W (raw (Gru 𝓤 H A at-mem run .pre (to-ru (z .0)))) (qed W (‵ ftrue ∷ ‵ (owns (R ∷ []) (z .0, tt) (val (z .0) ∷ [], tt)) ∷ []) ∵ join ! $ frame ! $ done !) $
-'''); W.ctx.insert(0, 'pre')
-w(f'''          calls-at ! fm (Gru 𝓤 H A at-mem run) known-ru (to-ru (z .0)) {ands([ld(21)])} (λ v₄.
-          use1 W (later (some (λ (id : ℕ). (‵ ftrue ⊛ ‵ (u32 .own id (v₄ ∷ []))) ⊛ raw (ensured 𝓤 H A ru.ended (ru.clauses 𝓤 H A at-mem run) tt (z .0, tt) tt id)))) (id⊢ 𝓤 _) $ await ! tt $ pick ! (λ id.
-          split ! $ move ! (1 ∷ []) $ use1 W (some (λ (z : {units(1)}). ‵ ({trues(1)}) ⊛ raw (fact 𝓤 (id ≡ runningTask (z₀ .0))))) (id⊢ 𝓤 _) $ pick ! (λ z₄. split ! $ drop ! $ heard ! (id ≡ runningTask (z .0)) (λ who.
-          split ! $ drop ! $ peeks ! u32 (Is u32) (shows 𝓤 H A u32) id (v₄ ∷ []) (λ isI.
-'''.replace('λ (z : Unit', 'λ (z₅ : Unit').replace('z₀ .0', 'z .0')); W.ctx[0] = 'own'; close2 += 5
-w(f'''          land ! (from ! (stop !)) (init ! {L(20)} refl (uint-lawful 𝓤 H A W w32 .typed id _ isI .0)) $ rewrite ! {L(20)} (λ (u : Val). ‵ (fat fullShare num l20 0 u)) (ap only (uint-tells w32 id (v₄ ∷ []) isI)) refl $ drop ! $
-          -- the line
-          '''); W.ctx.pop(0)
+''')
+close2 += runner_walk(W, 4, 21, 20)
+w('''          -- the line
+          ''')
 W.move('l5'); w('use1 W (‵ (mem Q .lies (z .1 .0) l5 0)) (array-in u32 32 wval wtells 𝓤 H A W (wmakes 𝓤 H A W) l5 0 (z .1 .0) isX) $ nothing ! $ move ! (1 ∷ 0 ∷ []) $ fjoin ! $ '); W.head(1, 'lie')
 w('nothing ! $ owned ! u32 (Is u32) (uint-makes 𝓤 H A W w32) id _ (refl, isI .1) $ fjoin ! $ '); W.ctx.insert(0, 'T'); w('nothing ! $ '); W.ctx.insert(0, 'P'); W.move('lie', 'P', 'T')
 T2 = 'owns (u32 ∷ []) (id, tt) (vint w32 id ∷ [], tt)'
@@ -503,7 +493,7 @@ w(f'''          assigns ! (bin ! {ld(6)} (lit ! tt) (yes-h .0)) (from ! (stop !)
           assigns-last ! (bin ! {ld(8)} (lit ! tt) (record {{ fits = {t1} }})) (from ! (stop !)) (store ! {L(8)} refl (tt, record {{ fits = {t1} }})) $
           ''' + ''.join(f'forget ! {L(i)} refl $ ' for i in [10, 11, 13, 14, 15, 16, 17, 18, 19, 20, 21]) + '\n          ')
 w('keep ! (' + ' ∷ '.join(str(W.at(x)) for x in st) + ' ∷ []) $ ')
-w(f'''by ! (next (z .0) (z .1 .0) wr (y₅ .0) (yes-h .0) (after-line rec (z .0) (z .1 .0) r id wr (y₅ .0) (yes-h .0) (yes-h .1) rec-is said who line longs isE isX))''' + ')' * close2 + ')\n')
+w(f'''by ! (next (z .0) (z .1 .0) wr (y₅ .0) (yes-h .0) (after-line rec (z .0) (z .1 .0) r id wr (y₅ .0) (yes-h .0) (yes-h .1) rec-is said (who .0) line longs isE isX))''' + ')' * close2 + ')\n')
 # no more
 W.ctx = save
 w('          (λ no-more-y. let no-h : 1 ≤ m → length out < k + 782 = no-y (false-is y no-more-y) in exec ! C Λ En code.Mir.t-8 (atRet En Post) $\n')

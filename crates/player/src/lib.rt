@@ -65,7 +65,7 @@ pub fn play_part(script: &[u8], p: Place, lines: &mut [u8]) -> Part
     while goes_on(more, k, lines.len()) {
         let r = text::read_record(script, at);
         let o = kernel::perform(&mut s, &mut wakes, r.call, r.mark, r.a, r.b, r.c, r.d, r.e);
-        k = text::put_line(lines, k, number, o, &wakes, kernel::runner(s));
+        k = text::put_line(lines, k, number, o, &wakes, lending::runner(&mut s));
         more -= 1;
         number += 1;
         at += 28;

@@ -48,6 +48,7 @@ use lib.WfN.{Nat·lt-wfRel}
 use Rattle.scope.specs.declared.State.{State}
 use Rattle.answers.specs.declared.Outcome.{Outcome}
 use Rattle.text.specs.declared.Record.{Record}
+use Rattle.scope.specs.Views.{runningTask}
 use Rattle.kernel.specs.Steps.{Steps}
 use Rattle.mixes_checked.specs.declared.Played.{Played}
 use Rattle.answers.proofs.Outcome as O
@@ -67,10 +68,10 @@ use Rattle.kernel.proofs.step as pf
 use Rattle.kernel.proofs.step.Symbol as pf-def
 use Rattle.kernel.proofs.step.Symbol.{name as #pf}
 use Rattle.kernel.proofs.step.Met as pf-thm
-use Rattle.kernel.proofs.runner as ru
-use Rattle.kernel.proofs.runner.Symbol as ru-def
-use Rattle.kernel.proofs.runner.Symbol.{name as #ru}
-use Rattle.kernel.proofs.runner.Met as ru-thm
+use Rattle.lending.proofs.runner as ru
+use Rattle.lending.proofs.runner.Symbol as ru-def
+use Rattle.lending.proofs.runner.Symbol.{name as #ru}
+use Rattle.lending.proofs.runner.Met as ru-thm
 use Rattle.mixing.proofs.summed as su
 use Rattle.mixing.proofs.summed.Symbol as su-def
 use Rattle.mixing.proofs.summed.Symbol.{name as #su}
@@ -212,12 +213,12 @@ module _ {M : Type 1} (𝓤 : URA M) (H : Heap 𝓤) (A : Atoms 𝓤) (W : Given
     Λ = 𝓣 .Λ
 
     abbrev En : Env 𝓤 H
-    En = (plTy, l0) ∷ (sl0, l1) ∷ (word, l2) ∷ (word, l3) ∷ (plTy, l4) ∷ (stTy, l5) ∷ (wTy, l6) ∷ (num, l7) ∷ (word, l8) ∷ (rcTy, l9) ∷ (oTy, l10) ∷ (tyBool, l11) ∷ (refS, l12) ∷ (refW, l13) ∷ (num, l14) ∷ (stTy, l15) ∷ (refI, l16) ∷ (stTy, l17) ∷ []
+    En = (plTy, l0) ∷ (sl0, l1) ∷ (word, l2) ∷ (word, l3) ∷ (plTy, l4) ∷ (stTy, l5) ∷ (wTy, l6) ∷ (num, l7) ∷ (word, l8) ∷ (rcTy, l9) ∷ (oTy, l10) ∷ (tyBool, l11) ∷ (refS, l12) ∷ (refW, l13) ∷ (num, l14) ∷ (refS, l15) ∷ (refI, l16) ∷ (stTy, l17) ∷ []
 
     -- before a turn: the state, the wake list, the checksum and the next record
     abbrev At : State → List ℕ → ℕ → ℕ → List (Item 𝓤)
-    At d ws m t = ‵ (fat fullShare stTy l5 0 (val d)) ∷ ‵ (fat fullShare wTy l6 0 (wval ws)) ∷ ‵ (fat fullShare num l7 0 (vint w32 m)) ∷ ‵ (fat fullShare word l8 0 (vint w64 t)) ∷ ‵ (froom rcTy l9 0) ∷ ‵ (froom oTy l10 0) ∷ ‵ (froom tyBool l11 0) ∷ ‵ (froom refS l12 0) ∷ ‵ (froom refW l13 0) ∷ ‵ (froom num l14 0) ∷ ‵ (froom stTy l15 0) ∷ ‵ (froom refI l16 0) ∷ ‵ (froom stTy l17 0) ∷ ‵ (fat fullShare plTy l4 0 (pval p)) ∷ ‵ (fat fullShare word l3 0 (vint w64 to)) ∷ ‵ (fat fullShare word l2 0 (vint w64 from₀)) ∷ ‵ (fat fullShare sl0 l1 0 (sliceVal (b, o) (length ys))) ∷ ‵ (froom plTy l0 0)
-        ∷ ‵ (flft κ q) ∷ ‵ scr ∷ ‵ (fdies plTy l0) ∷ ‵ (fdies sl0 l1) ∷ ‵ (fdies word l2) ∷ ‵ (fdies word l3) ∷ ‵ (fdies plTy l4) ∷ ‵ (fdies stTy l5) ∷ ‵ (fdies wTy l6) ∷ ‵ (fdies num l7) ∷ ‵ (fdies word l8) ∷ ‵ (fdies rcTy l9) ∷ ‵ (fdies oTy l10) ∷ ‵ (fdies tyBool l11) ∷ ‵ (fdies refS l12) ∷ ‵ (fdies refW l13) ∷ ‵ (fdies num l14) ∷ ‵ (fdies stTy l15) ∷ ‵ (fdies refI l16) ∷ ‵ (fdies stTy l17) ∷ []
+    At d ws m t = ‵ (fat fullShare stTy l5 0 (val d)) ∷ ‵ (fat fullShare wTy l6 0 (wval ws)) ∷ ‵ (fat fullShare num l7 0 (vint w32 m)) ∷ ‵ (fat fullShare word l8 0 (vint w64 t)) ∷ ‵ (froom rcTy l9 0) ∷ ‵ (froom oTy l10 0) ∷ ‵ (froom tyBool l11 0) ∷ ‵ (froom refS l12 0) ∷ ‵ (froom refW l13 0) ∷ ‵ (froom num l14 0) ∷ ‵ (froom refS l15 0) ∷ ‵ (froom refI l16 0) ∷ ‵ (froom stTy l17 0) ∷ ‵ (fat fullShare plTy l4 0 (pval p)) ∷ ‵ (fat fullShare word l3 0 (vint w64 to)) ∷ ‵ (fat fullShare word l2 0 (vint w64 from₀)) ∷ ‵ (fat fullShare sl0 l1 0 (sliceVal (b, o) (length ys))) ∷ ‵ (froom plTy l0 0)
+        ∷ ‵ (flft κ q) ∷ ‵ scr ∷ ‵ (fdies plTy l0) ∷ ‵ (fdies sl0 l1) ∷ ‵ (fdies word l2) ∷ ‵ (fdies word l3) ∷ ‵ (fdies plTy l4) ∷ ‵ (fdies stTy l5) ∷ ‵ (fdies wTy l6) ∷ ‵ (fdies num l7) ∷ ‵ (fdies word l8) ∷ ‵ (fdies rcTy l9) ∷ ‵ (fdies oTy l10) ∷ ‵ (fdies tyBool l11) ∷ ‵ (fdies refS l12) ∷ ‵ (fdies refW l13) ∷ ‵ (fdies num l14) ∷ ‵ (fdies refS l15) ∷ ‵ (fdies refI l16) ∷ ‵ (fdies stTy l17) ∷ []
 
     record Facts (d : State) (ws : List ℕ) (m t : ℕ) : Type 0 where
       isS : IsS d
@@ -271,8 +272,11 @@ module _ {M : Type 1} (𝓤 : URA M) (H : Heap 𝓤) (A : Atoms 𝓤) (W : Given
             goes : ent 𝓤 (sep 𝓤 (sem 𝓤 H A (tokens csS kS P1)) (sem 𝓤 H A (refs l5 csS (d, tt) kS T1))) (Gpf 𝓤 H A at-mem run .pre to-pf)
             goes = qed W (‵ (tokens csS kS P1) ∷ ‵ (refs l5 csS (d, tt) kS T1) ∷ []) ∵ join ! $ frame ! $ done !
 
-      abbrev to-ru : State → Gru 𝓤 H A at-mem run .Ghost
-      to-ru e = ((tt, tt, tt, (e, tt), (val e ∷ [], tt)), tt)
+      abbrev to-ru : Keys csS → State → Gru 𝓤 H A at-mem run .Ghost
+      to-ru k e = (((k .0 .0 ∷ [], tt), (fullShare, tt), tt, (record { ptr = (l5, 0); name = k .0 .1; now = e }, tt), (vptr l5 0 ∷ [], tt)), tt)
+
+      goes-ru : (k : Keys csS) (e : State) → ent 𝓤 (sep 𝓤 (sem 𝓤 H A (tokens csS k ftrue)) (sem 𝓤 H A (refs l5 csS (e, tt) k ftrue))) (Gru 𝓤 H A at-mem run .pre (to-ru k e))
+      goes-ru k e = qed W (‵ (tokens csS k ftrue) ∷ ‵ (refs l5 csS (e, tt) k ftrue) ∷ []) ∵ join ! $ frame ! $ done !
 
       -- the checksum: the outcome r, who runs, the wake list xs
       module _ (r : Outcome) (id : ℕ) (xs : List ℕ) (kW : Keys csW) where
@@ -316,29 +320,32 @@ module _ {M : Type 1} (𝓤 : URA M) (H : Heap 𝓤) (A : Atoms 𝓤) (W : Given
           land ! (from ! (stop !)) (init ! 10 refl (LL.lawful O.the-type O′.the-laws 𝓤 H A W .typed r _ isO₀ .0)) $ rewrite ! 10 (λ (u : Val). ‵ (fat fullShare O′.mir l10 0 u)) (ap only (LL.tells O.the-type O′.the-laws r _ isO₀)) refl $ drop ! $
           move ! (0 ∷ 2 ∷ 1 ∷ []) $ use3 W (later (‵ (lie l5 csS (z .0, tt)) ⊛ ‵ (P1 rec kW) ⊛ ‵ (L1 rec kW (z .1 .0)))) (backs l5 𝓤 H A W (P1 rec kW) (L1 rec kW (z .1 .0)) csS (z .0, tt) kS) $ await ! tt $ split3 ! $ fsplit ! $ use1 W (given (IsS (z .0)) (‵ (fat fullShare stTy l5 0 (val (z .0))))) (local-out S.the-type S′.the-laws S′.the-plain 𝓤 H A W l5 0 (z .0)) $ learn ! (λ isE.
           move ! (2 ∷ 4 ∷ 3 ∷ []) $ use3 W (later (‵ (lie l6 csW (z .1 .0, tt)) ⊛ ‵ ftrue ⊛ ‵ (L0 rec))) (backs l6 𝓤 H A W ftrue (L0 rec) csW (z .1 .0, tt) kW) $ await ! tt $ split3 ! $ fsplit ! $ use1 W (given (IsW (z .1 .0)) (‵ (fat fullShare wTy l6 0 (wval (z .1 .0))))) (array-out u32 32 wval wtells 𝓤 H A W (wmakes 𝓤 H A W) l6 0 (z .1 .0)) $ learn ! (λ isX.
-          assigns ! (of-opd ! (load ! (from ! (stop !)) (look ! 4 refl))) (from ! (stop !)) (init ! 16 refl (LL.lawful S.the-type S′.the-laws 𝓤 H A W .typed (z .0) _ isE .0)) $
-          nothing ! $ owned ! R (Is R) (LL.makes S.the-type S′.the-plain 𝓤 H A) (z .0) _ isE $ fjoin ! $ nothing ! $
-          use2 W (raw (Gru 𝓤 H A at-mem run .pre (to-ru (z .0)))) (qed W (‵ ftrue ∷ ‵ (owns (R ∷ []) (z .0, tt) (val (z .0) ∷ [], tt)) ∷ []) ∵ join ! $ frame ! $ done !) $
-          calls-at ! fm (Gru 𝓤 H A at-mem run) known-ru (to-ru (z .0)) (and-then ! (load ! (from ! (stop !)) (look ! 17 refl)) (no-more !)) (λ v₄.
-          use1 W (later (some (λ (id : ℕ). (‵ ftrue ⊛ ‵ (u32 .own id (v₄ ∷ []))) ⊛ raw (ensured 𝓤 H A ru.ended (ru.clauses 𝓤 H A at-mem run) tt (z .0, tt) tt id)))) (id⊢ 𝓤 _) $ await ! tt $ pick ! (λ id.
-          split ! $ move ! (1 ∷ []) $ drop ! $
-          split ! $ drop ! $ peeks ! u32 (Is u32) (shows 𝓤 H A u32) id (v₄ ∷ []) (λ isI.
-          land ! (from ! (stop !)) (init ! 16 refl (uint-lawful 𝓤 H A W w32 .typed id _ isI .0)) $ rewrite ! 16 (λ (u : Val). ‵ (fat fullShare num l14 0 u)) (ap only (uint-tells w32 id (v₄ ∷ []) isI)) refl $ drop ! $
+          assigns ! (addr ! (from ! (stop !))) (from ! (stop !)) (init ! 16 refl (tt, tt)) $
+          move ! (4 ∷ []) $ use1 W (‵ (mem R .lies (z .0) l5 0)) (local-in S.the-type S′.the-laws S′.the-plain 𝓤 H A W l5 0 (z .0) isE) $ nothing ! $ move ! (1 ∷ 0 ∷ []) $ fjoin ! $ nothing ! $ nothing ! $ move ! (2 ∷ 0 ∷ 1 ∷ []) $
+          use3 W (later (some (λ (k : Keys csS). ‵ (tokens csS k ftrue) ⊛ ‵ (refs l5 csS (z .0, tt) k ftrue) ⊛ ‵ (kept l5 csS k)))) (lends l5 𝓤 H A W ftrue ftrue csS (z .0, tt)) $ await ! tt $ pick ! (λ kR. split3 ! $
+          use2 W (raw (Gru 𝓤 H A at-mem run .pre (to-ru kR (z .0)))) (goes-ru kR (z .0)) $
+          calls-at ! fm (Gru 𝓤 H A at-mem run) known-ru (to-ru kR (z .0)) (and-then ! (load ! (from ! (stop !)) (look ! 17 refl)) (no-more !)) (λ v₄.
+          use1 W (later (some (λ (id : ℕ). (‵ (tokens csS kR ftrue) ⊛ ‵ (u32 .own id (v₄ ∷ []))) ⊛ raw (ensured 𝓤 H A ru.ended (ru.clauses 𝓤 H A at-mem run) (to-ru kR (z .0) .0 .0) (to-ru kR (z .0) .0 .3) tt id)))) (id⊢ 𝓤 _) $ await ! tt $ pick ! (λ id.
+          split ! $ move ! (1 ∷ []) $ use1 W (some (λ (z₅ : State × Unit {0}). ‵ (lasts csS (z₅ .0, tt) kR ftrue) ⊛ raw (fact 𝓤 ((id ≡ runningTask (z .0)) × (z₅ .0 ≡ z .0))))) (id⊢ 𝓤 _) $ pick ! (λ z₅.
+          split ! $ move ! (1 ∷ []) $ heard ! ((id ≡ runningTask (z .0)) × (z₅ .0 ≡ z .0)) (λ who. rewrite ! 0 (λ (x : State). ‵ (lasts csS (x, tt) kR ftrue)) (who .1) refl $ move ! (1 ∷ []) $ split ! $ move ! (1 ∷ []) $ peeks ! u32 (Is u32) (shows 𝓤 H A u32) id (v₄ ∷ []) (λ isI.
+          land ! (from ! (stop !)) (init ! 18 refl (uint-lawful 𝓤 H A W w32 .typed id _ isI .0)) $ rewrite ! 18 (λ (u : Val). ‵ (fat fullShare num l14 0 u)) (ap only (uint-tells w32 id (v₄ ∷ []) isI)) refl $ drop ! $
+          move ! (0 ∷ 2 ∷ 1 ∷ []) $ use3 W (later (‵ (lie l5 csS (z .0, tt)) ⊛ ‵ ftrue ⊛ ‵ ftrue)) (backs l5 𝓤 H A W ftrue ftrue csS (z .0, tt) kR) $ await ! tt $ split3 ! $ fsplit ! $
+          use1 W (given (IsS (z .0)) (‵ (fat fullShare stTy l5 0 (val (z .0))))) (local-out S.the-type S′.the-laws S′.the-plain 𝓤 H A W l5 0 (z .0)) $ learn ! (λ isE₂.
           -- the checksum
-          assigns ! (addr ! (from ! (stop !))) (from ! (stop !)) (init ! 17 refl (tt, tt)) $
-          move ! (0 ∷ []) $ use1 W (‵ (mem Q .lies (z .1 .0) l6 0)) (array-in u32 32 wval wtells 𝓤 H A W (wmakes 𝓤 H A W) l6 0 (z .1 .0) isX) $ nothing ! $ move ! (1 ∷ 0 ∷ []) $ fjoin ! $ nothing ! $ nothing ! $ move ! (2 ∷ 0 ∷ 1 ∷ []) $
+          assigns ! (addr ! (from ! (stop !))) (from ! (stop !)) (init ! 20 refl (tt, tt)) $
+          move ! (4 ∷ []) $ use1 W (‵ (mem Q .lies (z .1 .0) l6 0)) (array-in u32 32 wval wtells 𝓤 H A W (wmakes 𝓤 H A W) l6 0 (z .1 .0) isX) $ nothing ! $ move ! (1 ∷ 0 ∷ []) $ fjoin ! $ nothing ! $ nothing ! $ move ! (2 ∷ 0 ∷ 1 ∷ []) $
           use3 W (later (some (λ (k : Keys csW). ‵ (tokens csW k ftrue) ⊛ ‵ (shared l6 csW (z .1 .0, tt) k ftrue) ⊛ ‵ (kept-shared l6 csW (z .1 .0, tt) k)))) (lends-shared l6 𝓤 H A W ftrue ftrue csW (z .1 .0, tt)) $ await ! tt $ pick ! (λ kV. split3 ! $
           move ! (1 ∷ []) $ owned ! u32 (Is u32) (uint-makes 𝓤 H A W w32) id _ (refl, isI .1) $ fjoin ! $ owned ! O.the-row (Is O.the-row) (LL.makes O.the-type O′.the-plain 𝓤 H A) r _ isO $ fjoin ! $ owned ! u32 (Is u32) (uint-makes 𝓤 H A W w32) m _ (refl, f .m-fits) $ fjoin ! $ move ! (1 ∷ 0 ∷ []) $
           use2 W (raw (Gsu 𝓤 H A at-mem run .pre (to-su r id (z .1 .0) kV))) (qed W (‵ (suA r id (z .1 .0) kV) ∷ ‵ (suO r id (z .1 .0) kV) ∷ []) ∵ join ! $ frame ! $ done !) $
-          calls-at ! fm (Gsu 𝓤 H A at-mem run) known-su (to-su r id (z .1 .0) kV) (and-then ! (load ! (from ! (stop !)) (look ! 9 refl)) (and-then ! (load ! (from ! (stop !)) (look ! 12 refl)) (and-then ! (load ! (from ! (stop !)) (look ! 16 refl)) (and-then ! (load ! (from ! (stop !)) (look ! 18 refl)) (no-more !))))) (λ v₅.
+          calls-at ! fm (Gsu 𝓤 H A at-mem run) known-su (to-su r id (z .1 .0) kV) (and-then ! (load ! (from ! (stop !)) (look ! 12 refl)) (and-then ! (load ! (from ! (stop !)) (look ! 15 refl)) (and-then ! (load ! (from ! (stop !)) (look ! 19 refl)) (and-then ! (load ! (from ! (stop !)) (look ! 21 refl)) (no-more !))))) (λ v₅.
           use1 W (later (some (λ (su₀ : ℕ). (‵ (suA r id (z .1 .0) kV) ⊛ ‵ (u32 .own su₀ (v₅ ∷ []))) ⊛ raw (ensured 𝓤 H A su.ended (su.clauses 𝓤 H A at-mem run) (to-su r id (z .1 .0) kV .0 .0) (to-su r id (z .1 .0) kV .0 .3) tt su₀)))) (id⊢ 𝓤 _) $ await ! tt $ pick ! (λ su₀.
           split ! $ move ! (1 ∷ []) $ drop ! $
           split ! $ move ! (1 ∷ []) $ peeks ! u32 (Is u32) (shows 𝓤 H A u32) su₀ (v₅ ∷ []) (λ isU.
-          land ! (from ! (stop !)) (store ! 10 refl (uint-lawful 𝓤 H A W w32 .typed su₀ _ isU .0)) $ rewrite ! 10 (λ (u : Val). ‵ (fat fullShare num l7 0 u)) (ap only (uint-tells w32 su₀ (v₅ ∷ []) isU)) refl $ drop ! $
+          land ! (from ! (stop !)) (store ! 13 refl (uint-lawful 𝓤 H A W w32 .typed su₀ _ isU .0)) $ rewrite ! 13 (λ (u : Val). ‵ (fat fullShare num l7 0 u)) (ap only (uint-tells w32 su₀ (v₅ ∷ []) isU)) refl $ drop ! $
           nothing ! $ nothing ! $ fjoin ! $ move ! (1 ∷ 2 ∷ 0 ∷ []) $ use3 W (later (‵ (lie l6 csW (z .1 .0, tt)) ⊛ ‵ ftrue ⊛ ‵ ftrue)) (backs-shared l6 𝓤 H A W ftrue ftrue csW (z .1 .0, tt) kV) $ await ! tt $ split3 ! $ fsplit ! $ use1 W (given (IsW (z .1 .0)) (‵ (fat fullShare wTy l6 0 (wval (z .1 .0))))) (array-out u32 32 wval wtells 𝓤 H A W (wmakes 𝓤 H A W) l6 0 (z .1 .0)) $ learn ! (λ isX₂.
-          assigns-last ! (bin ! (load ! (from ! (stop !)) (look ! 12 refl)) (lit ! tt) (record { fits = (omega (arith, to-fits)) })) (from ! (stop !)) (store ! 12 refl (tt, record { fits = (omega (arith, to-fits)) })) $
-          forget ! 13 refl $ forget ! 14 refl $ forget ! 15 refl $ forget ! 16 refl $ forget ! 17 refl $ forget ! 18 refl $ forget ! 19 refl $ forget ! 20 refl $
-          keep ! (7 ∷ 0 ∷ 11 ∷ 12 ∷ 13 ∷ 14 ∷ 15 ∷ 16 ∷ 17 ∷ 18 ∷ 19 ∷ 20 ∷ 21 ∷ 22 ∷ 23 ∷ 24 ∷ 25 ∷ 26 ∷ 9 ∷ 10 ∷ 27 ∷ 28 ∷ 29 ∷ 30 ∷ 31 ∷ 32 ∷ 33 ∷ 34 ∷ 35 ∷ 36 ∷ 37 ∷ 38 ∷ 39 ∷ 40 ∷ 41 ∷ 42 ∷ 43 ∷ 44 ∷ []) $ by ! (next (z .0) (z .1 .0) su₀ more (record { isS = isE; isW = isX; m-fits = isU .1; t-fits = (omega (arith, to-fits)) })))))))))))))))))))))))
+          assigns-last ! (bin ! (load ! (from ! (stop !)) (look ! 15 refl)) (lit ! tt) (record { fits = (omega (arith, to-fits)) })) (from ! (stop !)) (store ! 15 refl (tt, record { fits = (omega (arith, to-fits)) })) $
+          forget ! 16 refl $ forget ! 17 refl $ forget ! 18 refl $ forget ! 19 refl $ forget ! 20 refl $ forget ! 21 refl $ forget ! 22 refl $ forget ! 23 refl $
+          keep ! (4 ∷ 0 ∷ 14 ∷ 15 ∷ 16 ∷ 17 ∷ 18 ∷ 19 ∷ 20 ∷ 21 ∷ 22 ∷ 23 ∷ 24 ∷ 25 ∷ 26 ∷ 27 ∷ 28 ∷ 29 ∷ 12 ∷ 13 ∷ 30 ∷ 31 ∷ 32 ∷ 33 ∷ 34 ∷ 35 ∷ 36 ∷ 37 ∷ 38 ∷ 39 ∷ 40 ∷ 41 ∷ 42 ∷ 43 ∷ 44 ∷ 45 ∷ 46 ∷ 47 ∷ []) $ by ! (next (z .0) (z .1 .0) su₀ more (record { isS = isE; isW = isX; m-fits = isU .1; t-fits = (omega (arith, to-fits)) })))))))))))))))))))))))))))
           (λ no-more-y. exec ! C Λ En code.Mir.t-6 (atRet En Post) $
           assigns ! (of-opd ! (load ! (from ! (stop !)) (look ! 0 refl))) (from ! (stop !)) (init ! 12 refl (LL.lawful S.the-type S′.the-laws 𝓤 H A W .typed d _ (f .isS) .0)) $
           assigns ! (agg ! (and-then ! (load ! (from ! (stop !)) (look ! 12 refl)) (and-then ! (load ! (from ! (stop !)) (look ! 2 refl)) (no-more !)))) (from ! (stop !)) (init ! 17 refl (LL.lawful PL.the-type PL′.the-laws 𝓤 H A W .typed res _ isT .0)) $
@@ -397,5 +404,5 @@ play-spec 𝓤 H 𝓜 𝓖 𝓡 =
     (play-meets 𝓤 H (𝓖 .A) (givenOf 𝓤 H 𝓜 𝓖) (𝓜 .mem) (𝓡 .run) (tablesOf 𝓤 H 𝓜 (tables 𝓤 H 𝓜 𝓡 code.env))
     (cited 𝓤 H (Grd 𝓤 H (𝓖 .A) (𝓜 .mem) (𝓡 .run)) 𝓜 𝓡 code.env #rd rd-def.routine code.calls-mixing·record-at (rd-thm.met 𝓤 H 𝓜 𝓖 𝓡))
     (cited 𝓤 H (Gpf 𝓤 H (𝓖 .A) (𝓜 .mem) (𝓡 .run)) 𝓜 𝓡 code.env #pf pf-def.routine code.calls-kernel·step (pf-thm.met 𝓤 H 𝓜 𝓖 𝓡))
-    (cited 𝓤 H (Gru 𝓤 H (𝓖 .A) (𝓜 .mem) (𝓡 .run)) 𝓜 𝓡 code.env #ru ru-def.routine code.calls-kernel·runner (ru-thm.met 𝓤 H 𝓜 𝓖 𝓡))
+    (cited 𝓤 H (Gru 𝓤 H (𝓖 .A) (𝓜 .mem) (𝓡 .run)) 𝓜 𝓡 code.env #ru ru-def.routine code.calls-lending·runner (ru-thm.met 𝓤 H 𝓜 𝓖 𝓡))
     (cited 𝓤 H (Gsu 𝓤 H (𝓖 .A) (𝓜 .mem) (𝓡 .run)) 𝓜 𝓡 code.env #su su-def.routine code.calls-mixing·summed (su-thm.met 𝓤 H 𝓜 𝓖 𝓡)))

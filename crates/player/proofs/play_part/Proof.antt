@@ -87,10 +87,10 @@ use Rattle.kernel.proofs.perform as pf
 use Rattle.kernel.proofs.perform.Symbol as pf-def
 use Rattle.kernel.proofs.perform.Symbol.{name as #pf}
 use Rattle.kernel.proofs.perform.Met as pf-thm
-use Rattle.kernel.proofs.runner as ru
-use Rattle.kernel.proofs.runner.Symbol as ru-def
-use Rattle.kernel.proofs.runner.Symbol.{name as #ru}
-use Rattle.kernel.proofs.runner.Met as ru-thm
+use Rattle.lending.proofs.runner as ru
+use Rattle.lending.proofs.runner.Symbol as ru-def
+use Rattle.lending.proofs.runner.Symbol.{name as #ru}
+use Rattle.lending.proofs.runner.Met as ru-thm
 use Rattle.text.proofs.put_line as pu
 use Rattle.text.proofs.put_line.Symbol as pu-def
 use Rattle.text.proofs.put_line.Symbol.{name as #pu}
@@ -265,12 +265,12 @@ module _ {M : Type 1} (𝓤 : URA M) (H : Heap 𝓤) (A : Atoms 𝓤) (W : Given
     Λ = 𝓣 .Λ
 
     abbrev En : Env 𝓤 H
-    En = (ptTy, l0) ∷ (sl0, l1) ∷ (plTy, l2) ∷ (sl1, l3) ∷ (stTy, l4) ∷ (wTy, l5) ∷ (num, l6) ∷ (num, l7) ∷ (word, l8) ∷ (word, l9) ∷ (rcTy, l10) ∷ (oTy, l11) ∷ (plTy, l12) ∷ (tyBool, l13) ∷ (word, l14) ∷ (refS, l15) ∷ (refW, l16) ∷ (refB, l17) ∷ (slE, l18) ∷ (refI, l19) ∷ (num, l20) ∷ (stTy, l21) ∷ (stTy, l22) ∷ []
+    En = (ptTy, l0) ∷ (sl0, l1) ∷ (plTy, l2) ∷ (sl1, l3) ∷ (stTy, l4) ∷ (wTy, l5) ∷ (num, l6) ∷ (num, l7) ∷ (word, l8) ∷ (word, l9) ∷ (rcTy, l10) ∷ (oTy, l11) ∷ (plTy, l12) ∷ (tyBool, l13) ∷ (word, l14) ∷ (refS, l15) ∷ (refW, l16) ∷ (refB, l17) ∷ (slE, l18) ∷ (refI, l19) ∷ (num, l20) ∷ (refS, l21) ∷ (stTy, l22) ∷ []
 
     -- before a turn: the state, the wake list, the records left, the next one's number and place, the bytes written, the lines
     abbrev At : State → List ℕ → ℕ → ℕ → ℕ → ℕ → List ℕ → List (Item 𝓤)
-    At d ws m n t k out = ‵ (fat fullShare stTy l4 0 (val d)) ∷ ‵ (fat fullShare wTy l5 0 (wval ws)) ∷ ‵ (fat fullShare num l6 0 (vint w32 m)) ∷ ‵ (fat fullShare num l7 0 (vint w32 n)) ∷ ‵ (fat fullShare word l8 0 (vint w64 t)) ∷ ‵ (fat fullShare word l9 0 (vint w64 k)) ∷ ‵ (froom rcTy l10 0) ∷ ‵ (froom oTy l11 0) ∷ ‵ (froom plTy l12 0) ∷ ‵ (froom tyBool l13 0) ∷ ‵ (froom word l14 0) ∷ ‵ (froom refS l15 0) ∷ ‵ (froom refW l16 0) ∷ ‵ (froom refB l17 0) ∷ ‵ (froom slE l18 0) ∷ ‵ (froom refI l19 0) ∷ ‵ (froom num l20 0) ∷ ‵ (froom stTy l21 0) ∷ ‵ (froom stTy l22 0) ∷ ‵ (fat fullShare sl1 l3 0 (sliceVal (b₁, o₁) (length out))) ∷ ‵ (fat fullShare plTy l2 0 (pval p)) ∷ ‵ (fat fullShare sl0 l1 0 (sliceVal (b, o) (length ys))) ∷ ‵ (froom ptTy l0 0)
-        ∷ ‵ (flft κ q) ∷ ‵ (flft κ₁ q₁) ∷ ‵ scr ∷ ‵ (obs out) ∷ ‵ (bor out) ∷ ‵ (fdies ptTy l0) ∷ ‵ (fdies sl0 l1) ∷ ‵ (fdies plTy l2) ∷ ‵ (fdies sl1 l3) ∷ ‵ (fdies stTy l4) ∷ ‵ (fdies wTy l5) ∷ ‵ (fdies num l6) ∷ ‵ (fdies num l7) ∷ ‵ (fdies word l8) ∷ ‵ (fdies word l9) ∷ ‵ (fdies rcTy l10) ∷ ‵ (fdies oTy l11) ∷ ‵ (fdies plTy l12) ∷ ‵ (fdies tyBool l13) ∷ ‵ (fdies word l14) ∷ ‵ (fdies refS l15) ∷ ‵ (fdies refW l16) ∷ ‵ (fdies refB l17) ∷ ‵ (fdies slE l18) ∷ ‵ (fdies refI l19) ∷ ‵ (fdies num l20) ∷ ‵ (fdies stTy l21) ∷ ‵ (fdies stTy l22) ∷ []
+    At d ws m n t k out = ‵ (fat fullShare stTy l4 0 (val d)) ∷ ‵ (fat fullShare wTy l5 0 (wval ws)) ∷ ‵ (fat fullShare num l6 0 (vint w32 m)) ∷ ‵ (fat fullShare num l7 0 (vint w32 n)) ∷ ‵ (fat fullShare word l8 0 (vint w64 t)) ∷ ‵ (fat fullShare word l9 0 (vint w64 k)) ∷ ‵ (froom rcTy l10 0) ∷ ‵ (froom oTy l11 0) ∷ ‵ (froom plTy l12 0) ∷ ‵ (froom tyBool l13 0) ∷ ‵ (froom word l14 0) ∷ ‵ (froom refS l15 0) ∷ ‵ (froom refW l16 0) ∷ ‵ (froom refB l17 0) ∷ ‵ (froom slE l18 0) ∷ ‵ (froom refI l19 0) ∷ ‵ (froom num l20 0) ∷ ‵ (froom refS l21 0) ∷ ‵ (froom stTy l22 0) ∷ ‵ (fat fullShare sl1 l3 0 (sliceVal (b₁, o₁) (length out))) ∷ ‵ (fat fullShare plTy l2 0 (pval p)) ∷ ‵ (fat fullShare sl0 l1 0 (sliceVal (b, o) (length ys))) ∷ ‵ (froom ptTy l0 0)
+        ∷ ‵ (flft κ q) ∷ ‵ (flft κ₁ q₁) ∷ ‵ scr ∷ ‵ (obs out) ∷ ‵ (bor out) ∷ ‵ (fdies ptTy l0) ∷ ‵ (fdies sl0 l1) ∷ ‵ (fdies plTy l2) ∷ ‵ (fdies sl1 l3) ∷ ‵ (fdies stTy l4) ∷ ‵ (fdies wTy l5) ∷ ‵ (fdies num l6) ∷ ‵ (fdies num l7) ∷ ‵ (fdies word l8) ∷ ‵ (fdies word l9) ∷ ‵ (fdies rcTy l10) ∷ ‵ (fdies oTy l11) ∷ ‵ (fdies plTy l12) ∷ ‵ (fdies tyBool l13) ∷ ‵ (fdies word l14) ∷ ‵ (fdies refS l15) ∷ ‵ (fdies refW l16) ∷ ‵ (fdies refB l17) ∷ ‵ (fdies slE l18) ∷ ‵ (fdies refI l19) ∷ ‵ (fdies num l20) ∷ ‵ (fdies refS l21) ∷ ‵ (fdies stTy l22) ∷ []
 
     abbrev pl : State → ℕ → ℕ → ℕ → Place
     pl d m n t = record { state = d; left = m; number = n; at = t }
@@ -350,8 +350,11 @@ module _ {M : Type 1} (𝓤 : URA M) (H : Heap 𝓤) (A : Atoms 𝓤) (W : Given
             goes : ent 𝓤 (sep 𝓤 (sem 𝓤 H A (tokens csS kS P1)) (sem 𝓤 H A (refs l4 csS (d, tt) kS T1))) (Gpf 𝓤 H A at-mem run .pre to-pf)
             goes = qed W (‵ (tokens csS kS P1) ∷ ‵ (refs l4 csS (d, tt) kS T1) ∷ []) ∵ join ! $ frame ! $ done !
 
-      abbrev to-ru : State → Gru 𝓤 H A at-mem run .Ghost
-      to-ru e = ((tt, tt, tt, (e, tt), (val e ∷ [], tt)), tt)
+      abbrev to-ru : Keys csS → State → Gru 𝓤 H A at-mem run .Ghost
+      to-ru k e = (((k .0 .0 ∷ [], tt), (fullShare, tt), tt, (record { ptr = (l4, 0); name = k .0 .1; now = e }, tt), (vptr l4 0 ∷ [], tt)), tt)
+
+      goes-ru : (k : Keys csS) (e : State) → ent 𝓤 (sep 𝓤 (sem 𝓤 H A (tokens csS k ftrue)) (sem 𝓤 H A (refs l4 csS (e, tt) k ftrue))) (Gru 𝓤 H A at-mem run .pre (to-ru k e))
+      goes-ru k e = qed W (‵ (tokens csS k ftrue) ∷ ‵ (refs l4 csS (e, tt) k ftrue) ∷ []) ∵ join ! $ frame ! $ done !
 
       -- the line: the outcome r, the wake list xs, who runs
       module _ (r : Outcome) (xs : List ℕ) (id : ℕ) (α : ℕ) (γ₂ : GName) (kW : Keys csW) where
@@ -427,34 +430,37 @@ module _ {M : Type 1} (𝓤 : URA M) (H : Heap 𝓤) (A : Atoms 𝓤) (W : Given
           move ! (2 ∷ 4 ∷ 3 ∷ []) $ use3 W (later (‵ (lie l5 csW (z .1 .0, tt)) ⊛ ‵ ftrue ⊛ ‵ (L0 rec))) (backs l5 𝓤 H A W ftrue (L0 rec) csW (z .1 .0, tt) kW) $ await ! tt $ split3 ! $ fsplit ! $ use1 W (given (IsW (z .1 .0)) (‵ (fat fullShare wTy l5 0 (wval (z .1 .0))))) (array-out u32 32 wval wtells 𝓤 H A W (wmakes 𝓤 H A W) l5 0 (z .1 .0)) $ learn ! (λ isX.
           assigns ! (addr ! (from ! (fld ! refl (hop ! (look-in ! 25 (sub ! 0 refl (whole !))) (stop !))))) (from ! (stop !)) (init ! 19 refl (tt, tt)) $
           assigns ! (agg ! (and-then ! (load ! (from ! (stop !)) (look ! 19 refl)) (and-then ! (load ! (from ! (fld ! refl (stop !))) (look-in ! 25 (sub ! 1 refl (whole !)))) (no-more !)))) (from ! (stop !)) (init ! 20 refl (tt, (tt, (record { fits = gout .0 }, tt)))) $ assigns ! (addr ! (from ! (stop !))) (from ! (stop !)) (init ! 21 refl (tt, tt)) $
-          assigns ! (of-opd ! (load ! (from ! (stop !)) (look ! 4 refl))) (from ! (stop !)) (init ! 23 refl (LL.lawful S.the-type S′.the-laws 𝓤 H A W .typed (z .0) _ isE .0)) $
-          nothing ! $ owned ! R (Is R) (LL.makes S.the-type S′.the-plain 𝓤 H A) (z .0) _ isE $ fjoin ! $ nothing ! $
-          use2 W (raw (Gru 𝓤 H A at-mem run .pre (to-ru (z .0)))) (qed W (‵ ftrue ∷ ‵ (owns (R ∷ []) (z .0, tt) (val (z .0) ∷ [], tt)) ∷ []) ∵ join ! $ frame ! $ done !) $
-          calls-at ! fm (Gru 𝓤 H A at-mem run) known-ru (to-ru (z .0)) (and-then ! (load ! (from ! (stop !)) (look ! 24 refl)) (no-more !)) (λ v₄.
-          use1 W (later (some (λ (id : ℕ). (‵ ftrue ⊛ ‵ (u32 .own id (v₄ ∷ []))) ⊛ raw (ensured 𝓤 H A ru.ended (ru.clauses 𝓤 H A at-mem run) tt (z .0, tt) tt id)))) (id⊢ 𝓤 _) $ await ! tt $ pick ! (λ id.
-          split ! $ move ! (1 ∷ []) $ use1 W (some (λ (z₅ : Unit {0} × (Unit {0})). ‵ (fsep ftrue (ftrue)) ⊛ raw (fact 𝓤 (id ≡ runningTask (z .0))))) (id⊢ 𝓤 _) $ pick ! (λ z₄. split ! $ drop ! $ heard ! (id ≡ runningTask (z .0)) (λ who.
-          split ! $ drop ! $ peeks ! u32 (Is u32) (shows 𝓤 H A u32) id (v₄ ∷ []) (λ isI.
-          land ! (from ! (stop !)) (init ! 23 refl (uint-lawful 𝓤 H A W w32 .typed id _ isI .0)) $ rewrite ! 23 (λ (u : Val). ‵ (fat fullShare num l20 0 u)) (ap only (uint-tells w32 id (v₄ ∷ []) isI)) refl $ drop ! $
+          assigns ! (addr ! (from ! (stop !))) (from ! (stop !)) (init ! 23 refl (tt, tt)) $
+          move ! (4 ∷ []) $ use1 W (‵ (mem R .lies (z .0) l4 0)) (local-in S.the-type S′.the-laws S′.the-plain 𝓤 H A W l4 0 (z .0) isE) $ nothing ! $ move ! (1 ∷ 0 ∷ []) $ fjoin ! $ nothing ! $ nothing ! $ move ! (2 ∷ 0 ∷ 1 ∷ []) $
+          use3 W (later (some (λ (k : Keys csS). ‵ (tokens csS k ftrue) ⊛ ‵ (refs l4 csS (z .0, tt) k ftrue) ⊛ ‵ (kept l4 csS k)))) (lends l4 𝓤 H A W ftrue ftrue csS (z .0, tt)) $ await ! tt $ pick ! (λ kR. split3 ! $
+          use2 W (raw (Gru 𝓤 H A at-mem run .pre (to-ru kR (z .0)))) (goes-ru kR (z .0)) $
+          calls-at ! fm (Gru 𝓤 H A at-mem run) known-ru (to-ru kR (z .0)) (and-then ! (load ! (from ! (stop !)) (look ! 24 refl)) (no-more !)) (λ v₄.
+          use1 W (later (some (λ (id : ℕ). (‵ (tokens csS kR ftrue) ⊛ ‵ (u32 .own id (v₄ ∷ []))) ⊛ raw (ensured 𝓤 H A ru.ended (ru.clauses 𝓤 H A at-mem run) (to-ru kR (z .0) .0 .0) (to-ru kR (z .0) .0 .3) tt id)))) (id⊢ 𝓤 _) $ await ! tt $ pick ! (λ id.
+          split ! $ move ! (1 ∷ []) $ use1 W (some (λ (z₅ : State × Unit {0}). ‵ (lasts csS (z₅ .0, tt) kR ftrue) ⊛ raw (fact 𝓤 ((id ≡ runningTask (z .0)) × (z₅ .0 ≡ z .0))))) (id⊢ 𝓤 _) $ pick ! (λ z₅.
+          split ! $ move ! (1 ∷ []) $ heard ! ((id ≡ runningTask (z .0)) × (z₅ .0 ≡ z .0)) (λ who. rewrite ! 0 (λ (x : State). ‵ (lasts csS (x, tt) kR ftrue)) (who .1) refl $ move ! (1 ∷ []) $ split ! $ move ! (1 ∷ []) $ peeks ! u32 (Is u32) (shows 𝓤 H A u32) id (v₄ ∷ []) (λ isI.
+          land ! (from ! (stop !)) (init ! 25 refl (uint-lawful 𝓤 H A W w32 .typed id _ isI .0)) $ rewrite ! 25 (λ (u : Val). ‵ (fat fullShare num l20 0 u)) (ap only (uint-tells w32 id (v₄ ∷ []) isI)) refl $ drop ! $
+          move ! (0 ∷ 2 ∷ 1 ∷ []) $ use3 W (later (‵ (lie l4 csS (z .0, tt)) ⊛ ‵ ftrue ⊛ ‵ ftrue)) (backs l4 𝓤 H A W ftrue ftrue csS (z .0, tt) kR) $ await ! tt $ split3 ! $ fsplit ! $
+          use1 W (given (IsS (z .0)) (‵ (fat fullShare stTy l4 0 (val (z .0))))) (local-out S.the-type S′.the-laws S′.the-plain 𝓤 H A W l4 0 (z .0)) $ learn ! (λ isE₂.
           -- the line
-          move ! (0 ∷ []) $ use1 W (‵ (mem Q .lies (z .1 .0) l5 0)) (array-in u32 32 wval wtells 𝓤 H A W (wmakes 𝓤 H A W) l5 0 (z .1 .0) isX) $ nothing ! $ move ! (1 ∷ 0 ∷ []) $ fjoin ! $ nothing ! $ owned ! u32 (Is u32) (uint-makes 𝓤 H A W w32) id _ (refl, isI .1) $ fjoin ! $ nothing ! $ move ! (2 ∷ 0 ∷ 1 ∷ []) $
+          move ! (4 ∷ []) $ use1 W (‵ (mem Q .lies (z .1 .0) l5 0)) (array-in u32 32 wval wtells 𝓤 H A W (wmakes 𝓤 H A W) l5 0 (z .1 .0) isX) $ nothing ! $ move ! (1 ∷ 0 ∷ []) $ fjoin ! $ nothing ! $ owned ! u32 (Is u32) (uint-makes 𝓤 H A W w32) id _ (refl, isI .1) $ fjoin ! $ nothing ! $ move ! (2 ∷ 0 ∷ 1 ∷ []) $
           use3 W (later (some (λ (k : Keys csW). ‵ (tokens csW k ftrue) ⊛ ‵ (shared l5 csW (z .1 .0, tt) k (owns (u32 ∷ []) (id, tt) (vint w32 id ∷ [], tt))) ⊛ ‵ (kept-shared l5 csW (z .1 .0, tt) k)))) (lends-shared l5 𝓤 H A W ftrue (owns (u32 ∷ []) (id, tt) (vint w32 id ∷ [], tt)) csW (z .1 .0, tt)) $ await ! tt $ pick ! (λ kV. split3 ! $
-          lft-new ! tt (λ α. move ! (0 ∷ 1 ∷ []) $ fjoin ! $ move ! (32 ∷ 33 ∷ 31 ∷ []) $ use3 W (later (some (λ (γ₂ : GName). ‵ (MutSlice erased (α ∷ []) u8 .own (record { ptr = (b₁, o₁); name = γ₂; now = out }) (sliceVal (b₁, o₁) (length out) ∷ [])) ⊛ ‵ (Relent u8 κ₁ (α ∷ []) q₁ γ₁ b₁ o₁ γ₂ out)))) (slice-again u8 κ₁ (α ∷ []) q₁ γ₁ b₁ o₁ 𝓤 H A W erased out gout) $ await ! tt $ pick ! (λ γ₂. split ! $
+          lft-new ! tt (λ α. move ! (0 ∷ 1 ∷ []) $ fjoin ! $ move ! (35 ∷ 36 ∷ 34 ∷ []) $ use3 W (later (some (λ (γ₂ : GName). ‵ (MutSlice erased (α ∷ []) u8 .own (record { ptr = (b₁, o₁); name = γ₂; now = out }) (sliceVal (b₁, o₁) (length out) ∷ [])) ⊛ ‵ (Relent u8 κ₁ (α ∷ []) q₁ γ₁ b₁ o₁ γ₂ out)))) (slice-again u8 κ₁ (α ∷ []) q₁ γ₁ b₁ o₁ 𝓤 H A W erased out gout) $ await ! tt $ pick ! (λ γ₂. split ! $
           move ! (3 ∷ []) $ owned ! O.the-row (Is O.the-row) (LL.makes O.the-type O′.the-plain 𝓤 H A) r _ isO $ fjoin ! $ owned ! u32 (Is u32) (uint-makes 𝓤 H A W w32) n _ (refl, n-fits) $ fjoin ! $ owned ! usize (Is usize) (uint-makes 𝓤 H A W w64) k _ (refl, k-fits) $ fjoin ! $ move ! (1 ∷ 0 ∷ []) $ fjoin ! $ move ! (2 ∷ 0 ∷ []) $
           use2 W (raw (Gpu 𝓤 H A at-mem run .pre (to-pu r (z .1 .0) id α γ₂ kV))) (qed W (‵ (puA r (z .1 .0) id α γ₂ kV) ∷ ‵ (puO r (z .1 .0) id α γ₂ kV) ∷ []) ∵ says ! (yes-h .1, few rec (z .0) (z .1 .0) r rec-is said) $ done !) $
-          calls-at ! fm (Gpu 𝓤 H A at-mem run) known-pu (to-pu r (z .1 .0) id α γ₂ kV) (and-then ! (load ! (from ! (stop !)) (look ! 22 refl)) (and-then ! (load ! (from ! (stop !)) (look ! 13 refl)) (and-then ! (load ! (from ! (stop !)) (look ! 11 refl)) (and-then ! (load ! (from ! (stop !)) (look ! 15 refl)) (and-then ! (load ! (from ! (stop !)) (look ! 23 refl)) (and-then ! (load ! (from ! (stop !)) (look ! 24 refl)) (no-more !))))))) (λ v₅.
+          calls-at ! fm (Gpu 𝓤 H A at-mem run) known-pu (to-pu r (z .1 .0) id α γ₂ kV) (and-then ! (load ! (from ! (stop !)) (look ! 25 refl)) (and-then ! (load ! (from ! (stop !)) (look ! 16 refl)) (and-then ! (load ! (from ! (stop !)) (look ! 14 refl)) (and-then ! (load ! (from ! (stop !)) (look ! 18 refl)) (and-then ! (load ! (from ! (stop !)) (look ! 26 refl)) (and-then ! (load ! (from ! (stop !)) (look ! 27 refl)) (no-more !))))))) (λ v₅.
           use1 W (later (some (λ (wr : ℕ). (‵ (puA r (z .1 .0) id α γ₂ kV) ⊛ ‵ (usize .own wr (v₅ ∷ []))) ⊛ raw (ensured 𝓤 H A pu.ended (pu.clauses 𝓤 H A at-mem run) (to-pu r (z .1 .0) id α γ₂ kV .0 .0) (to-pu r (z .1 .0) id α γ₂ kV .0 .3) tt wr)))) (id⊢ 𝓤 _) $ await ! tt $ pick ! (λ wr.
           split ! $ move ! (1 ∷ []) $ use1 W (some (λ (y : List ℕ × (Unit {0} × (Unit {0} × (Unit {0} × (Unit {0} × (Unit {0} × (Unit {0}))))))). ‵ (puL r (z .1 .0) id α γ₂ kV (y .0)) ⊛ raw (fact 𝓤 (Line r (z .1 .0) id α γ₂ kV (y .0) wr)))) (id⊢ 𝓤 _) $ pick ! (λ y₅. split ! $ move ! (1 ∷ []) $ heard ! (Line r (z .1 .0) id α γ₂ kV (y₅ .0) wr) (λ line.
           move ! (1 ∷ []) $ split ! $ move ! (1 ∷ []) $ peeks ! usize (Is usize) (shows 𝓤 H A usize) wr (v₅ ∷ []) (λ isK.
-          land ! (from ! (stop !)) (store ! 15 refl (uint-lawful 𝓤 H A W w64 .typed wr _ isK .0)) $ rewrite ! 15 (λ (u : Val). ‵ (fat fullShare word l9 0 u)) (ap only (uint-tells w64 wr (v₅ ∷ []) isK)) refl $ drop ! $
+          land ! (from ! (stop !)) (store ! 18 refl (uint-lawful 𝓤 H A W w64 .typed wr _ isK .0)) $ rewrite ! 18 (λ (u : Val). ‵ (fat fullShare word l9 0 u)) (ap only (uint-tells w64 wr (v₅ ∷ []) isK)) refl $ drop ! $
           move ! (1 ∷ []) $ fsplit ! $ fsplit ! $ move ! (1 ∷ []) $ feqL ! (λ longs. move ! (2 ∷ []) $ fsplit ! $ lft-end ! tt $ move ! (0 ∷ 4 ∷ 2 ∷ []) $
           use3 W (later (‵ (obs (y₅ .0)) ⊛ ‵ (bor (y₅ .0)) ⊛ ‵ (flft κ₁ q₁))) (slice-returns u8 κ₁ (α ∷ []) q₁ γ₁ b₁ o₁ 𝓤 H A W γ₂ out (y₅ .0) longs) $ await ! tt $ split3 ! $
           nothing ! $ nothing ! $ fjoin ! $ move ! (4 ∷ 6 ∷ 0 ∷ []) $ use3 W (later (‵ (lie l5 csW (z .1 .0, tt)) ⊛ ‵ ftrue ⊛ ‵ ftrue)) (backs-shared l5 𝓤 H A W ftrue ftrue csW (z .1 .0, tt) kV) $ await ! tt $ split3 ! $ fsplit ! $ use1 W (given (IsW (z .1 .0)) (‵ (fat fullShare wTy l5 0 (wval (z .1 .0))))) (array-out u32 32 wval wtells 𝓤 H A W (wmakes 𝓤 H A W) l5 0 (z .1 .0)) $ learn ! (λ isX₂.
-          rewrite ! 32 (λ (i : ℕ). ‵ (fat fullShare sl1 l3 0 (sliceVal (b₁, o₁) i))) (sym longs) refl $
-          assigns ! (bin ! (load ! (from ! (stop !)) (look ! 15 refl)) (lit ! tt) (yes-h .0)) (from ! (stop !)) (store ! 15 refl (tt, record { fits = (omega (arith, f .going .playing .numbered)) })) $
-          assigns ! (bin ! (load ! (from ! (stop !)) (look ! 16 refl)) (lit ! tt) (record { fits = (let q2 : 1 ≤ m = yes-h .0 in omega (arith, f .going .playing .numbered)) })) (from ! (stop !)) (store ! 16 refl (tt, record { fits = (let q2 : 1 ≤ m = yes-h .0 in omega (arith, f .going .playing .numbered)) })) $
-          assigns-last ! (bin ! (load ! (from ! (stop !)) (look ! 17 refl)) (lit ! tt) (record { fits = (omega (arith, f .going .playing .within, f .going .playing .small)) })) (from ! (stop !)) (store ! 17 refl (tt, record { fits = (omega (arith, f .going .playing .within, f .going .playing .small)) })) $
-          forget ! 19 refl $ forget ! 20 refl $ forget ! 22 refl $ forget ! 23 refl $ forget ! 24 refl $ forget ! 25 refl $ forget ! 26 refl $ forget ! 27 refl $ forget ! 28 refl $ forget ! 29 refl $ forget ! 30 refl $
-          keep ! (11 ∷ 0 ∷ 15 ∷ 16 ∷ 17 ∷ 18 ∷ 19 ∷ 20 ∷ 21 ∷ 22 ∷ 23 ∷ 24 ∷ 25 ∷ 26 ∷ 27 ∷ 28 ∷ 29 ∷ 30 ∷ 31 ∷ 32 ∷ 33 ∷ 34 ∷ 35 ∷ 13 ∷ 6 ∷ 14 ∷ 4 ∷ 5 ∷ 36 ∷ 37 ∷ 38 ∷ 39 ∷ 40 ∷ 41 ∷ 42 ∷ 43 ∷ 44 ∷ 45 ∷ 46 ∷ 47 ∷ 48 ∷ 49 ∷ 50 ∷ 51 ∷ 52 ∷ 53 ∷ 54 ∷ 55 ∷ 56 ∷ 57 ∷ 58 ∷ []) $ by ! (next (z .0) (z .1 .0) wr (y₅ .0) (yes-h .0) (after-line rec (z .0) (z .1 .0) r id wr (y₅ .0) (yes-h .0) (yes-h .1) rec-is said who line longs isE isX))))))))))))))))))))))))))))))))
+          rewrite ! 35 (λ (i : ℕ). ‵ (fat fullShare sl1 l3 0 (sliceVal (b₁, o₁) i))) (sym longs) refl $
+          assigns ! (bin ! (load ! (from ! (stop !)) (look ! 18 refl)) (lit ! tt) (yes-h .0)) (from ! (stop !)) (store ! 18 refl (tt, record { fits = (omega (arith, f .going .playing .numbered)) })) $
+          assigns ! (bin ! (load ! (from ! (stop !)) (look ! 19 refl)) (lit ! tt) (record { fits = (let q2 : 1 ≤ m = yes-h .0 in omega (arith, f .going .playing .numbered)) })) (from ! (stop !)) (store ! 19 refl (tt, record { fits = (let q2 : 1 ≤ m = yes-h .0 in omega (arith, f .going .playing .numbered)) })) $
+          assigns-last ! (bin ! (load ! (from ! (stop !)) (look ! 20 refl)) (lit ! tt) (record { fits = (omega (arith, f .going .playing .within, f .going .playing .small)) })) (from ! (stop !)) (store ! 20 refl (tt, record { fits = (omega (arith, f .going .playing .within, f .going .playing .small)) })) $
+          forget ! 22 refl $ forget ! 23 refl $ forget ! 25 refl $ forget ! 26 refl $ forget ! 27 refl $ forget ! 28 refl $ forget ! 29 refl $ forget ! 30 refl $ forget ! 31 refl $ forget ! 32 refl $ forget ! 33 refl $
+          keep ! (8 ∷ 0 ∷ 18 ∷ 19 ∷ 20 ∷ 21 ∷ 22 ∷ 23 ∷ 24 ∷ 25 ∷ 26 ∷ 27 ∷ 28 ∷ 29 ∷ 30 ∷ 31 ∷ 32 ∷ 33 ∷ 34 ∷ 35 ∷ 36 ∷ 37 ∷ 38 ∷ 16 ∷ 6 ∷ 17 ∷ 4 ∷ 5 ∷ 39 ∷ 40 ∷ 41 ∷ 42 ∷ 43 ∷ 44 ∷ 45 ∷ 46 ∷ 47 ∷ 48 ∷ 49 ∷ 50 ∷ 51 ∷ 52 ∷ 53 ∷ 54 ∷ 55 ∷ 56 ∷ 57 ∷ 58 ∷ 59 ∷ 60 ∷ 61 ∷ []) $ by ! (next (z .0) (z .1 .0) wr (y₅ .0) (yes-h .0) (after-line rec (z .0) (z .1 .0) r id wr (y₅ .0) (yes-h .0) (yes-h .1) rec-is said (who .0) line longs isE isX))))))))))))))))))))))))))))))))))
           (λ no-more-y. let no-h : 1 ≤ m → length out < k + 782 = no-y (false-is y no-more-y) in exec ! C Λ En code.Mir.t-8 (atRet En Post) $
           assigns ! (of-opd ! (load ! (from ! (stop !)) (look ! 0 refl))) (from ! (stop !)) (init ! 18 refl (LL.lawful S.the-type S′.the-laws 𝓤 H A W .typed d _ (f .isS) .0)) $
           assigns ! (agg ! (and-then ! (load ! (from ! (stop !)) (look ! 18 refl)) (and-then ! (load ! (from ! (stop !)) (look ! 2 refl)) (and-then ! (load ! (from ! (stop !)) (look ! 3 refl)) (and-then ! (load ! (from ! (stop !)) (look ! 4 refl)) (no-more !)))))) (from ! (stop !)) (init ! 8 refl (LL.lawful PL.the-type PL′.the-laws 𝓤 H A W .typed (pl d m n t) _ isQ .0)) $
@@ -517,5 +523,5 @@ play-part-spec 𝓤 H 𝓜 𝓖 𝓡 =
     (cited 𝓤 H (Ggo 𝓤 H (𝓖 .A) (𝓜 .mem) (𝓡 .run)) 𝓜 𝓡 code.env #go go-def.routine code.calls-player·goes-on (go-thm.met 𝓤 H 𝓜 𝓖 𝓡))
     (cited 𝓤 H (Grd 𝓤 H (𝓖 .A) (𝓜 .mem) (𝓡 .run)) 𝓜 𝓡 code.env #rd rd-def.routine code.calls-text·read-record (rd-thm.met 𝓤 H 𝓜 𝓖 𝓡))
     (cited 𝓤 H (Gpf 𝓤 H (𝓖 .A) (𝓜 .mem) (𝓡 .run)) 𝓜 𝓡 code.env #pf pf-def.routine code.calls-kernel·perform (pf-thm.met 𝓤 H 𝓜 𝓖 𝓡))
-    (cited 𝓤 H (Gru 𝓤 H (𝓖 .A) (𝓜 .mem) (𝓡 .run)) 𝓜 𝓡 code.env #ru ru-def.routine code.calls-kernel·runner (ru-thm.met 𝓤 H 𝓜 𝓖 𝓡))
+    (cited 𝓤 H (Gru 𝓤 H (𝓖 .A) (𝓜 .mem) (𝓡 .run)) 𝓜 𝓡 code.env #ru ru-def.routine code.calls-lending·runner (ru-thm.met 𝓤 H 𝓜 𝓖 𝓡))
     (cited 𝓤 H (Gpu 𝓤 H (𝓖 .A) (𝓜 .mem) (𝓡 .run)) 𝓜 𝓡 code.env #pu pu-def.routine code.calls-text·put-line (pu-thm.met 𝓤 H 𝓜 𝓖 𝓡)))
