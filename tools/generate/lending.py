@@ -26,8 +26,10 @@ use scope::State;
 ghost use mathlib.Core.Path.{_≡_};
 ghost use Prim.Native.Nat.{_<_, _≤_};
 ghost use Rattle.scope.specs.Step.{answered};
+ghost use Rattle.scope.specs.Rules.{keeps, orderRules, tasksRight, semsRight};
 ghost use Rattle.scope.specs.Views.{runningTask};
 ghost use Rattle.answers.specs.Outcomes.{answerOf};
+ghost use Rattle.rules.specs.Lent.{poolsKept};
 '''
     par = '    s: &mut State,\n    wakes: &mut [u32; 32],\n' + ''.join(f'    {x}: u32,\n' for x in NUMS)
     for n, lent, segs, req in CHAPTERS:

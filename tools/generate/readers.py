@@ -99,7 +99,7 @@ Inner 𝓤 H A mem run = tripleOf 𝓤 H A inner.signature (inner.spec 𝓤 H A 
 
 -- what the reader ensures of the state d, and what that says
 abbrev Said : State → {D} → Type 0
-Said d r = {r["said"]}
+Said d r = {r["said"].format(" ".join(f"(d .{table(g)[2]} .{c})" for g, c, _ in cl))}
 
 is-so : (d : State) (r : {D}) → Said d r → r ≡ {r["is"].format("d")}
 {("unfolding " + r["unfolding"] + chr(10)) if r["unfolding"] else ""}is-so d r said = {r["so"]}

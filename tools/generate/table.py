@@ -16,13 +16,29 @@ CHAPTERS = [
     ('sem', 'lentSemaphores', [('L', 'mut', None), ('K', 'shr', WAKING), ('Q', 'mut', None)], '(8 ≤ call) × (call < 14)'),
     ('pool', 'lentPools', [('P', 'mut', None)], '14 ≤ call'),
 ]
-# The readers: what is lent them is only read, so all of it is lent shared.
+# The readers: what is lent them is only read, so all of it is lent shared. `said` is what the callee ensures of the state d, `{}` in it
+# the columns lent; `is` is what the reader promises of the state `{}`.
+READY = ['started', 'suspended', 'priority']
+QUEUED = ['units', 'live', 'fifo']
 READERS = [
     {'name': 'runner', 'head': 'The identifier of the task that runs; 0 for nobody.', 'type': 'u32', 'is': 'runningTask ({})',
      'crate': 'answers', 'callee': 'running_task', 'lent': [('K', 'shr', ['serial'])], 'running': True,
      'said': 'r ≡ choose (ltb (d .running) 32) (getD (d .tasks .serial) (d .running) 0 * 64 + d .running) 0',
      'unfolding': 'runningTask', 'so': 'said',
      'uses': 'use Rattle.scope.specs.Choice.{pick as choose}\nuse Rattle.scope.specs.Views.{runningTask}\n'},
+    {'name': 'orders_kept', 'head': 'Whether the state keeps the rules of orders and queues.', 'type': 'bool', 'is': 'keeps orderRules ({})',
+     'crate': 'rules', 'callee': 'orders_kept', 'lent': [('L', 'shr', None), ('K', 'shr', READY), ('Q', 'shr', QUEUED)], 'running': True,
+     'said': '(s : State) → r ≡ keeps orderRules (lentOrders s {} (d .running))', 'unfolding': '', 'so': 'said d',
+     'uses': 'use Rattle.scope.specs.Rules.{keeps, orderRules}\nuse Rattle.rules.specs.Lent.{lentOrders}\n'},
+    {'name': 'tasks_right', 'head': "Whether it keeps the tasks' rule.", 'type': 'bool', 'is': 'tasksRight ({} .tasks)',
+     'crate': 'rules', 'callee': 'tasks_right', 'lent': [('K', 'shr', None)], 'running': False,
+     'said': 'r ≡ tasksRight (d .tasks)', 'unfolding': '', 'so': 'said', 'uses': 'use Rattle.scope.specs.Rules.{tasksRight}\n'},
+    {'name': 'sems_right', 'head': "Whether it keeps the semaphores' rule.", 'type': 'bool', 'is': 'semsRight ({} .semaphores)',
+     'crate': 'rules', 'callee': 'sems_right', 'lent': [('Q', 'shr', None)], 'running': False,
+     'said': 'r ≡ semsRight (d .semaphores)', 'unfolding': '', 'so': 'said', 'uses': 'use Rattle.scope.specs.Rules.{semsRight}\n'},
+    {'name': 'pools_kept', 'head': "Whether it keeps the pools' rules.", 'type': 'bool', 'is': 'poolsKept ({} .pools)',
+     'crate': 'rules', 'callee': 'pools_kept', 'lent': [('P', 'shr', None)], 'running': False,
+     'said': 'r ≡ poolsKept (d .pools)', 'unfolding': '', 'so': 'said', 'uses': 'use Rattle.rules.specs.Lent.{poolsKept}\n'},
 ]
 NUMS = ['call', 'mark', 'a', 'b', 'c', 'd', 'e']
 

@@ -174,13 +174,10 @@ pub fn overlapped(
     k
 }
 
-// "No two live pools share a byte, and the test stops at the first pair that does."
-pub fn pools_apart(p: scope::Pools) -> bool
-    ensures { λ r. ⌜ r ≡ poolsApart p ⌝ }
+// "No two live pools share a byte, and the test stops at the first pair that does." The pools are lent by the columns that it reads.
+pub fn pools_apart(live: &[bool; 8], at: &[u32; 8], long: &[u32; 8]) -> bool
+    ensures { λ r. ⌜ ((p : Pools) → p .live ≡ now (live .entry) → p .address ≡ now (at .entry) → p .length ≡ now (long .entry) → r ≡ poolsApart p) ⌝ }
 {
-    let live = p.live;
-    let at = p.address;
-    let long = p.length;
     let mut apart = true;
     let mut i: usize = 0;
     'pairs: while i < 8 {

@@ -11,10 +11,10 @@ ghost use mathlib.Core.Path.{_≡_};
 ghost use mathlib.Core.Bool.{true, false};
 ghost use Prim.Native.Nat.{_<_};
 ghost use Rattle.scope.specs.Fresh.{freshTasks, freshLine, noSemaphores, noPools, freshState, fresh};
+ghost use Rattle.scope.specs.Rules.{sound};
 ghost use Rattle.scope.specs.Step.{answered};
 ghost use Rattle.scope.specs.Statuses.{BAD-STATE};
 ghost use Rattle.scope.specs.Answers.{noWakes};
-ghost use Rattle.scope.specs.Views.{runningTask};
 ghost use Rattle.answers.specs.Outcomes.{answerOf, outcome};
 ghost use Rattle.kernel.specs.Steps.{Steps};
 
@@ -148,6 +148,16 @@ fn bad_state(wakes: &mut [u32; 32]) -> Outcome
     answers::plain(scope::BAD_STATE, 32)
 }
 
+// Whether no rule is broken. The state is asked where it lies, part by part, and stays as it is.
+pub fn is_sound(s: &mut State) -> bool
+    ensures { λ r. ⌜ (r ≡ sound (now (s .entry))) × (now (s .exit) ≡ now (s .entry)) ⌝ }
+{
+    lending::orders_kept(s)
+        & lending::tasks_right(s)
+        & lending::sems_right(s)
+        & lending::pools_kept(s)
+}
+
 // The step of any state: the check, and then the step. A state that breaks a rule stays as it was.
 pub fn step(
     s: &mut State,
@@ -162,17 +172,8 @@ pub fn step(
 ) -> Outcome
     ensures { λ r. ⌜ Steps (now (s .entry)) call mark a b c d e (now (s .exit)) (now (wakes .exit)) r ⌝ }
 {
-    if rules::is_sound(*s) {
+    if is_sound(s) {
         return perform(s, wakes, call, mark, a, b, c, d, e);
     }
     bad_state(wakes)
-}
-
-// The identifier of the task that runs; 0 for nobody.
-pub fn runner(s: State) -> u32
-    ensures { λ r. ⌜ r ≡ runningTask s ⌝ }
-{
-    let k = s.tasks;
-    let serial = k.serial;
-    answers::running_task(&serial, s.running)
 }

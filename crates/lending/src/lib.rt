@@ -6,8 +6,10 @@ use scope::State;
 ghost use mathlib.Core.Path.{_≡_};
 ghost use Prim.Native.Nat.{_<_, _≤_};
 ghost use Rattle.scope.specs.Step.{answered};
+ghost use Rattle.scope.specs.Rules.{keeps, orderRules, tasksRight, semsRight};
 ghost use Rattle.scope.specs.Views.{runningTask};
 ghost use Rattle.answers.specs.Outcomes.{answerOf};
+ghost use Rattle.rules.specs.Lent.{poolsKept};
 
 // The tick.
 pub fn tick(
@@ -189,4 +191,68 @@ pub fn runner(s: &mut State) -> u32
 {
     let running = s.running;
     answers::running_task(&s.tasks.serial, running)
+}
+
+// Whether the state keeps the rules of orders and queues.
+pub fn orders_kept(s: &mut State) -> bool
+    ensures { λ r. ⌜ (r ≡ keeps orderRules (now (s .entry))) × (now (s .exit) ≡ now (s .entry)) ⌝ }
+{
+    let running = s.running;
+    rules::orders_kept(
+        &s.line.left,
+        &s.line.seat,
+        &s.line.joined,
+        &s.line.rings,
+        &s.tasks.started,
+        &s.tasks.suspended,
+        &s.tasks.priority,
+        &s.semaphores.units,
+        &s.semaphores.live,
+        &s.semaphores.fifo,
+        running,
+    )
+}
+
+// Whether it keeps the tasks' rule.
+pub fn tasks_right(s: &mut State) -> bool
+    ensures { λ r. ⌜ (r ≡ tasksRight (now (s .entry) .tasks)) × (now (s .exit) ≡ now (s .entry)) ⌝ }
+{
+    rules::tasks_right(
+        &s.tasks.name,
+        &s.tasks.serial,
+        &s.tasks.live,
+        &s.tasks.started,
+        &s.tasks.suspended,
+        &s.tasks.priority,
+    )
+}
+
+// Whether it keeps the semaphores' rule.
+pub fn sems_right(s: &mut State) -> bool
+    ensures { λ r. ⌜ (r ≡ semsRight (now (s .entry) .semaphores)) × (now (s .exit) ≡ now (s .entry)) ⌝ }
+{
+    rules::sems_right(
+        &s.semaphores.name,
+        &s.semaphores.serial,
+        &s.semaphores.units,
+        &s.semaphores.live,
+        &s.semaphores.fifo,
+    )
+}
+
+// Whether it keeps the pools' rules.
+pub fn pools_kept(s: &mut State) -> bool
+    ensures { λ r. ⌜ (r ≡ poolsKept (now (s .entry) .pools)) × (now (s .exit) ≡ now (s .entry)) ⌝ }
+{
+    rules::pools_kept(
+        &s.pools.out,
+        &s.pools.name,
+        &s.pools.address,
+        &s.pools.length,
+        &s.pools.size,
+        &s.pools.serial,
+        &s.pools.live,
+        &s.pools.forced,
+        &s.pools.place,
+    )
 }

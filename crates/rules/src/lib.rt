@@ -1,21 +1,24 @@
-// "Rules of a state": each a function named after its rule, and `is_sound`, which asks them all. Nothing stops at the first
-// failure: a state is nearly always sound, and a loop without a way out in its middle runs several slots at a time. So tests
-// are joined by `&`, which asks both. (scope's specs/Rules.antt.)
-use scope::Line;
-use scope::Pools;
-use scope::Semaphores;
-use scope::State;
-use scope::Tasks;
+// "Rules of a state": each a function named after its rule, asked in four parts. A part is lent the columns that it reads, so the
+// state stays where it lies. Nothing stops at the first failure: a state is nearly always sound, and a loop without a way out in its
+// middle runs several slots at a time. So tests are joined by `&`, which asks both. (specs/Lent.antt, and scope's specs/Rules.antt.)
 ghost use mathlib.Core.Path.{_≡_};
 ghost use mathlib.Core.Bool.{true, false, not, _&&_};
-ghost use Prim.Native.Nat.{_-_, _%_, _^_, _<_};
+ghost use mathlib.Core.List.{List};
+ghost use Prim.Native.Nat.{ℕ, _-_, _%_, _^_, _<_};
 ghost use lib.ListN.{getD};
 ghost use lib.Dec.{eqb, ltb, leb};
 ghost use Rattle.scope.specs.Choice.{pick, number};
 ghost use Rattle.scope.specs.Seats.{isOn, queueOf, onSeat, holdsTask, ringMask};
 ghost use Rattle.scope.specs.Views.{readyWith, less};
 ghost use Rattle.scope.specs.Rules.{seatRight, seatsRight, ringsRight, readyRight, readyOrderRight, waitRight, waitsRight, joinedRight, queuesSorted, countRight};
-ghost use Rattle.scope.specs.Rules.{countsRight, startRight, startsRight, tasksRight, semsRight, admitted, poolsRight, ordersRight, runningRight, sound};
+ghost use Rattle.scope.specs.Rules.{countsRight, startRight, startsRight, tasksRight, semsRight, admitted, poolsRight, ordersRight, runningRight, orderRules, keeps};
+ghost use Rattle.scope.specs.declared.Line.{Line};
+ghost use Rattle.scope.specs.declared.Tasks.{Tasks};
+ghost use Rattle.scope.specs.declared.Semaphores.{Semaphores};
+ghost use Rattle.scope.specs.declared.Pools.{Pools};
+ghost use Rattle.scope.specs.declared.State.{State};
+ghost use Rattle.answers.specs.Columns.{lineOf, tasksOf, semaphoresOf, poolsOf, stateOf};
+ghost use Rattle.rules.specs.Lent.{seated, readied, queued, placed, lentOrders, poolsKept};
 
 // 1 where the two are equal, else 0.
 fn one_if(x: u16, y: u16) -> u16
@@ -28,8 +31,8 @@ fn one_if(x: u16, y: u16) -> u16
 }
 
 // How many tasks are on seat `x`.
-fn number_on(q: [u16; 32], x: u16) -> u16
-    ensures { λ r. ⌜ r ≡ number (isOn q x) 32 ⌝ }
+fn number_on(q: &[u16; 32], x: u16) -> u16
+    ensures { λ r. ⌜ r ≡ number (isOn (now (q .entry)) x) 32 ⌝ }
 {
     let mut n: u16 = 0;
     let mut t: usize = 0;
@@ -41,21 +44,21 @@ fn number_on(q: [u16; 32], x: u16) -> u16
 }
 
 // Whether a seat is the first of its queue or directly behind another that is taken.
-fn is_led(q: [u16; 32], x: u16) -> bool
-    ensures { λ r. ⌜ r ≡ pick (eqb (x % 64) 1) true (ltb 1 (x % 64) && ltb (onSeat q (x - 1)) 32) ⌝ }
+fn is_led(q: &[u16; 32], x: u16) -> bool
+    ensures { λ r. ⌜ r ≡ pick (eqb (x % 64) 1) true (ltb 1 (x % 64) && ltb (onSeat (now (q .entry)) (x - 1)) 32) ⌝ }
 {
     if x % 64 == 1 {
         return true;
     }
     if 1 < x % 64 {
-        return seats::is_taken(q, x - 1);
+        return seats::is_taken(*q, x - 1);
     }
     false
 }
 
 // Whether a seat that is taken is taken once, and is led by another or by none.
-fn seat_right(q: [u16; 32], x: u16) -> bool
-    ensures { λ r. ⌜ r ≡ seatRight q x ⌝ }
+fn seat_right(q: &[u16; 32], x: u16) -> bool
+    ensures { λ r. ⌜ r ≡ seatRight (now (q .entry)) x ⌝ }
 {
     if x == 0 {
         return true;
@@ -63,8 +66,8 @@ fn seat_right(q: [u16; 32], x: u16) -> bool
     (number_on(q, x) == 1) & is_led(q, x)
 }
 
-fn seats_right(q: [u16; 32]) -> bool
-    ensures { λ r. ⌜ r ≡ seatsRight q ⌝ }
+fn seats_right(q: &[u16; 32]) -> bool
+    ensures { λ r. ⌜ r ≡ seatsRight (now (q .entry)) ⌝ }
 {
     let mut ok = true;
     let mut t: usize = 0;
@@ -100,13 +103,14 @@ fn ready_right(started: bool, suspended: bool, priority: u8, x: u16) -> bool
     x < 2048
 }
 
-fn ready_order_right(l: Line, k: Tasks) -> bool
-    ensures { λ r. ⌜ r ≡ readyOrderRight l k ⌝ }
+fn ready_order_right(
+    seat: &[u16; 32],
+    started: &[bool; 32],
+    suspended: &[bool; 32],
+    priority: &[u8; 32],
+) -> bool
+    ensures { λ r. ⌜ ((l : Line) (k : Tasks) → r ≡ readyOrderRight (seated l (now (seat .entry))) (readied k (now (started .entry)) (now (suspended .entry)) (now (priority .entry)))) ⌝ }
 {
-    let seat = l.seat;
-    let started = k.started;
-    let suspended = k.suspended;
-    let priority = k.priority;
     let mut ok = true;
     let mut t: usize = 0;
     while t < 32 {
@@ -118,19 +122,19 @@ fn ready_order_right(l: Line, k: Tasks) -> bool
 }
 
 // Bit `p` of a mask where ring `p` holds a task, else 0.
-fn ring_bit(q: [u16; 32], p: u32) -> u16
+fn ring_bit(q: &[u16; 32], p: u32) -> u16
     requires { ⌜ p < 16 ⌝ }
-    ensures { λ r. ⌜ r ≡ pick (holdsTask q p) (2 ^ p) 0 ⌝ }
+    ensures { λ r. ⌜ r ≡ pick (holdsTask (now (q .entry)) p) (2 ^ p) 0 ⌝ }
 {
-    if seats::is_taken(q, (p * 64 + 2049) as u16) {
+    if seats::is_taken(*q, (p * 64 + 2049) as u16) {
         return 1u16 << p;
     }
     0
 }
 
 // The mask of the rings that hold a task.
-fn ring_mask(q: [u16; 32]) -> u16
-    ensures { λ r. ⌜ r ≡ ringMask q ⌝ }
+fn ring_mask(q: &[u16; 32]) -> u16
+    ensures { λ r. ⌜ r ≡ ringMask (now (q .entry)) ⌝ }
 {
     let mut mask: u16 = 0;
     let mut p: u32 = 0;
@@ -142,11 +146,9 @@ fn ring_mask(q: [u16; 32]) -> u16
 }
 
 // The kept mask is that of the rings that hold a task.
-fn rings_right(l: Line) -> bool
-    ensures { λ r. ⌜ r ≡ ringsRight l ⌝ }
+fn rings_right(seat: &[u16; 32], rings: &[u16; 1]) -> bool
+    ensures { λ r. ⌜ ((left joined : List ℕ) → r ≡ ringsRight (lineOf left (now (seat .entry)) joined (now (rings .entry)))) ⌝ }
 {
-    let seat = l.seat;
-    let rings = l.rings;
     rings[0] == ring_mask(seat)
 }
 
@@ -165,21 +167,18 @@ fn of_queue(row: [bool; 16], x: u16) -> bool
 }
 
 // A waiting task waits for a live semaphore, with a time_out left and a joining priority; one that does not wait has neither.
-fn wait_right(live: [bool; 16], x: u16, left: u32, joined: u8) -> bool
-    ensures { λ r. ⌜ r ≡ waitRight (λ i. getD live i false) x left joined ⌝ }
+fn wait_right(live: &[bool; 16], x: u16, left: u32, joined: u8) -> bool
+    ensures { λ r. ⌜ r ≡ waitRight (λ i. getD (now (live .entry)) i false) x left joined ⌝ }
 {
     if seats::waits_on(x) {
-        return (64 <= x) & of_queue(live, x) & times::is_time_out(left) & (joined <= 15);
+        return (64 <= x) & of_queue(*live, x) & times::is_time_out(left) & (joined <= 15);
     }
     (left == 0) & (joined == 0)
 }
 
-fn waits_right(l: Line, live: [bool; 16]) -> bool
-    ensures { λ r. ⌜ r ≡ waitsRight l (λ i. getD live i false) ⌝ }
+fn waits_right(left: &[u32; 32], seat: &[u16; 32], joined: &[u8; 32], live: &[bool; 16]) -> bool
+    ensures { λ r. ⌜ ((rings : List ℕ) → r ≡ waitsRight (lineOf (now (left .entry)) (now (seat .entry)) (now (joined .entry)) rings) (λ i. getD (now (live .entry)) i false)) ⌝ }
 {
-    let seat = l.seat;
-    let left = l.left;
-    let joined = l.joined;
     let mut ok = true;
     let mut t: usize = 0;
     while t < 32 {
@@ -191,10 +190,10 @@ fn waits_right(l: Line, live: [bool; 16]) -> bool
 }
 
 // The joining priority of the task on seat `x`; 0 where there is none.
-fn joined_on(q: [u16; 32], joined: [u8; 32], x: u16) -> u8
-    ensures { λ r. ⌜ r ≡ getD joined (onSeat q x) 0 ⌝ }
+fn joined_on(q: &[u16; 32], joined: [u8; 32], x: u16) -> u8
+    ensures { λ r. ⌜ r ≡ getD joined (onSeat (now (q .entry)) x) 0 ⌝ }
 {
-    let t = seats::on_seat(&q, x);
+    let t = seats::on_seat(q, x);
     if t < 32 {
         return joined[t];
     }
@@ -202,23 +201,21 @@ fn joined_on(q: [u16; 32], joined: [u8; 32], x: u16) -> u8
 }
 
 // In a queue that is not FIFO nobody has a higher joining priority than who stands directly ahead.
-fn joined_right(q: [u16; 32], joined: [u8; 32], fifo: [bool; 16], x: u16, priority: u8) -> bool
-    ensures { λ r. ⌜ r ≡ joinedRight q joined (λ i. getD fifo i false) x priority ⌝ }
+fn joined_right(q: &[u16; 32], joined: &[u8; 32], fifo: &[bool; 16], x: u16, priority: u8) -> bool
+    ensures { λ r. ⌜ r ≡ joinedRight (now (q .entry)) (now (joined .entry)) (λ i. getD (now (fifo .entry)) i false) x priority ⌝ }
 {
     if seats::waits_on(x) & (1 < x % 64) {
-        if of_queue(fifo, x) {
+        if of_queue(*fifo, x) {
             return true;
         }
-        return priority <= joined_on(q, joined, x - 1);
+        return priority <= joined_on(q, *joined, x - 1);
     }
     true
 }
 
-fn queues_sorted(l: Line, fifo: [bool; 16]) -> bool
-    ensures { λ r. ⌜ r ≡ queuesSorted l (λ i. getD fifo i false) ⌝ }
+fn queues_sorted(seat: &[u16; 32], joined: &[u8; 32], fifo: &[bool; 16]) -> bool
+    ensures { λ r. ⌜ ((left rings : List ℕ) → r ≡ queuesSorted (lineOf left (now (seat .entry)) (now (joined .entry)) rings) (λ i. getD (now (fifo .entry)) i false)) ⌝ }
 {
-    let seat = l.seat;
-    let joined = l.joined;
     let mut ok = true;
     let mut t: usize = 0;
     while t < 32 {
@@ -240,15 +237,13 @@ fn count_right(waiting: usize, units: u16) -> bool
     units <= 32767
 }
 
-fn counts_right(l: Line, m: Semaphores) -> bool
-    ensures { λ r. ⌜ r ≡ countsRight l m ⌝ }
+fn counts_right(seat: &[u16; 32], units: &[u16; 16]) -> bool
+    ensures { λ r. ⌜ ((l : Line) (m : Semaphores) → r ≡ countsRight (seated l (now (seat .entry))) (queued m (now (units .entry)) (m .live) (m .fifo))) ⌝ }
 {
-    let seat = l.seat;
-    let units = m.units;
     let mut ok = true;
     let mut i: usize = 0;
     while i < 16 {
-        let waiting = seats::waiters(seat, i);
+        let waiting = seats::waiters(*seat, i);
         let right = count_right(waiting, units[i]);
         ok = right & ok;
         i += 1;
@@ -266,12 +261,9 @@ fn start_right(started: bool, suspended: bool, x: u16) -> bool
     !seats::waits_on(x) & !suspended
 }
 
-fn starts_right(l: Line, k: Tasks) -> bool
-    ensures { λ r. ⌜ r ≡ startsRight l k ⌝ }
+fn starts_right(seat: &[u16; 32], started: &[bool; 32], suspended: &[bool; 32]) -> bool
+    ensures { λ r. ⌜ ((l : Line) (k : Tasks) → r ≡ startsRight (seated l (now (seat .entry))) (readied k (now (started .entry)) (now (suspended .entry)) (k .priority))) ⌝ }
 {
-    let seat = l.seat;
-    let started = k.started;
-    let suspended = k.suspended;
     let mut ok = true;
     let mut t: usize = 0;
     while t < 32 {
@@ -299,15 +291,17 @@ fn task_right(
     (name == 0) & !started & !suspended & (priority == 0)
 }
 
-fn tasks_right(k: Tasks) -> bool
-    ensures { λ r. ⌜ r ≡ tasksRight k ⌝ }
+// Whether the tasks' rule is kept.
+pub fn tasks_right(
+    name: &[u32; 32],
+    serial: &[u16; 32],
+    live: &[bool; 32],
+    started: &[bool; 32],
+    suspended: &[bool; 32],
+    priority: &[u8; 32],
+) -> bool
+    ensures { λ r. ⌜ r ≡ tasksRight (tasksOf (now (name .entry)) (now (serial .entry)) (now (live .entry)) (now (started .entry)) (now (suspended .entry)) (now (priority .entry))) ⌝ }
 {
-    let live = k.live;
-    let serial = k.serial;
-    let name = k.name;
-    let started = k.started;
-    let suspended = k.suspended;
-    let priority = k.priority;
     let mut ok = true;
     let mut t: usize = 0;
     while t < 32 {
@@ -334,14 +328,16 @@ fn sem_right(live: bool, serial: u16, name: u32, fifo: bool, units: u16) -> bool
     (name == 0) & !fifo & (units == 0)
 }
 
-fn sems_right(m: Semaphores) -> bool
-    ensures { λ r. ⌜ r ≡ semsRight m ⌝ }
+// Whether the semaphores' rule is kept.
+pub fn sems_right(
+    name: &[u32; 16],
+    serial: &[u16; 16],
+    units: &[u16; 16],
+    live: &[bool; 16],
+    fifo: &[bool; 16],
+) -> bool
+    ensures { λ r. ⌜ r ≡ semsRight (semaphoresOf (now (name .entry)) (now (serial .entry)) (now (units .entry)) (now (live .entry)) (now (fifo .entry))) ⌝ }
 {
-    let live = m.live;
-    let serial = m.serial;
-    let name = m.name;
-    let fifo = m.fifo;
-    let units = m.units;
     let mut ok = true;
     let mut i: usize = 0;
     while i < 16 {
@@ -397,17 +393,20 @@ fn pool_right(
     is_empty(out, name, address, length, size, forced)
 }
 
-fn pools_right(p: Pools) -> bool
-    ensures { λ r. ⌜ r ≡ poolsRight p ⌝ }
+fn pools_right(
+    out: &[u64; 8],
+    name: &[u32; 8],
+    at: &[u32; 8],
+    long: &[u32; 8],
+    size: &[u32; 8],
+    serial: &[u16; 8],
+    live: &[bool; 8],
+    forced: &[bool; 8],
+) -> bool
+    ensures { λ r. ⌜ ((place : List ℕ)
+        → r ≡ poolsRight (poolsOf (now (out .entry)) (now (name .entry)) (now (at .entry)) (now (long .entry)) (now (size .entry))
+        (now (serial .entry)) (now (live .entry)) (now (forced .entry)) place)) ⌝ }
 {
-    let live = p.live;
-    let serial = p.serial;
-    let out = p.out;
-    let name = p.name;
-    let at = p.address;
-    let long = p.length;
-    let size = p.size;
-    let forced = p.forced;
     let mut ok = true;
     let mut i: usize = 0;
     while i < 8 {
@@ -428,55 +427,71 @@ fn pools_right(p: Pools) -> bool
 }
 
 // "The order of free buffers joins the state, each free buffer once" (M-103), of every pool.
-fn orders_right(p: Pools) -> bool
-    ensures { λ r. ⌜ r ≡ ordersRight p ⌝ }
+fn orders_right(out: &[u64; 8], long: &[u32; 8], size: &[u32; 8], place: &[u8; 512]) -> bool
+    ensures { λ r. ⌜ ((p : Pools) → r ≡ ordersRight (placed p (now (out .entry)) (now (long .entry)) (now (size .entry)) (now (place .entry)))) ⌝ }
 {
-    let out = p.out;
-    let long = p.length;
-    let size = p.size;
-    let place = p.place;
     let mut ok = true;
     let mut i: usize = 0;
     while i < 8 {
-        let right = places::order_right(&place, i, out[i], areas::buffers_of(long[i], size[i]));
+        let right = places::order_right(place, i, out[i], areas::buffers_of(long[i], size[i]));
         ok = right & ok;
         i += 1;
     }
     ok
 }
 
-// The kept running task is the one that runs.
-fn running_right(s: State) -> bool
-    ensures { λ r. ⌜ r ≡ runningRight s ⌝ }
+// Whether the pools' rules are kept.
+pub fn pools_kept(
+    out: &[u64; 8],
+    name: &[u32; 8],
+    at: &[u32; 8],
+    long: &[u32; 8],
+    size: &[u32; 8],
+    serial: &[u16; 8],
+    live: &[bool; 8],
+    forced: &[bool; 8],
+    place: &[u8; 512],
+) -> bool
+    ensures { λ r. ⌜ r
+        ≡ poolsKept (poolsOf (now (out .entry)) (now (name .entry)) (now (at .entry)) (now (long .entry)) (now (size .entry))
+        (now (serial .entry)) (now (live .entry)) (now (forced .entry)) (now (place .entry))) ⌝ }
 {
-    let l = s.line;
-    let q = l.seat;
-    let rings = l.rings;
-    s.running == seats::runner(&q, rings[0])
+    pools_right(out, name, at, long, size, serial, live, forced)
+        & orders_right(out, long, size, place)
+        & areas::pools_apart(live, at, long)
 }
 
-// Whether no rule is broken.
-pub fn is_sound(s: State) -> bool
-    ensures { λ r. ⌜ r ≡ sound s ⌝ }
+// The kept running task is the one that runs.
+fn running_right(seat: &[u16; 32], rings: &[u16; 1], running: usize) -> bool
+    ensures { λ r. ⌜ ((left joined : List ℕ) (k : Tasks) (m : Semaphores) (p : Pools) → r ≡ runningRight (stateOf (lineOf left (now (seat .entry)) joined (now (rings .entry))) k m p running)) ⌝ }
 {
-    let l = s.line;
-    let k = s.tasks;
-    let m = s.semaphores;
-    let p = s.pools;
-    let q = l.seat;
-    let live = m.live;
-    let fifo = m.fifo;
-    seats_right(q)
-        & rings_right(l)
-        & ready_order_right(l, k)
-        & waits_right(l, live)
-        & queues_sorted(l, fifo)
-        & counts_right(l, m)
-        & starts_right(l, k)
-        & running_right(s)
-        & tasks_right(k)
-        & sems_right(m)
-        & pools_right(p)
-        & orders_right(p)
-        & areas::pools_apart(p)
+    running == seats::runner(seat, rings[0])
+}
+
+// Whether the rules of orders and queues are kept.
+pub fn orders_kept(
+    left: &[u32; 32],
+    seat: &[u16; 32],
+    joined: &[u8; 32],
+    rings: &[u16; 1],
+    started: &[bool; 32],
+    suspended: &[bool; 32],
+    priority: &[u8; 32],
+    units: &[u16; 16],
+    live: &[bool; 16],
+    fifo: &[bool; 16],
+    running: usize,
+) -> bool
+    ensures { λ r. ⌜ ((s : State) → r
+        ≡ keeps orderRules (lentOrders s (now (left .entry)) (now (seat .entry)) (now (joined .entry)) (now (rings .entry)) (now (started .entry)) (now (suspended .entry))
+        (now (priority .entry)) (now (units .entry)) (now (live .entry)) (now (fifo .entry)) running)) ⌝ }
+{
+    seats_right(seat)
+        & rings_right(seat, rings)
+        & ready_order_right(seat, started, suspended, priority)
+        & waits_right(left, seat, joined, live)
+        & queues_sorted(seat, joined, fifo)
+        & counts_right(seat, units)
+        & starts_right(seat, started, suspended)
+        & running_right(seat, rings, running)
 }

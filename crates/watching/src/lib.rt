@@ -4,6 +4,7 @@ use answers::Outcome;
 use scope::State;
 ghost use mathlib.Core.Path.{_≡_};
 ghost use Rattle.scope.specs.Step.{answered};
+ghost use Rattle.scope.specs.Views.{runningTask};
 ghost use Rattle.answers.specs.Outcomes.{answerOf};
 ghost use mathlib.Core.Bool.{true};
 ghost use Prim.Native.Nat.{_≤_};
@@ -15,6 +16,15 @@ ghost use Rattle.watching.specs.Watched.{endOf, gridOf, Shows, Gridded};
 pub struct Stepped {
     pub state: State,
     pub outcome: Outcome,
+}
+
+// The identifier of the task that runs; 0 for nobody.
+fn runner(s: State) -> u32
+    ensures { λ r. ⌜ r ≡ runningTask s ⌝ }
+{
+    let k = s.tasks;
+    let serial = k.serial;
+    answers::running_task(&serial, s.running)
 }
 
 // The step of a state that is known to be sound, given by value.
@@ -67,7 +77,7 @@ pub fn watch(script: &[u8], cells: &mut [u16]) -> State
     let mut g = grid::clear();
     while 0 < left {
         let r = text::read_record(script, at);
-        let caller = kernel::runner(s);
+        let caller = runner(s);
         let x = performed(s, &mut wakes, r.call, r.mark, r.a, r.b, r.c, r.d, r.e);
         let h = grid::keep(g, caller, r.call, r.a, x.outcome, &wakes);
         let n = x.state;

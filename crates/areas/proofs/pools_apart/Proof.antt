@@ -29,39 +29,39 @@ add-j c = search needs
 
 loop-holds : tie.Need-loop-holds Inv-loop μ-loop Inv-pairs μ-pairs
 loop-holds c =
-    let p = c .before .before .before .before .before .args .p in
-    let f = pair (p .live) (p .address) (p .length) in
+    let a = c .before .before .args in
+    let f = pair (a .live .now) (a .at .now) (a .long .now) in
     (search needs, search needs, c .before .pairs .inv .1, row-start f (c .before .pairs .i))
 
-array-read-pair-shares : tie.Need-array-read-pair-shares Inv-loop μ-loop Inv-pairs μ-pairs
-array-read-pair-shares c = search needs
+element-copy-out-pair-shares : tie.Need-element-copy-out-pair-shares Inv-loop μ-loop Inv-pairs μ-pairs
+element-copy-out-pair-shares c = search needs
 
-array-read-pair-shares-2 : tie.Need-array-read-pair-shares-2 Inv-loop μ-loop Inv-pairs μ-pairs
-array-read-pair-shares-2 c = search needs
+element-copy-out-pair-shares-2 : tie.Need-element-copy-out-pair-shares-2 Inv-loop μ-loop Inv-pairs μ-pairs
+element-copy-out-pair-shares-2 c = search needs
 
 mul-pair-shares : tie.Need-mul-pair-shares Inv-loop μ-loop Inv-pairs μ-pairs
 mul-pair-shares c = search needs
 
-array-read-pair-shares-3 : tie.Need-array-read-pair-shares-3 Inv-loop μ-loop Inv-pairs μ-pairs
-array-read-pair-shares-3 c = search needs
+element-copy-out-pair-shares-3 : tie.Need-element-copy-out-pair-shares-3 Inv-loop μ-loop Inv-pairs μ-pairs
+element-copy-out-pair-shares-3 c = search needs
 
 mul-pair-shares-2 : tie.Need-mul-pair-shares-2 Inv-loop μ-loop Inv-pairs μ-pairs
 mul-pair-shares-2 c = search needs
 
-array-read-pair-shares-4 : tie.Need-array-read-pair-shares-4 Inv-loop μ-loop Inv-pairs μ-pairs
-array-read-pair-shares-4 c = search needs
+element-copy-out-pair-shares-4 : tie.Need-element-copy-out-pair-shares-4 Inv-loop μ-loop Inv-pairs μ-pairs
+element-copy-out-pair-shares-4 c = search needs
 
 mul-pair-shares-3 : tie.Need-mul-pair-shares-3 Inv-loop μ-loop Inv-pairs μ-pairs
 mul-pair-shares-3 c = search needs
 
-array-read-pair-shares-5 : tie.Need-array-read-pair-shares-5 Inv-loop μ-loop Inv-pairs μ-pairs
-array-read-pair-shares-5 c = search needs
+element-copy-out-pair-shares-5 : tie.Need-element-copy-out-pair-shares-5 Inv-loop μ-loop Inv-pairs μ-pairs
+element-copy-out-pair-shares-5 c = search needs
 
 mul-pair-shares-4 : tie.Need-mul-pair-shares-4 Inv-loop μ-loop Inv-pairs μ-pairs
 mul-pair-shares-4 c = search needs
 
-array-read-pair-shares-6 : tie.Need-array-read-pair-shares-6 Inv-loop μ-loop Inv-pairs μ-pairs
-array-read-pair-shares-6 c = search needs
+element-copy-out-pair-shares-6 : tie.Need-element-copy-out-pair-shares-6 Inv-loop μ-loop Inv-pairs μ-pairs
+element-copy-out-pair-shares-6 c = search needs
 
 pair-shares-requires : tie.Need-pair-shares-requires Inv-loop μ-loop Inv-pairs μ-pairs
 pair-shares-requires c κs = search needs
@@ -74,10 +74,10 @@ loop-less c = search needs
 
 loop-again : tie.Need-loop-again Inv-loop μ-loop Inv-pairs μ-pairs
 loop-again c =
-    let p = c .before .before .before .before .before .before .before .before .before .args .p in
-    let f = pair (p .live) (p .address) (p .length) in
-    let l = c .before .before .before .loop .inv in
-    (search needs, search needs, l .2, row-more f (c .before .before .before .before .before .pairs .i) (c .before .before .before .loop .j) _ (l .0) (c .before .pair-shares .ensures) (c .if1 .left) (l .3))
+    let a = c .before .before .before .before .before .before .before .before .before .before .before .before .args in
+    let f = pair (a .live .now) (a .at .now) (a .long .now) in
+    let l = c .before .before .before .before .before .before .before .before .before .loop .inv in
+    (search needs, search needs, l .2, row-more f (c .before .before .before .before .before .before .before .before .before .before .before .pairs .i) (c .before .before .before .before .before .before .before .before .before .loop .j) _ (l .0) (c .before .pair-shares .ensures) (c .if1 .left) (l .3))
 
 add-i : tie.Need-add-i Inv-loop μ-loop Inv-pairs μ-pairs
 add-i c = search needs
@@ -87,24 +87,24 @@ pairs-less c = search needs
 
 pairs-again : tie.Need-pairs-again Inv-loop μ-loop Inv-pairs μ-pairs
 pairs-again c =
-    let p = c .before .before .before .before .before .before .before .args .p in
-    let f = pair (p .live) (p .address) (p .length) in
+    let a = c .before .before .before .before .args in
+    let f = pair (a .live .now) (a .at .now) (a .long .now) in
     let l = c .before .loop .inv in
     (search needs, l .2, rows-more f (c .before .before .before .pairs .i) (c .before .loop .j) (search needs) (l .3) (c .before .before .before .pairs .inv .2))
 
 returns : tie.Need-returns Inv-loop μ-loop Inv-pairs μ-pairs
 unfolding poolsApart pairShares
 returns c =
-    let p = c .before .before .before .before .before .args .p in
-    let f = pair (p .live) (p .address) (p .length) in
-    c .before .pairs .inv .1 ∙ pairs-none f (c .before .pairs .i) (search needs) (c .before .pairs .inv .2)
+    let a = c .before .before .args in
+    let f = pair (a .live .now) (a .at .now) (a .long .now) in
+    λ p e g h. rw (e, g, h) (c .before .pairs .inv .1 ∙ pairs-none f (c .before .pairs .i) (search needs) (c .before .pairs .inv .2))
 
 returns-2 : tie.Need-returns-2 Inv-loop μ-loop Inv-pairs μ-pairs
 unfolding poolsApart pairShares
 returns-2 c =
-    let p = c .before .before .before .before .before .before .before .before .before .args .p in
-    let f = pair (p .live) (p .address) (p .length) in
-    pairs-hit f (c .before .before .before .before .before .pairs .i) (c .before .before .before .loop .j) _ (c .before .before .before .loop .inv .0) (search needs) (c .before .pair-shares .ensures) (c .if1 .taken)
+    let a = c .before .before .before .before .before .before .before .before .before .before .before .before .args in
+    let f = pair (a .live .now) (a .at .now) (a .long .now) in
+    λ p e g h. rw (e, g, h) (pairs-hit f (c .before .before .before .before .before .before .before .before .before .before .before .pairs .i) (c .before .before .before .before .before .before .before .before .before .loop .j) _ (c .before .before .before .before .before .before .before .before .before .loop .inv .0) (search needs) (c .before .pair-shares .ensures) (c .if1 .taken))
 
 pub pools-apart-spec : {M : Type 1} → statement M
 pools-apart-spec =
@@ -117,16 +117,16 @@ pools-apart-spec =
     pairs-holds
     add-j
     loop-holds
-    array-read-pair-shares
-    array-read-pair-shares-2
+    element-copy-out-pair-shares
+    element-copy-out-pair-shares-2
     mul-pair-shares
-    array-read-pair-shares-3
+    element-copy-out-pair-shares-3
     mul-pair-shares-2
-    array-read-pair-shares-4
+    element-copy-out-pair-shares-4
     mul-pair-shares-3
-    array-read-pair-shares-5
+    element-copy-out-pair-shares-5
     mul-pair-shares-4
-    array-read-pair-shares-6
+    element-copy-out-pair-shares-6
     pair-shares-requires
     add-j-2
     loop-less

@@ -25,8 +25,8 @@ waiters-requires c κs = search needs
 mul-count-right : tie.Need-mul-count-right Inv-loop μ-loop
 mul-count-right c = search needs
 
-array-read-count-right : tie.Need-array-read-count-right Inv-loop μ-loop
-array-read-count-right c = search needs
+element-copy-out-count-right : tie.Need-element-copy-out-count-right Inv-loop μ-loop
+element-copy-out-count-right c = search needs
 
 count-right-requires : tie.Need-count-right-requires Inv-loop μ-loop
 count-right-requires c κs = search needs
@@ -39,12 +39,12 @@ loop-less c = search needs
 
 loop-again : tie.Need-loop-again Inv-loop μ-loop
 loop-again c =
-    testing-more (c .before .before .before .loop .inv) (search needs)
-    (rw (c .before .waiters .ensures) at (c .count-right .ensures))
+    testing-more (c .before .before .before .before .before .loop .inv) (search needs)
+    (rw (c .before .before .waiters .ensures) at (c .count-right .ensures))
 
 returns : tie.Need-returns Inv-loop μ-loop
 unfolding countsRight
-returns c = testing-done (c .before .loop .inv) (search needs)
+returns c = λ l m. testing-done (c .before .loop .inv) (search needs)
 
 pub counts-right-spec : {M : Type 1} → statement M
 counts-right-spec =
@@ -55,7 +55,7 @@ counts-right-spec =
     loop-holds
     waiters-requires
     mul-count-right
-    array-read-count-right
+    element-copy-out-count-right
     count-right-requires
     add-i
     loop-less

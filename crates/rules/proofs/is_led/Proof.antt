@@ -18,8 +18,8 @@ is-taken-requires c κs = search needs
 
 returns-2 : tie.Need-returns-2
 returns-2 c =
-    pick-no _ _ _ (ne-eqb _ _ (c .before .before .if1 .left))
-    (c .is-taken .ensures ∙ sym (second-decides _ _ (lt-ltb _ _ (c .before .if2 .taken))))
+    pick-no _ _ _ (ne-eqb _ _ (c .before .before .before .if1 .left))
+    (c .is-taken .ensures ∙ sym (second-decides _ _ (lt-ltb _ _ (c .before .before .if2 .taken))))
 
 returns-3 : tie.Need-returns-3
 returns-3 c = pick-no _ _ _ (ne-eqb _ _ (c .before .if1 .left)) (sym (first-fails _ _ (le-ltb _ _ (c .if2 .left))))

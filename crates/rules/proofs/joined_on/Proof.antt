@@ -17,7 +17,7 @@ returns c = rw (c .before .on-seat .ensures)
 returns-2 : tie.Need-returns-2
 returns-2 c =
     rw (← c .before .on-seat .ensures)
-    (past 32 (c .before .before .before .args .t2) (c .before .on-seat .result) 0 (search needs) (search needs))
+    (past 32 (c .before .before .args .t2) (c .before .on-seat .result) 0 (search needs) (search needs))
 
 pub joined-on-spec : {M : Type 1} → statement M
 joined-on-spec = tie.close (tie.spec on-seat-requires array-read-result returns returns-2)

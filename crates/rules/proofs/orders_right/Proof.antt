@@ -4,6 +4,7 @@ use Prim.Native.Nat.{_-_}
 use native.Mathlib.Omega.{arith}
 use mathlib.Core.Path.{_≡_, _∙_}
 use lib.ListN.{length, getD}
+use denote.Ref.{now}
 use borrow.Author.Needs.{needs}
 use Rattle.scope.specs.Areas.{buffersOf}
 use Rattle.scope.specs.Places.{rowOf}
@@ -22,34 +23,31 @@ abbrev μ-loop : tie.MeasureT-loop
 loop-holds : tie.Need-loop-holds Inv-loop μ-loop
 loop-holds c = testing-start _ _
 
-slice-aggregate-order-right : tie.Need-slice-aggregate-order-right Inv-loop μ-loop
-slice-aggregate-order-right c = search needs
-
 mul-order-right : tie.Need-mul-order-right Inv-loop μ-loop
 mul-order-right c = search needs
 
-array-read-order-right : tie.Need-array-read-order-right Inv-loop μ-loop
-array-read-order-right c = search needs
+element-copy-out-order-right : tie.Need-element-copy-out-order-right Inv-loop μ-loop
+element-copy-out-order-right c = search needs
 
 mul-buffers-of : tie.Need-mul-buffers-of Inv-loop μ-loop
 mul-buffers-of c = search needs
 
-array-read-buffers-of : tie.Need-array-read-buffers-of Inv-loop μ-loop
-array-read-buffers-of c = search needs
+element-copy-out-buffers-of : tie.Need-element-copy-out-buffers-of Inv-loop μ-loop
+element-copy-out-buffers-of c = search needs
 
 mul-buffers-of-2 : tie.Need-mul-buffers-of-2 Inv-loop μ-loop
 mul-buffers-of-2 c = search needs
 
-array-read-buffers-of-2 : tie.Need-array-read-buffers-of-2 Inv-loop μ-loop
-array-read-buffers-of-2 c = search needs
+element-copy-out-buffers-of-2 : tie.Need-element-copy-out-buffers-of-2 Inv-loop μ-loop
+element-copy-out-buffers-of-2 c = search needs
 
 buffers-of-requires : tie.Need-buffers-of-requires Inv-loop μ-loop
 buffers-of-requires c κs = search needs
 
 order-right-requires : tie.Need-order-right-requires Inv-loop μ-loop
 order-right-requires c κs =
-    let n : length (c .before .before .before .before .before .before .before .before .args .p .place) ≡ 512 = search needs in
-    (omega (arith, n, c .before .before .loop-test .taken), rw (c .buffers-of .ensures) (buffers-few _ _))
+    let n : length (now (c .before .before .before .before .before .before .before .args .place)) ≡ 512 = search needs in
+    (omega (arith, n, c .before .before .before .before .before .loop-test .taken), rw (c .buffers-of .ensures) (buffers-few _ _))
 
 add-i : tie.Need-add-i Inv-loop μ-loop
 add-i c = search needs
@@ -58,11 +56,11 @@ loop-less : tie.Need-loop-less Inv-loop μ-loop
 loop-less c = search needs
 
 loop-again : tie.Need-loop-again Inv-loop μ-loop
-loop-again c = testing-more (c .before .before .before .before .loop .inv) (search needs) (c .order-right .ensures ∙ rw (c .before .buffers-of .ensures))
+loop-again c = testing-more (c .before .before .before .before .before .before .before .loop .inv) (search needs) (c .order-right .ensures ∙ rw (c .before .buffers-of .ensures))
 
 returns : tie.Need-returns Inv-loop μ-loop
 unfolding ordersRight
-returns c = testing-done (c .before .loop .inv) (search needs)
+returns c = λ p. testing-done (c .before .loop .inv) (search needs)
 
 pub orders-right-spec : {M : Type 1} → statement M
 orders-right-spec =
@@ -71,13 +69,12 @@ orders-right-spec =
     Inv-loop
     μ-loop
     loop-holds
-    slice-aggregate-order-right
     mul-order-right
-    array-read-order-right
+    element-copy-out-order-right
     mul-buffers-of
-    array-read-buffers-of
+    element-copy-out-buffers-of
     mul-buffers-of-2
-    array-read-buffers-of-2
+    element-copy-out-buffers-of-2
     buffers-of-requires
     order-right-requires
     add-i

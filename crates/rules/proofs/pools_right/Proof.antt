@@ -9,59 +9,59 @@ use Rattle.rules.proofs.pools_right.Statement.{statement}
 use Rattle.rules.proofs.pools_right.Tie as tie
 
 abbrev Inv-loop : tie.InvT-loop
-Inv-loop live serial out name at long size forced ok₀ i₀ ok i =
+Inv-loop out name at long size serial live forced ok₀ i₀ ok i =
     (place : List ℕ)
     → Testing 8
     (poolRight (record { out = out; name = name; address = at; length = long; size = size; serial = serial; live = live; forced = forced; place = place }))
     ok i
 
 abbrev μ-loop : tie.MeasureT-loop
-μ-loop live serial out name at long size forced ok₀ i₀ ok i = 8 - i
+μ-loop out name at long size serial live forced ok₀ i₀ ok i = 8 - i
 
 loop-holds : tie.Need-loop-holds Inv-loop μ-loop
 loop-holds c = λ place. testing-start _ _
 
-array-read-pool-right : tie.Need-array-read-pool-right Inv-loop μ-loop
-array-read-pool-right c = search needs
+element-copy-out-pool-right : tie.Need-element-copy-out-pool-right Inv-loop μ-loop
+element-copy-out-pool-right c = search needs
 
 mul-pool-right : tie.Need-mul-pool-right Inv-loop μ-loop
 mul-pool-right c = search needs
 
-array-read-pool-right-2 : tie.Need-array-read-pool-right-2 Inv-loop μ-loop
-array-read-pool-right-2 c = search needs
+element-copy-out-pool-right-2 : tie.Need-element-copy-out-pool-right-2 Inv-loop μ-loop
+element-copy-out-pool-right-2 c = search needs
 
 mul-pool-right-2 : tie.Need-mul-pool-right-2 Inv-loop μ-loop
 mul-pool-right-2 c = search needs
 
-array-read-pool-right-3 : tie.Need-array-read-pool-right-3 Inv-loop μ-loop
-array-read-pool-right-3 c = search needs
+element-copy-out-pool-right-3 : tie.Need-element-copy-out-pool-right-3 Inv-loop μ-loop
+element-copy-out-pool-right-3 c = search needs
 
 mul-pool-right-3 : tie.Need-mul-pool-right-3 Inv-loop μ-loop
 mul-pool-right-3 c = search needs
 
-array-read-pool-right-4 : tie.Need-array-read-pool-right-4 Inv-loop μ-loop
-array-read-pool-right-4 c = search needs
+element-copy-out-pool-right-4 : tie.Need-element-copy-out-pool-right-4 Inv-loop μ-loop
+element-copy-out-pool-right-4 c = search needs
 
 mul-pool-right-4 : tie.Need-mul-pool-right-4 Inv-loop μ-loop
 mul-pool-right-4 c = search needs
 
-array-read-pool-right-5 : tie.Need-array-read-pool-right-5 Inv-loop μ-loop
-array-read-pool-right-5 c = search needs
+element-copy-out-pool-right-5 : tie.Need-element-copy-out-pool-right-5 Inv-loop μ-loop
+element-copy-out-pool-right-5 c = search needs
 
 mul-pool-right-5 : tie.Need-mul-pool-right-5 Inv-loop μ-loop
 mul-pool-right-5 c = search needs
 
-array-read-pool-right-6 : tie.Need-array-read-pool-right-6 Inv-loop μ-loop
-array-read-pool-right-6 c = search needs
+element-copy-out-pool-right-6 : tie.Need-element-copy-out-pool-right-6 Inv-loop μ-loop
+element-copy-out-pool-right-6 c = search needs
 
 mul-pool-right-6 : tie.Need-mul-pool-right-6 Inv-loop μ-loop
 mul-pool-right-6 c = search needs
 
-array-read-pool-right-7 : tie.Need-array-read-pool-right-7 Inv-loop μ-loop
-array-read-pool-right-7 c = search needs
+element-copy-out-pool-right-7 : tie.Need-element-copy-out-pool-right-7 Inv-loop μ-loop
+element-copy-out-pool-right-7 c = search needs
 
-array-read-pool-right-8 : tie.Need-array-read-pool-right-8 Inv-loop μ-loop
-array-read-pool-right-8 c = search needs
+element-copy-out-pool-right-8 : tie.Need-element-copy-out-pool-right-8 Inv-loop μ-loop
+element-copy-out-pool-right-8 c = search needs
 
 pool-right-requires : tie.Need-pool-right-requires Inv-loop μ-loop
 pool-right-requires c κs = search needs
@@ -74,11 +74,11 @@ loop-less c = search needs
 
 loop-again : tie.Need-loop-again Inv-loop μ-loop
 unfolding poolRight
-loop-again c = λ place. testing-more (c .before .before .loop .inv place) (search needs) (c .pool-right .ensures)
+loop-again c = λ place. testing-more (c .before .before .before .before .before .before .before .before .before .before .loop .inv place) (search needs) (c .pool-right .ensures)
 
 returns : tie.Need-returns Inv-loop μ-loop
 unfolding poolsRight
-returns c = testing-done (c .before .loop .inv _) (search needs)
+returns c = λ place. testing-done (c .before .loop .inv place) (search needs)
 
 pub pools-right-spec : {M : Type 1} → statement M
 pools-right-spec =
@@ -87,20 +87,20 @@ pools-right-spec =
     Inv-loop
     μ-loop
     loop-holds
-    array-read-pool-right
+    element-copy-out-pool-right
     mul-pool-right
-    array-read-pool-right-2
+    element-copy-out-pool-right-2
     mul-pool-right-2
-    array-read-pool-right-3
+    element-copy-out-pool-right-3
     mul-pool-right-3
-    array-read-pool-right-4
+    element-copy-out-pool-right-4
     mul-pool-right-4
-    array-read-pool-right-5
+    element-copy-out-pool-right-5
     mul-pool-right-5
-    array-read-pool-right-6
+    element-copy-out-pool-right-6
     mul-pool-right-6
-    array-read-pool-right-7
-    array-read-pool-right-8
+    element-copy-out-pool-right-7
+    element-copy-out-pool-right-8
     pool-right-requires
     add-i
     loop-less

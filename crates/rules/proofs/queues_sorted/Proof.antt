@@ -10,11 +10,11 @@ use Rattle.rules.proofs.queues_sorted.Statement.{statement}
 use Rattle.rules.proofs.queues_sorted.Tie as tie
 
 abbrev Inv-loop : tie.InvT-loop
-Inv-loop fifo seat joined ok₀ t₀ ok t =
+Inv-loop seat joined fifo ok₀ t₀ ok t =
     Testing 32 (λ j. joinedRight seat joined (λ i. getD fifo i false) (getD seat j 0) (getD joined j 0)) ok t
 
 abbrev μ-loop : tie.MeasureT-loop
-μ-loop fifo seat joined ok₀ t₀ ok t = 32 - t
+μ-loop seat joined fifo ok₀ t₀ ok t = 32 - t
 
 loop-holds : tie.Need-loop-holds Inv-loop μ-loop
 loop-holds c = testing-start _ _
@@ -22,11 +22,11 @@ loop-holds c = testing-start _ _
 mul-joined-right : tie.Need-mul-joined-right Inv-loop μ-loop
 mul-joined-right c = search needs
 
-array-read-joined-right : tie.Need-array-read-joined-right Inv-loop μ-loop
-array-read-joined-right c = search needs
+element-copy-out-joined-right : tie.Need-element-copy-out-joined-right Inv-loop μ-loop
+element-copy-out-joined-right c = search needs
 
-array-read-joined-right-2 : tie.Need-array-read-joined-right-2 Inv-loop μ-loop
-array-read-joined-right-2 c = search needs
+element-copy-out-joined-right-2 : tie.Need-element-copy-out-joined-right-2 Inv-loop μ-loop
+element-copy-out-joined-right-2 c = search needs
 
 joined-right-requires : tie.Need-joined-right-requires Inv-loop μ-loop
 joined-right-requires c κs = search needs
@@ -38,11 +38,11 @@ loop-less : tie.Need-loop-less Inv-loop μ-loop
 loop-less c = search needs
 
 loop-again : tie.Need-loop-again Inv-loop μ-loop
-loop-again c = testing-more (c .before .before .loop .inv) (search needs) (c .joined-right .ensures)
+loop-again c = testing-more (c .before .before .before .before .loop .inv) (search needs) (c .joined-right .ensures)
 
 returns : tie.Need-returns Inv-loop μ-loop
 unfolding queuesSorted
-returns c = testing-done (c .before .loop .inv) (search needs)
+returns c = λ left rings. testing-done (c .before .loop .inv) (search needs)
 
 pub queues-sorted-spec : {M : Type 1} → statement M
 queues-sorted-spec =
@@ -52,8 +52,8 @@ queues-sorted-spec =
     μ-loop
     loop-holds
     mul-joined-right
-    array-read-joined-right
-    array-read-joined-right-2
+    element-copy-out-joined-right
+    element-copy-out-joined-right-2
     joined-right-requires
     add-t
     loop-less

@@ -21,20 +21,20 @@ abbrev μ-loop : tie.MeasureT-loop
 loop-holds : tie.Need-loop-holds Inv-loop μ-loop
 loop-holds c = testing-start _ _
 
-array-read-ready-right : tie.Need-array-read-ready-right Inv-loop μ-loop
-array-read-ready-right c = search needs
+element-copy-out-ready-right : tie.Need-element-copy-out-ready-right Inv-loop μ-loop
+element-copy-out-ready-right c = search needs
 
-array-read-ready-right-2 : tie.Need-array-read-ready-right-2 Inv-loop μ-loop
-array-read-ready-right-2 c = search needs
+element-copy-out-ready-right-2 : tie.Need-element-copy-out-ready-right-2 Inv-loop μ-loop
+element-copy-out-ready-right-2 c = search needs
 
-array-read-ready-right-3 : tie.Need-array-read-ready-right-3 Inv-loop μ-loop
-array-read-ready-right-3 c = search needs
+element-copy-out-ready-right-3 : tie.Need-element-copy-out-ready-right-3 Inv-loop μ-loop
+element-copy-out-ready-right-3 c = search needs
 
 mul-ready-right : tie.Need-mul-ready-right Inv-loop μ-loop
 mul-ready-right c = search needs
 
-array-read-ready-right-4 : tie.Need-array-read-ready-right-4 Inv-loop μ-loop
-array-read-ready-right-4 c = search needs
+element-copy-out-ready-right-4 : tie.Need-element-copy-out-ready-right-4 Inv-loop μ-loop
+element-copy-out-ready-right-4 c = search needs
 
 ready-right-requires : tie.Need-ready-right-requires Inv-loop μ-loop
 ready-right-requires c κs = search needs
@@ -46,11 +46,11 @@ loop-less : tie.Need-loop-less Inv-loop μ-loop
 loop-less c = search needs
 
 loop-again : tie.Need-loop-again Inv-loop μ-loop
-loop-again c = testing-more (c .before .before .loop .inv) (search needs) (c .ready-right .ensures)
+loop-again c = testing-more (c .before .before .before .before .before .before .loop .inv) (search needs) (c .ready-right .ensures)
 
 returns : tie.Need-returns Inv-loop μ-loop
 unfolding readyOrderRight
-returns c = testing-done (c .before .loop .inv) (search needs)
+returns c = λ l k. testing-done (c .before .loop .inv) (search needs)
 
 pub ready-order-right-spec : {M : Type 1} → statement M
 ready-order-right-spec =
@@ -59,11 +59,11 @@ ready-order-right-spec =
     Inv-loop
     μ-loop
     loop-holds
-    array-read-ready-right
-    array-read-ready-right-2
-    array-read-ready-right-3
+    element-copy-out-ready-right
+    element-copy-out-ready-right-2
+    element-copy-out-ready-right-3
     mul-ready-right
-    array-read-ready-right-4
+    element-copy-out-ready-right-4
     ready-right-requires
     add-t
     loop-less

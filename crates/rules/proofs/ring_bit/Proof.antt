@@ -33,17 +33,17 @@ shl-result c = search needs
 returns : tie.Need-returns
 unfolding holdsTask
 returns c =
-    let a = c .before .before .args in
+    let a = c .before .before .before .args in
     let first : ringSeats (a .p) + 1 ≡ a .p * 64 + 2049 = omega arith in
-    rw (one-mul, bit-fits _ 16 (c .before .before .pre))
-    (pick-yes _ _ _ (ap (λ (y : ℕ). ltb (onSeat (a .q) y) 32) first ∙ sym (c .before .is-taken .ensures) ∙ c .if1 .taken) refl)
+    rw (one-mul, bit-fits _ 16 (c .before .before .before .pre))
+    (pick-yes _ _ _ (ap (λ (y : ℕ). ltb (onSeat (a .q .now) y) 32) first ∙ sym (c .before .is-taken .ensures) ∙ c .if1 .taken) refl)
 
 returns-2 : tie.Need-returns-2
 unfolding holdsTask
 returns-2 c =
-    let a = c .before .before .args in
+    let a = c .before .before .before .args in
     let first : ringSeats (a .p) + 1 ≡ a .p * 64 + 2049 = omega arith in
-    pick-no _ _ _ (ap (λ (y : ℕ). ltb (onSeat (a .q) y) 32) first ∙ sym (c .before .is-taken .ensures) ∙ c .if1 .left) refl
+    pick-no _ _ _ (ap (λ (y : ℕ). ltb (onSeat (a .q .now) y) 32) first ∙ sym (c .before .is-taken .ensures) ∙ c .if1 .left) refl
 
 pub ring-bit-spec : {M : Type 1} → statement M
 ring-bit-spec =

@@ -34,7 +34,7 @@ more c =
 
 add-mask : tie.Need-add-mask Inv-loop μ-loop
 add-mask c =
-    let q = c .before .before .before .args .q in
+    let q = c .before .before .before .args .q .now in
     let p = c .before .before .loop .p in
     let small : p + 1 ≤ 16 = omega (arith, c .before .loop-test .taken) in
     let top : 2 ^ (p + 1) ≤ 2 ^ 16 = pow-mono {j = 16} small in
@@ -54,7 +54,7 @@ unfolding ringMask
 returns c =
     let l = c .before .loop in
     let end : l .p ≡ 16 = omega (arith, l .inv .0) in
-    l .inv .1 ∙ ap (bits (holdsTask (c .before .before .args .q))) end
+    l .inv .1 ∙ ap (bits (holdsTask (c .before .before .args .q .now))) end
 
 pub ring-mask-spec : {M : Type 1} → statement M
 ring-mask-spec =

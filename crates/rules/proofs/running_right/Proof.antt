@@ -5,15 +5,15 @@ use Rattle.scope.specs.Rules.{runningRight}
 use Rattle.rules.proofs.running_right.Statement.{statement}
 use Rattle.rules.proofs.running_right.Tie as tie
 
-array-read-runner : tie.Need-array-read-runner
-array-read-runner c = search needs
+element-copy-out-runner : tie.Need-element-copy-out-runner
+element-copy-out-runner c = search needs
 
 runner-requires : tie.Need-runner-requires
 runner-requires c κs = search needs
 
 returns : tie.Need-returns
 unfolding runningRight
-returns c = rw (c .before .runner .ensures)
+returns c = λ left joined k m p. rw (c .runner .ensures)
 
 pub running-right-spec : {M : Type 1} → statement M
-running-right-spec = tie.close (tie.spec array-read-runner runner-requires returns)
+running-right-spec = tie.close (tie.spec element-copy-out-runner runner-requires returns)

@@ -20,8 +20,8 @@ loop-holds c = testing-start _ _
 mul-seat-right : tie.Need-mul-seat-right Inv-loop μ-loop
 mul-seat-right c = search needs
 
-array-read-seat-right : tie.Need-array-read-seat-right Inv-loop μ-loop
-array-read-seat-right c = search needs
+element-copy-out-seat-right : tie.Need-element-copy-out-seat-right Inv-loop μ-loop
+element-copy-out-seat-right c = search needs
 
 seat-right-requires : tie.Need-seat-right-requires Inv-loop μ-loop
 seat-right-requires c κs = search needs
@@ -33,7 +33,7 @@ loop-less : tie.Need-loop-less Inv-loop μ-loop
 loop-less c = search needs
 
 loop-again : tie.Need-loop-again Inv-loop μ-loop
-loop-again c = testing-more (c .before .before .loop .inv) (search needs) (c .seat-right .ensures)
+loop-again c = testing-more (c .before .before .before .loop .inv) (search needs) (c .seat-right .ensures)
 
 returns : tie.Need-returns Inv-loop μ-loop
 unfolding seatsRight
@@ -47,7 +47,7 @@ seats-right-spec =
     μ-loop
     loop-holds
     mul-seat-right
-    array-read-seat-right
+    element-copy-out-seat-right
     seat-right-requires
     add-t
     loop-less

@@ -8,40 +8,40 @@ use Rattle.rules.proofs.sems_right.Statement.{statement}
 use Rattle.rules.proofs.sems_right.Tie as tie
 
 abbrev Inv-loop : tie.InvT-loop
-Inv-loop live serial name fifo units ok₀ i₀ ok i =
+Inv-loop name serial units live fifo ok₀ i₀ ok i =
     Testing 16
     (semRight (record { name = name; serial = serial; units = units; live = live; fifo = fifo }))
     ok i
 
 abbrev μ-loop : tie.MeasureT-loop
-μ-loop live serial name fifo units ok₀ i₀ ok i = 16 - i
+μ-loop name serial units live fifo ok₀ i₀ ok i = 16 - i
 
 loop-holds : tie.Need-loop-holds Inv-loop μ-loop
 loop-holds c = testing-start _ _
 
-array-read-sem-right : tie.Need-array-read-sem-right Inv-loop μ-loop
-array-read-sem-right c = search needs
+element-copy-out-sem-right : tie.Need-element-copy-out-sem-right Inv-loop μ-loop
+element-copy-out-sem-right c = search needs
 
 mul-sem-right : tie.Need-mul-sem-right Inv-loop μ-loop
 mul-sem-right c = search needs
 
-array-read-sem-right-2 : tie.Need-array-read-sem-right-2 Inv-loop μ-loop
-array-read-sem-right-2 c = search needs
+element-copy-out-sem-right-2 : tie.Need-element-copy-out-sem-right-2 Inv-loop μ-loop
+element-copy-out-sem-right-2 c = search needs
 
 mul-sem-right-2 : tie.Need-mul-sem-right-2 Inv-loop μ-loop
 mul-sem-right-2 c = search needs
 
-array-read-sem-right-3 : tie.Need-array-read-sem-right-3 Inv-loop μ-loop
-array-read-sem-right-3 c = search needs
+element-copy-out-sem-right-3 : tie.Need-element-copy-out-sem-right-3 Inv-loop μ-loop
+element-copy-out-sem-right-3 c = search needs
 
-array-read-sem-right-4 : tie.Need-array-read-sem-right-4 Inv-loop μ-loop
-array-read-sem-right-4 c = search needs
+element-copy-out-sem-right-4 : tie.Need-element-copy-out-sem-right-4 Inv-loop μ-loop
+element-copy-out-sem-right-4 c = search needs
 
 mul-sem-right-3 : tie.Need-mul-sem-right-3 Inv-loop μ-loop
 mul-sem-right-3 c = search needs
 
-array-read-sem-right-5 : tie.Need-array-read-sem-right-5 Inv-loop μ-loop
-array-read-sem-right-5 c = search needs
+element-copy-out-sem-right-5 : tie.Need-element-copy-out-sem-right-5 Inv-loop μ-loop
+element-copy-out-sem-right-5 c = search needs
 
 sem-right-requires : tie.Need-sem-right-requires Inv-loop μ-loop
 sem-right-requires c κs = search needs
@@ -54,7 +54,7 @@ loop-less c = search needs
 
 loop-again : tie.Need-loop-again Inv-loop μ-loop
 unfolding semRight
-loop-again c = testing-more (c .before .before .loop .inv) (search needs) (c .sem-right .ensures)
+loop-again c = testing-more (c .before .before .before .before .before .before .before .loop .inv) (search needs) (c .sem-right .ensures)
 
 returns : tie.Need-returns Inv-loop μ-loop
 unfolding semsRight
@@ -67,14 +67,14 @@ sems-right-spec =
     Inv-loop
     μ-loop
     loop-holds
-    array-read-sem-right
+    element-copy-out-sem-right
     mul-sem-right
-    array-read-sem-right-2
+    element-copy-out-sem-right-2
     mul-sem-right-2
-    array-read-sem-right-3
-    array-read-sem-right-4
+    element-copy-out-sem-right-3
+    element-copy-out-sem-right-4
     mul-sem-right-3
-    array-read-sem-right-5
+    element-copy-out-sem-right-5
     sem-right-requires
     add-i
     loop-less

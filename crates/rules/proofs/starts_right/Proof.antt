@@ -19,17 +19,17 @@ abbrev μ-loop : tie.MeasureT-loop
 loop-holds : tie.Need-loop-holds Inv-loop μ-loop
 loop-holds c = testing-start _ _
 
-array-read-start-right : tie.Need-array-read-start-right Inv-loop μ-loop
-array-read-start-right c = search needs
+element-copy-out-start-right : tie.Need-element-copy-out-start-right Inv-loop μ-loop
+element-copy-out-start-right c = search needs
 
-array-read-start-right-2 : tie.Need-array-read-start-right-2 Inv-loop μ-loop
-array-read-start-right-2 c = search needs
+element-copy-out-start-right-2 : tie.Need-element-copy-out-start-right-2 Inv-loop μ-loop
+element-copy-out-start-right-2 c = search needs
 
 mul-start-right : tie.Need-mul-start-right Inv-loop μ-loop
 mul-start-right c = search needs
 
-array-read-start-right-3 : tie.Need-array-read-start-right-3 Inv-loop μ-loop
-array-read-start-right-3 c = search needs
+element-copy-out-start-right-3 : tie.Need-element-copy-out-start-right-3 Inv-loop μ-loop
+element-copy-out-start-right-3 c = search needs
 
 start-right-requires : tie.Need-start-right-requires Inv-loop μ-loop
 start-right-requires c κs = search needs
@@ -41,11 +41,11 @@ loop-less : tie.Need-loop-less Inv-loop μ-loop
 loop-less c = search needs
 
 loop-again : tie.Need-loop-again Inv-loop μ-loop
-loop-again c = testing-more (c .before .before .loop .inv) (search needs) (c .start-right .ensures)
+loop-again c = testing-more (c .before .before .before .before .before .loop .inv) (search needs) (c .start-right .ensures)
 
 returns : tie.Need-returns Inv-loop μ-loop
 unfolding startsRight
-returns c = testing-done (c .before .loop .inv) (search needs)
+returns c = λ l k. testing-done (c .before .loop .inv) (search needs)
 
 pub starts-right-spec : {M : Type 1} → statement M
 starts-right-spec =
@@ -54,10 +54,10 @@ starts-right-spec =
     Inv-loop
     μ-loop
     loop-holds
-    array-read-start-right
-    array-read-start-right-2
+    element-copy-out-start-right
+    element-copy-out-start-right-2
     mul-start-right
-    array-read-start-right-3
+    element-copy-out-start-right-3
     start-right-requires
     add-t
     loop-less

@@ -8,40 +8,40 @@ use Rattle.rules.proofs.tasks_right.Statement.{statement}
 use Rattle.rules.proofs.tasks_right.Tie as tie
 
 abbrev Inv-loop : tie.InvT-loop
-Inv-loop live serial name started suspended priority ok₀ t₀ ok t =
+Inv-loop name serial live started suspended priority ok₀ t₀ ok t =
     Testing 32
     (taskRight (record { name = name; serial = serial; live = live; started = started; suspended = suspended; priority = priority }))
     ok t
 
 abbrev μ-loop : tie.MeasureT-loop
-μ-loop live serial name started suspended priority ok₀ t₀ ok t = 32 - t
+μ-loop name serial live started suspended priority ok₀ t₀ ok t = 32 - t
 
 loop-holds : tie.Need-loop-holds Inv-loop μ-loop
 loop-holds c = testing-start _ _
 
-array-read-task-right : tie.Need-array-read-task-right Inv-loop μ-loop
-array-read-task-right c = search needs
+element-copy-out-task-right : tie.Need-element-copy-out-task-right Inv-loop μ-loop
+element-copy-out-task-right c = search needs
 
 mul-task-right : tie.Need-mul-task-right Inv-loop μ-loop
 mul-task-right c = search needs
 
-array-read-task-right-2 : tie.Need-array-read-task-right-2 Inv-loop μ-loop
-array-read-task-right-2 c = search needs
+element-copy-out-task-right-2 : tie.Need-element-copy-out-task-right-2 Inv-loop μ-loop
+element-copy-out-task-right-2 c = search needs
 
 mul-task-right-2 : tie.Need-mul-task-right-2 Inv-loop μ-loop
 mul-task-right-2 c = search needs
 
-array-read-task-right-3 : tie.Need-array-read-task-right-3 Inv-loop μ-loop
-array-read-task-right-3 c = search needs
+element-copy-out-task-right-3 : tie.Need-element-copy-out-task-right-3 Inv-loop μ-loop
+element-copy-out-task-right-3 c = search needs
 
-array-read-task-right-4 : tie.Need-array-read-task-right-4 Inv-loop μ-loop
-array-read-task-right-4 c = search needs
+element-copy-out-task-right-4 : tie.Need-element-copy-out-task-right-4 Inv-loop μ-loop
+element-copy-out-task-right-4 c = search needs
 
-array-read-task-right-5 : tie.Need-array-read-task-right-5 Inv-loop μ-loop
-array-read-task-right-5 c = search needs
+element-copy-out-task-right-5 : tie.Need-element-copy-out-task-right-5 Inv-loop μ-loop
+element-copy-out-task-right-5 c = search needs
 
-array-read-task-right-6 : tie.Need-array-read-task-right-6 Inv-loop μ-loop
-array-read-task-right-6 c = search needs
+element-copy-out-task-right-6 : tie.Need-element-copy-out-task-right-6 Inv-loop μ-loop
+element-copy-out-task-right-6 c = search needs
 
 task-right-requires : tie.Need-task-right-requires Inv-loop μ-loop
 task-right-requires c κs = search needs
@@ -54,7 +54,7 @@ loop-less c = search needs
 
 loop-again : tie.Need-loop-again Inv-loop μ-loop
 unfolding taskRight
-loop-again c = testing-more (c .before .before .loop .inv) (search needs) (c .task-right .ensures)
+loop-again c = testing-more (c .before .before .before .before .before .before .before .before .loop .inv) (search needs) (c .task-right .ensures)
 
 returns : tie.Need-returns Inv-loop μ-loop
 unfolding tasksRight
@@ -67,14 +67,14 @@ tasks-right-spec =
     Inv-loop
     μ-loop
     loop-holds
-    array-read-task-right
+    element-copy-out-task-right
     mul-task-right
-    array-read-task-right-2
+    element-copy-out-task-right-2
     mul-task-right-2
-    array-read-task-right-3
-    array-read-task-right-4
-    array-read-task-right-5
-    array-read-task-right-6
+    element-copy-out-task-right-3
+    element-copy-out-task-right-4
+    element-copy-out-task-right-5
+    element-copy-out-task-right-6
     task-right-requires
     add-t
     loop-less

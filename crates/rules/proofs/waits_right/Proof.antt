@@ -10,10 +10,10 @@ use Rattle.rules.proofs.waits_right.Statement.{statement}
 use Rattle.rules.proofs.waits_right.Tie as tie
 
 abbrev Inv-loop : tie.InvT-loop
-Inv-loop live seat left joined ok₀ t₀ ok t = Testing 32 (λ j. waitRight (λ i. getD live i false) (getD seat j 0) (getD left j 0) (getD joined j 0)) ok t
+Inv-loop left seat joined live ok₀ t₀ ok t = Testing 32 (λ j. waitRight (λ i. getD live i false) (getD seat j 0) (getD left j 0) (getD joined j 0)) ok t
 
 abbrev μ-loop : tie.MeasureT-loop
-μ-loop live seat left joined ok₀ t₀ ok t = 32 - t
+μ-loop left seat joined live ok₀ t₀ ok t = 32 - t
 
 loop-holds : tie.Need-loop-holds Inv-loop μ-loop
 loop-holds c = testing-start _ _
@@ -21,17 +21,17 @@ loop-holds c = testing-start _ _
 mul-wait-right : tie.Need-mul-wait-right Inv-loop μ-loop
 mul-wait-right c = search needs
 
-array-read-wait-right : tie.Need-array-read-wait-right Inv-loop μ-loop
-array-read-wait-right c = search needs
+element-copy-out-wait-right : tie.Need-element-copy-out-wait-right Inv-loop μ-loop
+element-copy-out-wait-right c = search needs
 
 mul-wait-right-2 : tie.Need-mul-wait-right-2 Inv-loop μ-loop
 mul-wait-right-2 c = search needs
 
-array-read-wait-right-2 : tie.Need-array-read-wait-right-2 Inv-loop μ-loop
-array-read-wait-right-2 c = search needs
+element-copy-out-wait-right-2 : tie.Need-element-copy-out-wait-right-2 Inv-loop μ-loop
+element-copy-out-wait-right-2 c = search needs
 
-array-read-wait-right-3 : tie.Need-array-read-wait-right-3 Inv-loop μ-loop
-array-read-wait-right-3 c = search needs
+element-copy-out-wait-right-3 : tie.Need-element-copy-out-wait-right-3 Inv-loop μ-loop
+element-copy-out-wait-right-3 c = search needs
 
 wait-right-requires : tie.Need-wait-right-requires Inv-loop μ-loop
 wait-right-requires c κs = search needs
@@ -43,11 +43,11 @@ loop-less : tie.Need-loop-less Inv-loop μ-loop
 loop-less c = search needs
 
 loop-again : tie.Need-loop-again Inv-loop μ-loop
-loop-again c = testing-more (c .before .before .loop .inv) (search needs) (c .wait-right .ensures)
+loop-again c = testing-more (c .before .before .before .before .before .loop .inv) (search needs) (c .wait-right .ensures)
 
 returns : tie.Need-returns Inv-loop μ-loop
 unfolding waitsRight
-returns c = testing-done (c .before .loop .inv) (search needs)
+returns c = λ rings. testing-done (c .before .loop .inv) (search needs)
 
 pub waits-right-spec : {M : Type 1} → statement M
 waits-right-spec =
@@ -57,10 +57,10 @@ waits-right-spec =
     μ-loop
     loop-holds
     mul-wait-right
-    array-read-wait-right
+    element-copy-out-wait-right
     mul-wait-right-2
-    array-read-wait-right-2
-    array-read-wait-right-3
+    element-copy-out-wait-right-2
+    element-copy-out-wait-right-3
     wait-right-requires
     add-t
     loop-less

@@ -8,7 +8,7 @@ use Rattle.watching.proofs.watch.Reads as reads
 use Rattle.watching.proofs.watch.Lts as lts
 use Rattle.grid.proofs.clear.Reads as clear-reads
 use Rattle.grid.proofs.keep.Reads as keep-reads
-use Rattle.kernel.proofs.runner.Reads as runner-reads
+use Rattle.watching.proofs.runner.Reads as runner-reads
 use Rattle.player.proofs.begin.Reads as begin-reads
 use Rattle.text.proofs.read_record.Reads as read-record-reads
 use Rattle.watching.proofs.performed.Reads as performed-reads

@@ -1,9 +1,9 @@
--- `kernel::runner`: the running task by its serial.
+-- `watching::runner`: the running task by its serial.
 -- Assumes nothing.
 use borrow.Author.Needs.{needs}
 use Rattle.scope.specs.Views.{runningTask}
-use Rattle.kernel.proofs.runner.Statement.{statement}
-use Rattle.kernel.proofs.runner.Tie as tie
+use Rattle.watching.proofs.runner.Statement.{statement}
+use Rattle.watching.proofs.runner.Tie as tie
 
 running-task-requires : tie.Need-running-task-requires
 running-task-requires c κs = search needs
