@@ -1,7 +1,6 @@
 // The kernel's interface: a fresh state, and a step. The state is lent as one thing and changed where it lies. `step` is the state
 // check and then `perform`, the step of a state known to be sound. (scope's specs/Fresh.antt, Step.antt and Calls.antt.)
 use answers::Outcome;
-use scope::Fresh;
 use scope::Line;
 use scope::Pools;
 use scope::Semaphores;
@@ -98,20 +97,32 @@ fn fresh_state(priority: u8) -> State
     }
 }
 
-// "Asked with a priority above 15, the answer is 19 and the fresh state of priority 0."
-pub fn fresh(priority: u32) -> Fresh
-    ensures { λ r. ⌜ r ≡ fresh priority ⌝ }
+// The fresh state by value: for who keeps a state of their own. "Asked with a priority above 15, .. the fresh state of priority 0."
+pub fn fresh_value(priority: u32) -> State
+    ensures { λ r. ⌜ r ≡ fresh priority .state ⌝ }
 {
     if 15 < priority {
-        return Fresh {
-            state: fresh_state(0),
-            status: scope::INVALID_PRIORITY,
-        };
+        return fresh_state(0);
     }
-    Fresh {
-        state: fresh_state(priority as u8),
-        status: scope::OK,
+    fresh_state(priority as u8)
+}
+
+// "Asked with a priority above 15, the answer is 19".
+fn fresh_status(priority: u32) -> u32
+    ensures { λ r. ⌜ r ≡ fresh priority .status ⌝ }
+{
+    if 15 < priority {
+        return scope::INVALID_PRIORITY;
     }
+    scope::OK
+}
+
+// The fresh state, written where the lent one lies, whatever that was; answers the status.
+pub fn fresh(s: &mut State, priority: u32) -> u32
+    ensures { λ r. ⌜ (now (s .exit) ≡ fresh priority .state) × (r ≡ fresh priority .status) ⌝ }
+{
+    *s = fresh_value(priority);
+    fresh_status(priority)
 }
 
 // The step of a state that is known to be sound: the state is not checked. The chapter of the call is chosen.

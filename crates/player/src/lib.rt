@@ -27,10 +27,8 @@ pub fn begin(script: &[u8]) -> Place
     requires { ⌜ isScript (now script) ≡ true ⌝ }
     ensures { λ r. ⌜ Begun (now (script .entry)) r ⌝ }
 {
-    let f = kernel::fresh(text::read_number(script, 8));
-    let s = f.state;
     Place {
-        state: s,
+        state: kernel::fresh_value(text::read_number(script, 8)),
         left: text::read_number(script, 0),
         number: 1,
         at: text::read_number(script, 4) as usize,
