@@ -23,7 +23,7 @@ use ghost.Atoms.{Atoms, sem}
 use contract.Monad.{Fun, fact}
 use contract.Running.{givenOf, tables, tablesOf}
 use types.Kit.{Given, Item, Seq, runs, prop, post, Post as Posts, ‵, raw, given, some, later, _⊛_, ⋆, anyQ, atRet, _$_, _∵_, !, qed, by, move, keep, drop, use1, use2, use3, split, split3, join, pick, learn, rewrite, fsplit, fsplit3, fjoin, fjoin3, feqI, feqL, suffices, frame, await, done}
-use types.Run.{Opd, look, init, store, forget, stop, hop, fld, from, load, lit, addr, of-opd, bin, and-then, no-more, assigns, assigns-last, first, branches, skips, jumps, land, returns, returns-within, enter, alloc1, alloc0, params1, pass1, pass0, free1, free0, exec}
+use types.Run.{Opd, look, init, store, forget, stop, hop, fld, from, load, lit, true-lit, addr, of-opd, bin, and-then, no-more, assigns, assigns-last, first, branches, skips, jumps, land, returns, returns-within, enter, alloc1, alloc0, params1, pass1, pass0, free1, free0, exec}
 use types.Part.{whole, sub, look-in, agg, rep}
 use types.Mut.{open-ref, close-ref}
 use types.Tokens.{lft-new, lft-end}

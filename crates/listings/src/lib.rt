@@ -1,16 +1,16 @@
 // A whole listing into lent bytes, or nothing where it does not fit. Each part is played into bytes of our own and copied from
 // there: a part wants room for the longest line, which the lent bytes need not have, and may write behind its end, which is not
 // ours to change. (specs/Whole.antt.)
-use player::Place;
 use text::LONGEST_LINE;
 ghost use mathlib.Core.Path.{_≡_};
-ghost use mathlib.Core.Bool.{false};
+ghost use mathlib.Core.Bool.{true, false};
 ghost use mathlib.Core.List.{_++_};
 ghost use Prim.Native.Nat.{_+_, _≤_};
 ghost use lib.ListN.{length, drop};
 ghost use lib.Seq.{paste};
 ghost use Rattle.scope.specs.Script.{isScript};
-ghost use Rattle.player.specs.Place.{Playing, toCome};
+ghost use Rattle.scope.specs.Choice.{pick};
+ghost use Rattle.scope.specs.Listing.{listing};
 ghost use Rattle.listings.specs.Whole.{Whole};
 
 fn wide(n: u32) -> usize
@@ -38,36 +38,31 @@ fn copy(out: &mut [u8], at: usize, part: &[u8], n: usize)
     }
 }
 
-// The length of the lines still to come, which are played and not kept.
-fn measure(script: &[u8], p: Place, part: &mut [u8]) -> usize
-    requires { ⌜ Playing (now script) p × (782 ≤ length (now part)) ⌝ }
-    ensures { λ r. ⌜ r ≡ length (toCome (now (script .entry)) p) ⌝ }
+// What becomes of a part behind n bytes: it is counted, and where the listing is kept it is copied behind those before it.
+fn add_part(out: &mut [u8], n: usize, part: &[u8], written: usize, keep: bool) -> usize
+    requires { ⌜ (n + written ≤ 1830662) × (written ≤ length (now part)) × (keep ≡ true → n + written ≤ length (now out)) ⌝ }
+    ensures { λ r. ⌜ (r ≡ n + written) × (now (out .exit) ≡ pick keep (paste (now (out .entry)) n (now (part .entry)) written) (now (out .entry))) ⌝ }
 {
-    let mut q = p;
-    let mut sum = 0;
-    while 0 < q.left {
-        let r = player::play_part(script, q, part);
-        sum += r.written;
-        let next = r.place;
-        q = next;
+    if !keep {
+        return n + written;
     }
-    sum
+    copy(out, n, part, written);
+    n + written
 }
 
-// Puts the lines still to come at the start of `out`, which has room for them, and answers their length.
-fn put_lines(script: &[u8], p: Place, part: &mut [u8], out: &mut [u8]) -> usize
-    requires { ⌜ Playing (now script) p × (782 ≤ length (now part)) × (length (toCome (now script) p) ≤ length (now out)) ⌝ }
-    ensures { λ r. ⌜ (r ≡ length (toCome (now (script .entry)) p)) × (now (out .exit) ≡ toCome (now (script .entry)) p ++ drop r (now (out .entry))) ⌝ }
+// Plays a script from its first state, which is kept here and lent to each part. Answers the listing's length; where the listing is kept,
+// it is put at the start of `out`, which has room for it.
+fn play_parts(script: &[u8], part: &mut [u8], out: &mut [u8], keep: bool) -> usize
+    requires { ⌜ (isScript (now script) ≡ true) × (782 ≤ length (now part)) × (keep ≡ true → length (listing (now script)) ≤ length (now out)) ⌝ }
+    ensures { λ r. ⌜ (r ≡ length (listing (now (script .entry)))) × (now (out .exit) ≡ pick keep (listing (now (script .entry)) ++ drop r (now (out .entry))) (now (out .entry))) ⌝ }
 {
-    let mut q = p;
+    let mut s = player::first_state(script);
+    let mut p = player::begin(script);
     let mut n = 0;
-    while 0 < q.left {
-        let r = player::play_part(script, q, part);
-        let written = r.written;
-        copy(out, n, part, written);
-        n += written;
-        let next = r.place;
-        q = next;
+    while 0 < p.left {
+        let r = player::play_part(script, &mut s, p, part);
+        n = add_part(out, n, part, r.written, keep);
+        p = r.place;
     }
     n
 }
@@ -96,11 +91,11 @@ pub fn listing(script: &[u8], out: &mut [u8]) -> usize
     }
     let p = player::begin(script);
     if LONGEST_LINE * wide(p.left) <= out.len() {
-        return put_lines(script, p, &mut part, out);
+        return play_parts(script, &mut part, out, true);
     }
-    let needed = measure(script, p, &mut part);
+    let needed = play_parts(script, &mut part, out, false);
     if out.len() < needed {
         return needed;
     }
-    put_lines(script, p, &mut part, out)
+    play_parts(script, &mut part, out, true)
 }

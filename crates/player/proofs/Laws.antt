@@ -34,8 +34,7 @@ use Rattle.text.specs.Records.{recordAt}
 use Rattle.text.specs.Lines.{replyBy}
 use Rattle.text.proofs.Laws.{line-length}
 use Rattle.player.specs.declared.Place.{Place}
-use Rattle.player.specs.declared.Part.{Part}
-use Rattle.player.specs.Place.{toCome, next, after, linesTo, Playing, Begun, LinePut, Played, PlayedPart}
+use Rattle.player.specs.Place.{Point, Reached, pointAt, toCome, next, after, linesTo, Playing, Begun, LinePut, Played, PlayedPart}
 use Rattle.player.proofs.Wakes.{woken-few}
 
 -- what the test of a script says
@@ -62,7 +61,7 @@ header script e =
       urgent = leb-true _ _ (f .0);
     }
 
-fresh-is : (p : ℕ) → p ≤ 15 → fresh p .state ≡ freshState p
+pub fresh-is : (p : ℕ) → p ≤ 15 → fresh p .state ≡ freshState p
 unfolding fresh
 fresh-is p h = ap (λ (f : Fresh). f .state) (picked-no (ltb 15 p) _ _ (le-ltb _ _ h))
 
@@ -71,16 +70,15 @@ listing-is : (script : List ℕ) → isScript script ≡ true
 unfolding listing
 listing-is script e = rw (listing, e)
 
--- the place before the first record
+-- the point before the first record
 pub begun : (script : List ℕ) (p : Place) → isScript script ≡ true → p .left ≡ recordCount script → p .number ≡ 1 → p .at ≡ firstOffset script
-    → p .state ≡ fresh (firstPriority script) .state → Begun script p
+    → Begun script (pointAt (freshState (firstPriority script)) p)
 unfolding toCome
-begun script p e left number at state =
+begun script p e left number at =
     let h = header script e in
-    let s : p .state ≡ freshState (firstPriority script) = state ∙ fresh-is _ (h .urgent) in
     record {
-      whole = rw (left, number, at, s) (sym (listing-is script e));
-      state = s;
+      whole = rw (left, number, at) (sym (listing-is script e));
+      state = refl;
       left = left;
       number = number;
       at = at;
@@ -90,7 +88,7 @@ begun script p e left number at state =
             start = omega (arith, at, h .start);
             within = omega (arith, left, at, h .within);
             numbered = omega (arith, left, number, h .within, h .small, h .start);
-            state = subst Sound (sym s) (fresh-sound _ (h .urgent));
+            state = fresh-sound _ (h .urgent);
           };
     }
 
@@ -128,7 +126,7 @@ lines-are : (script : List ℕ) (n m k at : ℕ) (s : State) → m + 1 ≡ n
 unfolding linesFrom
 lines-are script n m k at s e = rw (← e, add-one m, add-one k)
 
-pub played : (script : List ℕ) (p : Place) (before out : List ℕ) (k : ℕ) (r : Part) (a : Answer) → Playing script p → 1 ≤ p .left
+pub played : (script : List ℕ) (p : Point) (before out : List ℕ) (k : ℕ) (r : Reached) (a : Answer) → Playing script p → 1 ≤ p .left
     → a ≡ stepAt script (p .at) (p .state) → k + 782 ≤ length before → length out ≡ length before
     → r .written ≡ k + length (lineOf (p .number) (replyOf a))
     → take (r .written) out ≡ take k before ++ lineOf (p .number) (replyOf a)
@@ -177,7 +175,7 @@ line-told script at number k id s n wakes o before lines written e f p =
     }
 
 -- and the place after it
-pub line-played : (script : List ℕ) (p : Place) (n : State) (before lines : List ℕ) (k written : ℕ) → Playing script p → 1 ≤ p .left
+pub line-played : (script : List ℕ) (p : Point) (n : State) (before lines : List ℕ) (k written : ℕ) → Playing script p → 1 ≤ p .left
     → k + 782 ≤ length before → length lines ≡ length before
     → LinePut script (p .at) (p .number) (p .state) before k n lines written
     → Played script p before k lines
@@ -189,7 +187,7 @@ line-played script p n before lines k written h some room same d =
     (ap (λ (s : State). record { state = s; left = p .left - 1; number = p .number + 1; at = p .at + 28 }) (d .state))
 
 -- while records are played: k bytes were written since place p, and none only if no record was played
-pub record Going (script : List ℕ) (p : Place) (out₀ out : List ℕ) (q : Place) (k : ℕ) : Type 0 where
+pub record Going (script : List ℕ) (p : Point) (out₀ out : List ℕ) (q : Point) (k : ℕ) : Type 0 where
   pub lines : take k out ≡ linesTo script (p .left - q .left) p
   pub each : (n : ℕ) → n < p .left - q .left → length (linesTo script n p) + 782 ≤ length out₀
   pub put : take k out ++ toCome script q ≡ toCome script p
@@ -202,7 +200,7 @@ pub record Going (script : List ℕ) (p : Place) (out₀ out : List ℕ) (q : Pl
   pub onward : q .left < p .left → 0 < k
   pub playing : Playing script q
 
-module _ (script : List ℕ) (p : Place) (out₀ : List ℕ) where
+module _ (script : List ℕ) (p : Point) (out₀ : List ℕ) where
   pub going-first : Playing script p → Going script p out₀ out₀ p 0
   unfolding after linesTo
   going-first h =
@@ -222,18 +220,18 @@ module _ (script : List ℕ) (p : Place) (out₀ : List ℕ) where
       }
 
   -- the line of the next record behind those of the records played
-  more-lines : (out last : List ℕ) (q : Place) (k : ℕ) (r : Part) → Going script p out₀ out q k → Played script q out k last r
+  more-lines : (out last : List ℕ) (q : Point) (k : ℕ) (r : Reached) → Going script p out₀ out q k → Played script q out k last r
       → take (r .written) last ≡ linesTo script (suc (p .left - q .left)) p
   unfolding linesTo
   more-lines out last q k r g d =
       d .line ∙ ap (λ (x : List ℕ). x ++ lineOf (q .number) (replyOf (stepAt script (q .at) (q .state)))) (g .lines)
-      ∙ ap (λ (x : Place). linesTo script (p .left - q .left) p ++ lineOf (x .number) (replyOf (stepAt script (x .at) (x .state)))) (g .place)
+      ∙ ap (λ (x : Point). linesTo script (p .left - q .left) p ++ lineOf (x .number) (replyOf (stepAt script (x .at) (x .state)))) (g .place)
 
   -- as many bytes as were written
-  long : (out : List ℕ) (q : Place) (k : ℕ) → Going script p out₀ out q k → length (linesTo script (p .left - q .left) p) ≡ k
+  long : (out : List ℕ) (q : Point) (k : ℕ) → Going script p out₀ out q k → length (linesTo script (p .left - q .left) p) ≡ k
   long out q k g = sym (ap length (g .lines)) ∙ length-take-le k out (g .room)
 
-  more-each : (out last : List ℕ) (q : Place) (k m : ℕ) (r : Part) → Going script p out₀ out q k → Played script q out k last r
+  more-each : (out last : List ℕ) (q : Point) (k m : ℕ) (r : Reached) → Going script p out₀ out q k → Played script q out k last r
       → m ≡ suc (p .left - q .left) → (n : ℕ) → n < m → length (linesTo script n p) + 782 ≤ length out₀
   more-each out last q k m r g d e n l =
       ⊎-elim (λ h. g .each n h)
@@ -243,7 +241,7 @@ module _ (script : List ℕ) (p : Place) (out₀ : List ℕ) where
       omega (arith, at, d .fitted, g .same))
       (lt-or-le n (p .left - q .left))
 
-  pub going-more : (out last : List ℕ) (q : Place) (k : ℕ) (r : Part) → Going script p out₀ out q k → Played script q out k last r
+  pub going-more : (out last : List ℕ) (q : Point) (k : ℕ) (r : Reached) → Going script p out₀ out q k → Played script q out k last r
       → length last ≡ length out → Going script p out₀ last (r .place) (r .written)
   unfolding after
   going-more out last q k r g d e =
@@ -262,7 +260,7 @@ module _ (script : List ℕ) (p : Place) (out₀ : List ℕ) where
         playing = d .playing;
       }
 
-  pub going-done : (out : List ℕ) (q : Place) (k : ℕ) (r : Part) → Going script p out₀ out q k → (1 ≤ q .left → length out < k + 782)
+  pub going-done : (out : List ℕ) (q : Point) (k : ℕ) (r : Reached) → Going script p out₀ out q k → (1 ≤ q .left → length out < k + 782)
       → r .place ≡ q → r .written ≡ k → PlayedPart script p out r
   going-done out q k r g stop place written =
       record {
@@ -271,7 +269,7 @@ module _ (script : List ℕ) (p : Place) (out₀ : List ℕ) where
         each = rw (place, g .same) (g .each);
         put = rw (place, written) (g .put);
         room = omega (arith, written, g .room);
-        place = place ∙ g .place ∙ ap (λ (x : Place). after script (p .left - x .left) p) (sym place);
+        place = place ∙ g .place ∙ ap (λ (x : Point). after script (p .left - x .left) p) (sym place);
         stop = rw (place, written) stop;
         whole = λ wide. rw place (ended wide);
         onward = λ some wide. rw (place, written) (moved some wide, g .onward (moved some wide));

@@ -9,25 +9,23 @@ use mathlib.Core.List.{List}
 use lib.ListN.{length, take}
 use lib.Seq.{length-take-le}
 use Rattle.laws.proofs.Branches.{lt-or-le}
-use Rattle.player.specs.declared.Place.{Place}
-use Rattle.player.specs.declared.Part.{Part}
-use Rattle.player.specs.Place.{after, linesTo, PlayedPart}
+use Rattle.player.specs.Place.{Point, Reached, after, linesTo, PlayedPart}
 
-module _ (script : List ℕ) (p : Place) where
+module _ (script : List ℕ) (p : Point) where
   -- how many records were played, and how many bytes that makes
-  abbrev number : Part → ℕ
+  abbrev number : Reached → ℕ
   number r = p .left - r .place .left
 
-  long : (out : List ℕ) (r : Part) → PlayedPart script p out r → length (linesTo script (number r) p) ≡ r .written
+  long : (out : List ℕ) (r : Reached) → PlayedPart script p out r → length (linesTo script (number r) p) ≡ r .written
   long out r h = sym (ap length (h .lines)) ∙ length-take-le (r .written) out (h .room)
 
-  not-fewer : (out out′ : List ℕ) (r r′ : Part) → length out ≡ length out′ → PlayedPart script p out r → PlayedPart script p out′ r′
+  not-fewer : (out out′ : List ℕ) (r r′ : Reached) → length out ≡ length out′ → PlayedPart script p out r → PlayedPart script p out′ r′
       → number r′ ≤ number r
   not-fewer out out′ r r′ same h h′ =
       ⊎-elim (λ l. absurd (omega (arith, same, long out r h, h .stop (omega arith), h′ .each (number r) l))) (λ l. l)
       (lt-or-le (number r) (number r′))
 
-  pub part-one : (out out′ : List ℕ) (r r′ : Part) → length out ≡ length out′ → PlayedPart script p out r → PlayedPart script p out′ r′
+  pub part-one : (out out′ : List ℕ) (r r′ : Reached) → length out ≡ length out′ → PlayedPart script p out r → PlayedPart script p out′ r′
       → (r ≡ r′) × (take (r .written) out ≡ take (r′ .written) out′)
   part-one out out′ r r′ same h h′ =
       let n : number r ≡ number r′ = omega (arith, not-fewer out out′ r r′ same h h′, not-fewer out′ out r′ r (sym same) h′ h) in

@@ -1,16 +1,16 @@
-// Plays a script record by record: the listing comes in parts, each as long as the room that the caller lends for it. The state
-// is known to be sound all along, so no step checks it. (scope's specs/Listing.antt.)
+// Plays a script record by record: the listing comes in parts, each as long as the room that the caller lends for it. The state is the
+// caller's, changed where it lies; it is known to be sound all along, so no step checks it. (scope's specs/Listing.antt.)
 use scope::State;
 use text::LONGEST_LINE;
 ghost use mathlib.Core.Path.{_≡_};
 ghost use mathlib.Core.Bool.{true, false};
 ghost use Prim.Native.Nat.{_+_, _≤_, _<_};
-ghost use Rattle.scope.specs.Script.{isScript};
-ghost use Rattle.player.specs.Place.{Begun, Playing, PlayedPart};
+ghost use Rattle.scope.specs.Script.{isScript, firstPriority};
+ghost use Rattle.scope.specs.Fresh.{freshState};
+ghost use Rattle.player.specs.Place.{pointAt, reached, Begun, Playing, PlayedPart};
 
-// Where a script has got to: the state, how many records are left, the number of the next and where it starts.
+// Where a script has got to, beside the state: how many records are left, the number of the next and where it starts.
 pub struct Place {
-    pub state: State,
     pub left: u32,
     pub number: u32,
     pub at: usize,
@@ -22,13 +22,20 @@ pub struct Part {
     pub written: usize,
 }
 
+// The state before the first record.
+pub fn first_state(script: &[u8]) -> State
+    requires { ⌜ isScript (now script) ≡ true ⌝ }
+    ensures { λ r. ⌜ r ≡ freshState (firstPriority (now (script .entry))) ⌝ }
+{
+    kernel::fresh_value(text::read_number(script, 8))
+}
+
 // The place before the first record.
 pub fn begin(script: &[u8]) -> Place
     requires { ⌜ isScript (now script) ≡ true ⌝ }
-    ensures { λ r. ⌜ Begun (now (script .entry)) r ⌝ }
+    ensures { λ r. ⌜ Begun (now (script .entry)) (pointAt (freshState (firstPriority (now (script .entry)))) r) ⌝ }
 {
     Place {
-        state: kernel::fresh_value(text::read_number(script, 8)),
         left: text::read_number(script, 0),
         number: 1,
         at: text::read_number(script, 4) as usize,
@@ -49,12 +56,11 @@ fn goes_on(left: u32, k: usize, room: usize) -> bool
     k <= room - LONGEST_LINE
 }
 
-// Plays records while any is left and there is room for the longest line. The state is changed where it lies.
-pub fn play_part(script: &[u8], p: Place, lines: &mut [u8]) -> Part
-    requires { ⌜ Playing (now script) p ⌝ }
-    ensures { λ r. ⌜ PlayedPart (now (script .entry)) p (now (lines .exit)) r ⌝ }
+// Plays records while any is left and there is room for the longest line.
+pub fn play_part(script: &[u8], s: &mut State, p: Place, lines: &mut [u8]) -> Part
+    requires { ⌜ Playing (now script) (pointAt (now s) p) ⌝ }
+    ensures { λ r. ⌜ PlayedPart (now (script .entry)) (pointAt (now (s .entry)) p) (now (lines .exit)) (reached (now (s .exit)) r) ⌝ }
 {
-    let mut s = p.state;
     let mut wakes = [0u32; 32];
     let mut more = p.left;
     let mut number = p.number;
@@ -62,14 +68,14 @@ pub fn play_part(script: &[u8], p: Place, lines: &mut [u8]) -> Part
     let mut k: usize = 0;
     while goes_on(more, k, lines.len()) {
         let r = text::read_record(script, at);
-        let o = kernel::perform(&mut s, &mut wakes, r.call, r.mark, r.a, r.b, r.c, r.d, r.e);
-        k = text::put_line(lines, k, number, o, &wakes, lending::runner(&mut s));
+        let o = kernel::perform(s, &mut wakes, r.call, r.mark, r.a, r.b, r.c, r.d, r.e);
+        let runs = lending::runner(s);
+        k = text::put_line(lines, k, number, o, &wakes, runs);
         more -= 1;
         number += 1;
         at += 28;
     }
     let q = Place {
-        state: s,
         left: more,
         number: number,
         at: at,

@@ -12,21 +12,38 @@ fn listing_room() -> [u8; 32768]
     [0; 32768]
 }
 
-// Writes the listing of a script, a part at a time, and stops where no more can be written: then false.
+// Whether a record is left, and what came before it was written.
+fn goes_on(left: u32, well: bool) -> bool
+    ensures { λ r. ⌜ (r ≡ true → 1 ≤ left) ⌝ }
+{
+    if well {
+        return 0 < left;
+    }
+    false
+}
+
+// The first n bytes of a part. Answers whether they were written, all of them.
+fn write_part(out: &[u8], n: usize) -> bool
+    requires { ⌜ n ≤ length (now out) ⌝ }
+    ensures { λ r. ⌜ n ≤ length (now (out .entry)) ⌝ }
+{
+    io::write_all(STDOUT_FILENO, &out[..n])
+}
+
+// Writes the listing of a script, a part at a time, and stops where no more can be written: then false. The state is kept here and lent
+// to each part.
 fn write_listing(script: &[u8], out: &mut [u8]) -> bool
     requires { ⌜ (isScript (now script) ≡ true) × (782 ≤ length (now out)) ⌝ }
 {
+    let mut s = player::first_state(script);
     let mut p = player::begin(script);
-    while 0 < p.left {
-        let r = player::play_part(script, p, out);
-        let n = r.written;
-        if !io::write_all(STDOUT_FILENO, &out[..n]) {
-            return false;
-        }
-        let q = r.place;
-        p = q;
+    let mut well = true;
+    while goes_on(p.left, well) {
+        let r = player::play_part(script, &mut s, p, out);
+        well = write_part(out, r.written);
+        p = r.place;
     }
-    true
+    well
 }
 
 fn write_refused(out: &mut [u8]) -> bool

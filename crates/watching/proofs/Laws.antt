@@ -27,8 +27,7 @@ use Rattle.histories.specs.Sound.{Sound}
 use Rattle.histories.specs.History.{Event, answerTo, after}
 use Rattle.histories.specs.Scripts.{eventAt, eventsFrom}
 use Rattle.histories.proofs.Ledger.{event-keeps}
-use Rattle.player.specs.declared.Place.{Place}
-use Rattle.player.specs.Place.{Begun}
+use Rattle.player.specs.Place.{Point, Begun}
 use Rattle.player.proofs.Laws.{record-step}
 use Rattle.books.proofs.Agreeing.{turnOf}
 use Rattle.grid.specs.Grid.{Grid, cleared, cell}
@@ -44,7 +43,7 @@ pub record Going (script : List ℕ) (s : State) (left at : ℕ) (g : Grid) : Ty
   pub ends : after s (eventsFrom script left at) ≡ endOf script
   pub keeps : keptFrom g s (eventsFrom script left at) ≡ gridOf script
 
-pub begins : (script : List ℕ) (p : Place) → Begun script p → Going script (p .state) (p .left) (p .at) cleared
+pub begins : (script : List ℕ) (p : Point) → Begun script p → Going script (p .state) (p .left) (p .at) cleared
 begins script p b =
     record {
       small = b .playing .small;

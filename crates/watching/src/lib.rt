@@ -69,8 +69,8 @@ pub fn watch(script: &[u8], cells: &mut [u16]) -> State
     requires { ⌜ (isScript (now script) ≡ true) × (512 ≤ length (now cells)) ⌝ }
     ensures { λ r. ⌜ (r ≡ endOf (now (script .entry))) × Shows (gridOf (now (script .entry))) (now (cells .entry)) (now (cells .exit)) ⌝ }
 {
+    let mut s = player::first_state(script);
     let p = player::begin(script);
-    let mut s = p.state;
     let mut left = p.left;
     let mut at = p.at;
     let mut wakes = [0u32; 32];

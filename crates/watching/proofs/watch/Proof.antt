@@ -10,6 +10,7 @@ use Rattle.grid.proofs.clear.Reads as clear-reads
 use Rattle.grid.proofs.keep.Reads as keep-reads
 use Rattle.watching.proofs.runner.Reads as runner-reads
 use Rattle.player.proofs.begin.Reads as begin-reads
+use Rattle.player.proofs.first_state.Reads as first-state-reads
 use Rattle.text.proofs.read_record.Reads as read-record-reads
 use Rattle.watching.proofs.performed.Reads as performed-reads
 use Rattle.watching.proofs.put_cells.Reads as put-cells-reads
@@ -20,6 +21,9 @@ Inv-loop script cells s₀ left₀ at₀ wakes₀ g₀ s left at wakes g = Going
 abbrev μ-loop : tie.MeasureT-loop
 μ-loop script cells s₀ left₀ at₀ wakes₀ g₀ s left at wakes g = left
 
+first-state-requires : tie.Need-first-state-requires Inv-loop μ-loop
+first-state-requires c κs = search needs
+
 begin-requires : tie.Need-begin-requires Inv-loop μ-loop
 begin-requires c κs = search needs
 
@@ -27,7 +31,7 @@ clear-requires : tie.Need-clear-requires Inv-loop μ-loop
 clear-requires c κs = search needs
 
 loop-holds : tie.Need-loop-holds Inv-loop μ-loop
-loop-holds c = rw (c .clear .ensures) (begins (c .before .before .before .before .before .args .script .now) (c .before .before .begin .result) (c .before .before .begin .ensures))
+loop-holds c = rw (c .clear .ensures, c .before .before .first-state .ensures) (begins (c .before .before .before .before .before .args .script .now) _ (c .before .begin .ensures))
 
 read-record-requires : tie.Need-read-record-requires Inv-loop μ-loop
 read-record-requires c κs = let h = c .before .loop .inv .within in search needs
@@ -74,6 +78,7 @@ watch-spec =
     (tie.spec
     Inv-loop
     μ-loop
+    first-state-requires
     begin-requires
     clear-requires
     loop-holds
