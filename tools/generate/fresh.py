@@ -80,7 +80,7 @@ stayed = (gave-ref (0 ∷ []) tt (plain (λ _. R)), (stay-none (λ _. u32) yes, 
     W.move('obs'); w('use1 W (‵ (endS n)) (W .names .obs-res γ (R .coded .code n)) $ '); W.head(1, 'end')
     W.join('tk', 'tt', 'toks')
     w(f'returns ! (look ! {W.L(0)} refl) $ ')
-    W.leave(4, [0, 1, 2, 3])
+    W.leave(4, [0, 1, 2, 3], 8)
     w('keep ! (' + ' ∷ '.join(str(W.at(x)) for x in ['toks', 'end', 'own']) + ' ∷ []) $ by ! (exits n r _ is-n is-r)' + ')' * (4 + 5 + 1 + 5) + '\n')
     w(closing('fresh', CALL, ['ptr-vals', 'uint-vals w32'], ['mut-tells (named 0) (κs .0) R', 'uint-tells w32'],
               ['goes-gave-ref 𝓤 H A W 1 0 tt (plain (λ _. R))', 'goes-none 𝓤 H A W 1 (λ _. u32) yes (λ κs x f. refl)'],

@@ -180,9 +180,9 @@ class Lent(Walk):
     def ldf(self, i, k): return f'(load ! (from ! (fld ! refl (stop !))) (look-in ! {self.L(i)} (sub ! {k} refl (whole !))))'
     def entered(self, n, *rest): self.ctx = [x for i in reversed(range(n)) for x in (f'l{i}', f'd{i}')] + list(rest)
     def push(self, *ns): self.ctx[:0] = list(ns)
-    def leave(self, n, used):
+    def leave(self, n, used, indent=10):
         """The locals that hold something are forgotten, and all are freed."""
-        self.w(''.join(f'forget ! {self.L(i)} refl $ ' for i in used) + '\n          ')
+        self.w(''.join(f'forget ! {self.L(i)} refl $ ' for i in used) + '\n' + ' ' * indent)
         for i in range(n):
             self.move(f'l{i}', f'd{i}'); self.w('free1 ! $ '); self.head(2)
         self.w('free0 ! $ ')

@@ -4,7 +4,6 @@ use Prim.Native.Nat.{ℕ, _<_, _≤_}
 use mathlib.Core.Path.{_≡_, refl, sym}
 use borrow.Author.Tests.{lt-ltb, le-ltb}
 use Rattle.laws.proofs.Branches.{pick-yes, pick-no}
-use Rattle.scope.specs.declared.Fresh.{Fresh}
 use Rattle.scope.specs.Statuses.{OK, INVALID-PRIORITY}
 use Rattle.scope.specs.Fresh.{freshState, fresh}
 

@@ -132,7 +132,7 @@ module _ {M : Type 1} (𝓤 : URA M) (H : Heap 𝓤) (A : Atoms 𝓤) (W : Given
         split ! $ drop ! $ peeks ! u32 (Is u32) (shows 𝓤 H A u32) r (v₂ ∷ []) (λ isR.
         land ! (from ! (stop !)) (init ! 12 refl (uint-lawful 𝓤 H A W w32 .typed r _ isR .0)) $
         move ! (1 ∷ []) $ use1 W (‵ (endS n)) (W .names .obs-res γ (R .coded .code n)) $ move ! (3 ∷ 4 ∷ []) $ fjoin ! $ returns ! (look ! 11 refl) $ forget ! 11 refl $ forget ! 9 refl $ forget ! 7 refl $ forget ! 5 refl $
-          move ! (11 ∷ 12 ∷ []) $ free1 ! $ move ! (9 ∷ 10 ∷ []) $ free1 ! $ move ! (7 ∷ 8 ∷ []) $ free1 ! $ move ! (5 ∷ 6 ∷ []) $ free1 ! $ free0 ! $ keep ! (0 ∷ 1 ∷ 2 ∷ []) $ by ! (exits n r _ is-n is-r))))))))))))))))
+        move ! (11 ∷ 12 ∷ []) $ free1 ! $ move ! (9 ∷ 10 ∷ []) $ free1 ! $ move ! (7 ∷ 8 ∷ []) $ free1 ! $ move ! (5 ∷ 6 ∷ []) $ free1 ! $ free0 ! $ keep ! (0 ∷ 1 ∷ 2 ∷ []) $ by ! (exits n r _ is-n is-r))))))))))))))))
 
 module _ {M : Type 1} (𝓤 : URA M) (H : Heap 𝓤) (A : Atoms 𝓤) (W : Given 𝓤 H A) (at-mem : Memory → SProp 𝓤) (run : Routine → Fun 𝓤) (𝓣 : Tables 𝓤 H) (known-fv : Triple 𝓤 (𝓣 .C #fv) (Gfv 𝓤 H A at-mem run)) (known-fs : Triple 𝓤 (𝓣 .C #fs) (Gfs 𝓤 H A at-mem run)) where
   fresh-walks : Walks 𝓤 H A h.ended stayed (WpFn 𝓤 H (𝓣 .C) (𝓣 .Λ) code.function) (h.clauses 𝓤 H A at-mem run)
