@@ -1,14 +1,13 @@
 -- The bit of a status in a call's row says whether the status stands in the call's list: one test that antt computes, over the
 -- twenty rows and the 64 bits of a set.
 -- Assumes nothing.
-use Prim.Native.Nat.{ℕ, _*_, _/_, _%_, _^_, _<_}
+use Prim.Native.Nat.{ℕ, _/_, _%_, _^_, _<_}
 use mathlib.Core.Path.{_≡_, refl}
 use mathlib.Core.Bool.{Bool, true, false, not}
 use lib.ListN.{length}
 use lib.Dec.{eqb}
 use Rattle.scope.specs.Choice.{pick, every}
-use Rattle.scope.specs.Calls.{knownCalls, calls, callAt}
-use borrow.Author.Tests.{eqb-true}
+use Rattle.scope.specs.Calls.{knownCalls, calls}
 use Rattle.laws.proofs.Branches.{true-false}
 use Rattle.laws.proofs.Searches.{every-at}
 use Rattle.rows.specs.Rows.{setAt, mayGive}
@@ -45,14 +44,3 @@ pub set-right : (call status : ℕ) → call < knownCalls → status < 64 → ha
 set-right call status h l =
     same-is (hasBit call status) (mayGive call status)
     (every-at (agrees call) 64 (every-at rowAgrees knownCalls every-row call h) status l)
-
--- and the two bits of a call in `WHO` say who may make it
-abbrev whoAgrees : ℕ → Bool
-whoAgrees call = eqb (366537430358 / 2 ^ (call * 2) % 4) (callAt call .who)
-
-every-who : every whoAgrees knownCalls ≡ true
-unfolding every pick
-every-who = refl
-
-pub who-right : (call : ℕ) → call < knownCalls → 366537430358 / 2 ^ (call * 2) % 4 ≡ callAt call .who
-who-right call h = eqb-true (366537430358 / 2 ^ (call * 2) % 4) (callAt call .who) (every-at whoAgrees knownCalls every-who call h)

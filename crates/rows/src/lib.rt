@@ -7,9 +7,35 @@ ghost use Rattle.rows.specs.Rows.{setAt, mayGive};
 
 pub const CALLS: usize = 20;
 
-// Two bits a call, call 0 lowest: bit 0 the running task, bit 1 an interrupt. So 2 for 0 tick, 3 for 12 sem_release, and 1 for all others.
-// One number: an array would be laid out anew on the stack at each step.
-const WHO: u64 = 0x5557555556;
+// Bit 0 the running task, bit 1 an interrupt.
+const TASK: u8 = 1;
+
+const INTERRUPT: u8 = 2;
+
+const EITHER: u8 = 3;
+
+const WHO: [u8; CALLS] = [
+    INTERRUPT, // 0 tick
+    TASK, // 1 task_create
+    TASK, // 2 task_delete
+    TASK, // 3 task_ident
+    TASK, // 4 task_start
+    TASK, // 5 task_suspend
+    TASK, // 6 task_resume
+    TASK, // 7 task_set_priority
+    TASK, // 8 sem_create
+    TASK, // 9 sem_delete
+    TASK, // 10 sem_ident
+    TASK, // 11 sem_claim
+    EITHER, // 12 sem_release
+    TASK, // 13 sem_info
+    TASK, // 14 pool_create
+    TASK, // 15 pool_delete
+    TASK, // 16 pool_ident
+    TASK, // 17 pool_get_buff
+    TASK, // 18 pool_ret_buff
+    TASK, // 19 pool_info
+];
 
 // Bit s for status s.
 const MAY: [u64; CALLS] = [
@@ -36,11 +62,11 @@ const MAY: [u64; CALLS] = [
 ];
 
 // Who may make a call.
-pub fn who_of(call: u32) -> u64
+pub fn who_of(call: usize) -> u8
     requires { ⌜ call < knownCalls ⌝ }
     ensures { λ r. ⌜ r ≡ callAt call .who ⌝ }
 {
-    (WHO >> (call * 2)) % 4
+    WHO[call]
 }
 
 // The set of statuses that a call can answer.
@@ -57,7 +83,7 @@ pub fn may_call(call: u32, mark: u32) -> bool
     requires { ⌜ mark < 2 ⌝ }
     ensures { λ r. ⌜ r ≡ mayCall call mark ⌝ }
 {
-    (who_of(call) >> mark) % 2 == 1
+    (who_of(call as usize) >> mark) % 2 == 1
 }
 
 // Whether the status stands in the call's row.
