@@ -1,5 +1,5 @@
 # Prints the walks of crate `kernel`: `perform`, which chooses the chapter, `is_sound`, which asks the rules, and `step`, which asks it first.
-from table import CHAPTERS, NUMS
+from table import CALLS, CHAPTERS, NUMS
 from walk import Walk, chain, path, reader_ghost, reader_walk
 
 CRATE = 'kernel'
@@ -7,6 +7,24 @@ BELOW = 'lending'
 # the locals of `is_sound`: of each part what is passed and what takes its answer; and what it is then joined into, and of what
 AT = [(3, 2), (5, 4), (8, 7), (11, 10)]
 ANDS = [None, (6, 2, 4), (9, 6, 7), (0, 9, 10)]
+
+# what chapter k requires, by the tests before it and its own: the first chapter is call 0, a later one goes on where the one before it ends
+def told(names, k):
+    numbers = CALLS[names[k]][2]
+    above = f'some-call (x .0) t{k - 1}' if k == 1 else f'nltb→le (x .0) {numbers[0]} t{k - 1}'
+    below = f'ltb→lt (x .0) {numbers[-1] + 1} t{k}'
+    if k == 0:
+        return 'eqb→eq (x .0) 0 t0'
+    if k == len(names) - 1:
+        return above
+    return f'only-call {numbers[0]} (x .0) ({above}) ({below})' if len(numbers) == 1 else f'({above}, {below})'
+
+
+ONLY = '''
+only-call : (k m : ℕ) → k ≤ m → m < k + 1 → m ≡ k
+only-call k m a b = omega arith
+'''
+
 
 # ---- the choice of the chapter: a walk that names no column
 def choice():
@@ -81,7 +99,7 @@ use Rattle.{CRATE}.proofs.perform.Code as code
 some-call : (m : ℕ) → T (not (eqb m 0)) → 1 ≤ m
 some-call zero z = absurd z
 some-call (suc m) z = omega arith
-
+{ONLY if any(len(CALLS[n][2]) == 1 for n in names[1:-1]) else ''}
 -- the seven numbers of a call, and the wake list
 abbrev Seven : Type 0
 Seven = ℕ × (ℕ × (ℕ × (ℕ × (ℕ × (ℕ × (ℕ × Unit {{0}}))))))
@@ -172,7 +190,6 @@ sTy = pointee (S.the-row .written)
     w(f'pass1 ! (init ! {L(1)} refl (tt, tt)) $ pass1 ! (init ! {L(2)} refl (tt, tt)) $ ' + ''.join(f'pass1 ! (init ! {L(3 + i)} refl (tt, record {{ fits = {F7[i]} }})) $ ' for i in range(7)) + 'pass0 ! $\n')
     base = list(W.ctx)
     ls = ' '.join(f'l{i}' for i in range(N))
-    reqs = ['eqb→eq (x .0) 0 t0', '(some-call (x .0) t0, ltb→lt (x .0) 8 t1)', '(nltb→le (x .0) 8 t1, ltb→lt (x .0) 14 t2)', 'nltb→le (x .0) 14 t2']
     for k, n in enumerate(names):
         W.ctx = list(base)
         lastarm = k == len(names) - 1
@@ -181,7 +198,7 @@ sTy = pointee (S.the-row .written)
             w(f'        assigns ! (bin ! (load ! (from ! (stop !)) (look ! {L(3)} refl)) (lit ! tt) tt) (from ! (stop !)) ({put10}) $\n        first ! $ branches ! (load ! (from ! (stop !)) (look ! {L(10)} refl)) (λ t{k}.\n')
         i, j = 11 + 2 * k, 12 + 2 * k
         w(f'        assigns ! (addr ! (from ! (hop ! (look ! {L(1)} refl) (stop !)))) (from ! (stop !)) (init ! {L(i)} refl (tt, tt)) $ assigns ! (addr ! (from ! (hop ! (look ! {L(2)} refl) (stop !)))) (from ! (stop !)) (init ! {L(j)} refl (tt, tt)) $\n        ')
-        W.move('toks', 'ins'); w(f'use2 W (raw (G{n} 𝓤 H A at-mem run .pre {g})) (qed W (‵ toks ∷ ‵ ins ∷ []) ∵ says ! ({reqs[k]}) $ done !) $\n'); W.head(2, 'pre')
+        W.move('toks', 'ins'); w(f'use2 W (raw (G{n} 𝓤 H A at-mem run .pre {g})) (qed W (‵ toks ∷ ‵ ins ∷ []) ∵ says ! ({told(names, k)}) $ done !) $\n'); W.head(2, 'pre')
         ops = [i, j] + list(range(3, 10))
         w(f'        calls-at ! fm (G{n} 𝓤 H A at-mem run) known-{n} {g} (' + ' ('.join(f'and-then ! (load ! (from ! (stop !)) (look ! {L(m)} refl))' for m in ops) + ' (no-more !)' + ')' * len(ops) + ' (λ v.\n')
         w(f'''        use1 W (later (some (λ (r : Outcome). (‵ toks ⊛ ‵ (O.the-row .own r (v ∷ []))) ⊛ raw (ensured 𝓤 H A {n}.ended ({n}.clauses 𝓤 H A at-mem run) (κ, (κ′, tt)) a tt r)))) (id⊢ 𝓤 _) $ await ! tt $ pick ! (λ r.

@@ -1,18 +1,12 @@
 # Prints crate `lending`: src/lib.rt, proofs/Columns.antt and a walk for each chapter, which lends the chapter its columns of the
 # state, all at once, and takes them back. The readers' walks are readers.py's.
 import readers
-from table import CHAPTERS, NUMS, TABLES, cols, layout, table
+from table import CHAPTERS, NUMS, TABLES, cols, head, layout, table
 from walk import Walk, chain, path
 
 AT = layout()
 CRATE = 'lending'
 PROMISE = 'answerOf (now (s .exit)) (now (wakes .exit)) r ≡ answered (now (s .entry)) call mark a b c d e) × (now (s .exit) .running ≡ r .runs'
-HEADS = {
-    'tick': 'The tick.',
-    'task': 'A task call.',
-    'sem': 'A semaphore call.',
-    'pool': 'A pool call, or none of the table.',
-}
 
 def ty(w): return 'List Bool' if w == 0 else 'List ℕ'
 
@@ -33,7 +27,7 @@ ghost use Rattle.rules.specs.Lent.{poolsKept};
 '''
     par = '    s: &mut State,\n    wakes: &mut [u32; 32],\n' + ''.join(f'    {x}: u32,\n' for x in NUMS)
     for n, lent, segs, req in CHAPTERS:
-        o += f'\n// {HEADS[n]}\npub fn {n}(\n{par}) -> Outcome\n    requires {{ ⌜ {req} ⌝ }}\n    ensures {{ λ r. ⌜ ({PROMISE}) ⌝ }}\n{{\n    let running = s.running;\n'
+        o += f'\n// {head(n)}.\npub fn {n}(\n{par}) -> Outcome\n    requires {{ ⌜ {req} ⌝ }}\n    ensures {{ λ r. ⌜ ({PROMISE}) ⌝ }}\n{{\n    let running = s.running;\n'
         o += '    let x = Asked {\n' + ''.join(f'        {x}: {x},\n' for x in NUMS) + f'    }};\n    let o = chapters::{n}_part(\n'
         for g, c, shr in cols(segs): o += f'        &{"" if shr else "mut "}s.{table(g)[2]}.{c},\n'
         o += ''.join(f'        {x},\n' for x in ['wakes', 'running', 'x']) + '    );\n    s.running = o.runs;\n    o\n}\n'

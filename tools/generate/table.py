@@ -8,13 +8,20 @@ TABLES = [
 ]
 # A column that does not have one place for each slot: table, column, length.
 LENGTHS = {('L', 'rings'): 1, ('P', 'place'): 512}
-# name, what the promise is stated with, what is lent in order (table, 'mut' or 'shr', columns or None for all), what it requires
+# A chapter: its calls in words, their crate, their numbers (tools/calls.tsv names them); the last chapter also answers the numbers that no call has.
+CALLS = {
+    'tick': ('tick', 'ticks', range(0, 1)),
+    'task': ('task call', 'tasks', range(1, 8)),
+    'sem': ('semaphore call', 'semaphores', range(8, 14)),
+    'pool': ('pool call', 'pools', range(14, 20)),
+}
+# name, what the promise is stated with, what is lent in order (table, 'mut' or 'shr', columns or None for all)
 WAKING = ['serial', 'suspended', 'priority']
-CHAPTERS = [
-    ('tick', 'lentLine', [('L', 'mut', None), ('K', 'shr', WAKING)], 'call ≡ 0'),
-    ('task', 'lentTasks', [('L', 'mut', None), ('K', 'mut', None)], '(1 ≤ call) × (call < 8)'),
-    ('sem', 'lentSemaphores', [('L', 'mut', None), ('K', 'shr', WAKING), ('Q', 'mut', None)], '(8 ≤ call) × (call < 14)'),
-    ('pool', 'lentPools', [('P', 'mut', None)], '14 ≤ call'),
+LENT = [
+    ('tick', 'lentLine', [('L', 'mut', None), ('K', 'shr', WAKING)]),
+    ('task', 'lentTasks', [('L', 'mut', None), ('K', 'mut', None)]),
+    ('sem', 'lentSemaphores', [('L', 'mut', None), ('K', 'shr', WAKING), ('Q', 'mut', None)]),
+    ('pool', 'lentPools', [('P', 'mut', None)]),
 ]
 # The readers: what is lent them is only read, so all of it is lent shared. `said` is what the callee ensures of the state d, `{}` in it
 # the columns lent; `is` is what the reader promises of the state `{}`.
@@ -40,6 +47,23 @@ READERS = [
      'crate': 'rules', 'callee': 'pools_kept', 'lent': [('P', 'shr', None)], 'running': False,
      'said': 'r ≡ poolsKept (d .pools)', 'unfolding': '', 'so': 'said', 'uses': 'use Rattle.rules.specs.Lent.{poolsKept}\n'},
 ]
+LAST = LENT[-1][0]
+
+# what a chapter requires of the call that it is asked
+def required(name, call='call'):
+    numbers = CALLS[name][2]
+    if name == LAST:
+        return f'{numbers[0]} ≤ {call}'
+    if len(numbers) == 1:
+        return f'{call} ≡ {numbers[0]}'
+    return f'({numbers[0]} ≤ {call}) × ({call} < {numbers[-1] + 1})'
+
+# a chapter's calls in words, one of them
+def head(name):
+    words, _, numbers = CALLS[name]
+    return f'The {words}' if len(numbers) == 1 else f'A {words}' + (', or none of the table' if name == LAST else '')
+
+CHAPTERS = [(name, lent, segs, required(name)) for name, lent, segs in LENT]
 NUMS = ['call', 'mark', 'a', 'b', 'c', 'd', 'e']
 
 def table(g):
@@ -48,6 +72,15 @@ def table(g):
 # the columns lent, in order: table, name, whether it is only read
 def cols(segs):
     return [(g, c, mode == 'shr') for g, mode, sub in segs for c, _ in table(g)[4] if sub is None or c in sub]
+
+# the name of a lent column where the tasks' serials, which wakes are told by, may stand beside another table's
+def local(c, shr):
+    return 'waker' if shr and c == 'serial' else c
+
+# a column's type in the source
+def array(g, c):
+    _, _, _, n, cs = table(g)
+    return '[%s; %d]' % ({0: 'bool', 1: 'u8', 2: 'u16', 4: 'u32', 8: 'u64'}[dict(cs)[c]], LENGTHS.get((g, c), n))
 
 def up(a, e):
     return (e + a - 1) // a * a

@@ -1,6 +1,6 @@
 -- The state out of the columns that a call is lent. A call is lent only what it reads or changes: the columns it is not lent are
 -- those of any state s, and stay as they are.
--- Assumes nothing.
+-- Assumes nothing. Printed by tools/generate/run.
 use Prim.Native.Nat.{ℕ}
 use mathlib.Core.Bool.{Bool}
 use mathlib.Core.List.{List}
@@ -36,7 +36,7 @@ poolsOf out name address length size serial live forced place =
     }
 
 abbrev pub stateOf : Line → Tasks → Semaphores → Pools → ℕ → State
-stateOf l k m p running = record { line = l; tasks = k; semaphores = m; pools = p; running = running }
+stateOf l k q p running = record { line = l; tasks = k; semaphores = q; pools = p; running = running }
 
 -- the tasks k with these columns, which waking a task reads
 abbrev pub wakers : Tasks → List ℕ → List Bool → List ℕ → Tasks
@@ -46,17 +46,17 @@ wakers k serial suspended priority = tasksOf (k .name) serial (k .live) (k .star
 abbrev pub wakingOf : List ℕ → List ℕ → List ℕ → List ℕ → List ℕ → ℕ → Waking
 wakingOf left seat joined rings wakes woken = record { line = lineOf left seat joined rings; wakes = wakes; woken = woken }
 
--- what the tick is lent
+-- what the tick is lent; waker, suspended and priority are the tasks'
 abbrev pub lentLine : State → List ℕ → List ℕ → List ℕ → List ℕ → List ℕ → List Bool → List ℕ → ℕ → State
-lentLine s left seat joined rings serial suspended priority running =
-    stateOf (lineOf left seat joined rings) (wakers (s .tasks) serial suspended priority) (s .semaphores) (s .pools) running
+lentLine s left seat joined rings waker suspended priority running =
+    stateOf (lineOf left seat joined rings) (wakers (s .tasks) waker suspended priority) (s .semaphores) (s .pools) running
 
 -- what the task calls are lent
 abbrev pub lentTasks : State → List ℕ → List ℕ → List ℕ → List ℕ → List ℕ → List ℕ → List Bool → List Bool → List Bool → List ℕ → ℕ → State
 lentTasks s left seat joined rings name serial live started suspended priority running =
     stateOf (lineOf left seat joined rings) (tasksOf name serial live started suspended priority) (s .semaphores) (s .pools) running
 
--- what the semaphore calls are lent; the first serial, suspended and priority are the tasks'
+-- what the semaphore calls are lent; waker, suspended and priority are the tasks'
 abbrev pub lentSemaphores : State → List ℕ → List ℕ → List ℕ → List ℕ → List ℕ → List Bool → List ℕ → List ℕ → List ℕ → List ℕ → List Bool → List Bool → ℕ → State
 lentSemaphores s left seat joined rings waker suspended priority name serial units live fifo running =
     stateOf (lineOf left seat joined rings) (wakers (s .tasks) waker suspended priority) (semaphoresOf name serial units live fifo) (s .pools) running

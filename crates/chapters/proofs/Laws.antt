@@ -16,22 +16,11 @@ use Rattle.scope.specs.Answers.{plain}
 use Rattle.scope.specs.Calls.{knownCalls, callAt}
 use Rattle.scope.specs.Step.{callerRefusal, answered}
 
-past : (k x : ℕ) → k ≤ x → (x ≡ k → ⊥) → k + 1 ≤ x
+pub past : (k x : ℕ) → k ≤ x → (x ≡ k → ⊥) → k + 1 ≤ x
 past k x a e = omega arith
 
-only : (k x : ℕ) → k + 1 + 1 + 1 + 1 + 1 ≤ x → x < k + 6 → x ≡ k + 5
+pub only : (k x : ℕ) → k ≤ x → x < k + 1 → x ≡ k
 only k x a b = omega arith
-
-pub last-of-six : (k x : ℕ) → k ≤ x → x < k + 6 → (x ≡ k → ⊥) → (x ≡ k + 1 → ⊥) → (x ≡ k + 1 + 1 → ⊥) → (x ≡ k + 1 + 1 + 1 → ⊥)
-    → (x ≡ k + 1 + 1 + 1 + 1 → ⊥) → x ≡ k + 5
-last-of-six k x a b e0 e1 e2 e3 e4 =
-    only k x
-    (past (k + 1 + 1 + 1 + 1) x (past (k + 1 + 1 + 1) x (past (k + 1 + 1) x (past (k + 1) x (past k x a e0) e1) e2) e3) e4)
-    b
-
-pub last-of-seven : (k x : ℕ) → k ≤ x → x < k + 1 + 6 → (x ≡ k → ⊥) → (x ≡ k + 1 → ⊥) → (x ≡ k + 1 + 1 → ⊥) → (x ≡ k + 1 + 1 + 1 → ⊥)
-    → (x ≡ k + 1 + 1 + 1 + 1 → ⊥) → (x ≡ k + 1 + 1 + 1 + 1 + 1 → ⊥) → x ≡ k + 1 + 5
-last-of-seven k x a b e0 e1 e2 e3 e4 e5 = last-of-six (k + 1) x (past k x a e0) b e1 e2 e3 e4 e5
 
 -- a call that no caller's test refuses is one of the table's
 pub known-call : (call mark running : ℕ) → callerRefusal call mark running ≡ 0 → call < knownCalls

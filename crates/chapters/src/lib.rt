@@ -1,5 +1,5 @@
 // The chapters of the call table: each is lent the columns that its calls read or change, and answers any call of its own, by
-// whoever. (scope's specs/Step.antt and Calls.antt.)
+// whoever. (scope's specs/Step.antt and Calls.antt.) Printed by tools/generate/run: what a call takes is read from its own source.
 use answers::Outcome;
 ghost use mathlib.Core.Path.{_≡_};
 ghost use Prim.Native.Nat.{ℕ, _<_, _≤_};
@@ -65,11 +65,10 @@ fn task_call(
 ) -> Outcome
     requires { ⌜ (1 ≤ call) × (call < 8) ⌝ }
     ensures { λ r. ⌜ ((s : State) (c d e : ℕ) → answerOf (lentTasks s (now (left .exit)) (now (seat .exit)) (now (joined .exit)) (now (rings .exit))
-        (now (name .exit)) (now (serial .exit)) (now (live .exit)) (now (started .exit)) (now (suspended .exit))
-        (now (priority .exit)) running) noWakes r
+        (now (name .exit)) (now (serial .exit)) (now (live .exit)) (now (started .exit)) (now (suspended .exit)) (now (priority .exit)) running)
+        noWakes r
         ≡ callAt call .does (lentTasks s (now (left .entry)) (now (seat .entry)) (now (joined .entry)) (now (rings .entry)) (now (name .entry))
-        (now (serial .entry)) (now (live .entry)) (now (started .entry)) (now (suspended .entry))
-        (now (priority .entry)) running) a b c d e) ⌝ }
+        (now (serial .entry)) (now (live .entry)) (now (started .entry)) (now (suspended .entry)) (now (priority .entry)) running) a b c d e) ⌝ }
 {
     match call {
         1 => tasks::task_create(
@@ -138,7 +137,7 @@ fn task_call(
     }
 }
 
-// The semaphore calls; the first serial, suspended and priority are the tasks'.
+// The semaphore calls; waker, suspended and priority are the tasks'.
 fn sem_call(
     left: &mut [u32; 32],
     seat: &mut [u16; 32],
@@ -158,12 +157,12 @@ fn sem_call(
 ) -> Outcome
     requires { ⌜ (8 ≤ x .call) × (x .call < 14) ⌝ }
     requires { ⌜ now wakes ≡ noWakes ⌝ }
-    ensures { λ r. ⌜ ((s : State) (d e : ℕ) → answerOf (lentSemaphores s (now (left .exit)) (now (seat .exit)) (now (joined .exit)) (now (rings .exit))
-        (now (waker .entry)) (now (suspended .entry)) (now (priority .entry)) (now (name .exit)) (now (serial .exit)) (now (units .exit))
-        (now (live .exit)) (now (fifo .exit)) running) (now (wakes .exit)) r
-        ≡ callAt (x .call) .does (lentSemaphores s (now (left .entry)) (now (seat .entry)) (now (joined .entry)) (now (rings .entry)) (now (waker .entry))
-        (now (suspended .entry)) (now (priority .entry)) (now (name .entry)) (now (serial .entry)) (now (units .entry)) (now (live .entry))
-        (now (fifo .entry)) running) (x .a) (x .b) (x .c) d e) ⌝ }
+    ensures { λ r. ⌜ ((s : State) (d e : ℕ) → answerOf (lentSemaphores s (now (left .exit)) (now (seat .exit)) (now (joined .exit))
+        (now (rings .exit)) (now (waker .entry)) (now (suspended .entry)) (now (priority .entry)) (now (name .exit)) (now (serial .exit))
+        (now (units .exit)) (now (live .exit)) (now (fifo .exit)) running) (now (wakes .exit)) r
+        ≡ callAt (x .call) .does (lentSemaphores s (now (left .entry)) (now (seat .entry)) (now (joined .entry)) (now (rings .entry))
+        (now (waker .entry)) (now (suspended .entry)) (now (priority .entry)) (now (name .entry)) (now (serial .entry)) (now (units .entry))
+        (now (live .entry)) (now (fifo .entry)) running) (x .a) (x .b) (x .c) d e) ⌝ }
 {
     let call = x.call;
     match call {
@@ -242,8 +241,8 @@ fn pool_call(
     requires { ⌜ (14 ≤ call) × (call < knownCalls) ⌝ }
     ensures { λ r. ⌜ ((s : State) → answerOf (lentPools s (now (out .exit)) (now (name .exit)) (now (address .exit)) (now (length .exit))
         (now (size .exit)) (now (serial .exit)) (now (live .exit)) (now (forced .exit)) (now (place .exit)) running) noWakes r
-        ≡ callAt call .does (lentPools s (now (out .entry)) (now (name .entry)) (now (address .entry)) (now (length .entry))
-        (now (size .entry)) (now (serial .entry)) (now (live .entry)) (now (forced .entry)) (now (place .entry)) running) a b c d e) ⌝ }
+        ≡ callAt call .does (lentPools s (now (out .entry)) (now (name .entry)) (now (address .entry)) (now (length .entry)) (now (size .entry))
+        (now (serial .entry)) (now (live .entry)) (now (forced .entry)) (now (place .entry)) running) a b c d e) ⌝ }
 {
     match call {
         14 => pools::pool_create(
@@ -294,7 +293,7 @@ fn pool_call(
     }
 }
 
-// The tick.
+// The tick; waker, suspended and priority are the tasks'.
 pub fn tick_part(
     left: &mut [u32; 32],
     seat: &mut [u16; 32],
@@ -308,10 +307,10 @@ pub fn tick_part(
     x: Asked,
 ) -> Outcome
     requires { ⌜ x .call ≡ 0 ⌝ }
-    ensures { λ r. ⌜ ((s : State) → answerOf (lentLine s (now (left .exit)) (now (seat .exit)) (now (joined .exit)) (now (rings .exit)) (now (waker .entry))
-        (now (suspended .entry)) (now (priority .entry)) running) (now (wakes .exit)) r
-        ≡ answered (lentLine s (now (left .entry)) (now (seat .entry)) (now (joined .entry)) (now (rings .entry)) (now (waker .entry)) (now (suspended .entry))
-        (now (priority .entry)) running) (x .call) (x .mark) (x .a) (x .b) (x .c) (x .d) (x .e)) ⌝ }
+    ensures { λ r. ⌜ ((s : State) → answerOf (lentLine s (now (left .exit)) (now (seat .exit)) (now (joined .exit)) (now (rings .exit))
+        (now (waker .entry)) (now (suspended .entry)) (now (priority .entry)) running) (now (wakes .exit)) r
+        ≡ answered (lentLine s (now (left .entry)) (now (seat .entry)) (now (joined .entry)) (now (rings .entry)) (now (waker .entry))
+        (now (suspended .entry)) (now (priority .entry)) running) (x .call) (x .mark) (x .a) (x .b) (x .c) (x .d) (x .e)) ⌝ }
 {
     *wakes = [0; 32];
     let refusal = caller_refusal(x.call, x.mark, running);
@@ -338,12 +337,12 @@ pub fn task_part(
     x: Asked,
 ) -> Outcome
     requires { ⌜ (1 ≤ x .call) × (x .call < 8) ⌝ }
-    ensures { λ r. ⌜ ((s : State) → answerOf (lentTasks s (now (left .exit)) (now (seat .exit)) (now (joined .exit)) (now (rings .exit)) (now (name .exit))
-        (now (serial .exit)) (now (live .exit)) (now (started .exit)) (now (suspended .exit)) (now (priority .exit)) running)
+    ensures { λ r. ⌜ ((s : State) → answerOf (lentTasks s (now (left .exit)) (now (seat .exit)) (now (joined .exit)) (now (rings .exit))
+        (now (name .exit)) (now (serial .exit)) (now (live .exit)) (now (started .exit)) (now (suspended .exit)) (now (priority .exit)) running)
         (now (wakes .exit)) r
-        ≡ answered (lentTasks s (now (left .entry)) (now (seat .entry)) (now (joined .entry)) (now (rings .entry)) (now (name .entry)) (now (serial .entry))
-        (now (live .entry)) (now (started .entry)) (now (suspended .entry))
-        (now (priority .entry)) running) (x .call) (x .mark) (x .a) (x .b) (x .c) (x .d) (x .e)) ⌝ }
+        ≡ answered (lentTasks s (now (left .entry)) (now (seat .entry)) (now (joined .entry)) (now (rings .entry)) (now (name .entry))
+        (now (serial .entry)) (now (live .entry)) (now (started .entry)) (now (suspended .entry)) (now (priority .entry)) running)
+        (x .call) (x .mark) (x .a) (x .b) (x .c) (x .d) (x .e)) ⌝ }
 {
     *wakes = [0; 32];
     let refusal = caller_refusal(x.call, x.mark, running);
@@ -437,7 +436,8 @@ pub fn pool_part(
     ensures { λ r. ⌜ ((s : State) → answerOf (lentPools s (now (out .exit)) (now (name .exit)) (now (address .exit)) (now (length .exit))
         (now (size .exit)) (now (serial .exit)) (now (live .exit)) (now (forced .exit)) (now (place .exit)) running) (now (wakes .exit)) r
         ≡ answered (lentPools s (now (out .entry)) (now (name .entry)) (now (address .entry)) (now (length .entry)) (now (size .entry))
-        (now (serial .entry)) (now (live .entry)) (now (forced .entry)) (now (place .entry)) running) (x .call) (x .mark) (x .a) (x .b) (x .c) (x .d) (x .e)) ⌝ }
+        (now (serial .entry)) (now (live .entry)) (now (forced .entry)) (now (place .entry)) running)
+        (x .call) (x .mark) (x .a) (x .b) (x .c) (x .d) (x .e)) ⌝ }
 {
     *wakes = [0; 32];
     let refusal = caller_refusal(x.call, x.mark, running);

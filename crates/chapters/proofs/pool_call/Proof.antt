@@ -1,11 +1,11 @@
 -- `chapters::pool_call`: each call of the chapter by its number; the last is what is left when it is none of those before.
--- Assumes nothing.
+-- Assumes nothing. Printed by tools/generate/run.
 use native.Mathlib.Omega.{arith}
 use mathlib.Core.Path.{_≡_}
 use borrow.Author.Needs.{needs}
 use denote.Ref.{now}
 use Rattle.answers.specs.Columns.{lentPools}
-use Rattle.chapters.proofs.Laws.{last-of-six}
+use Rattle.chapters.proofs.Laws.{past, only}
 use Rattle.chapters.proofs.pool_call.Statement.{statement}
 use Rattle.chapters.proofs.pool_call.Tie as tie
 use Rattle.scope.specs.declared.State.{State}
@@ -48,7 +48,7 @@ returns-5 : tie.Need-returns-5
 returns-5 c = λ s. rw (c .before .before .before .before .before .before .before .before .match .keys5) (c .pool-ret-buff .ensures (whole (c .before .before .before .before .before .before .before .before .before) s))
 
 returns-6 : tie.Need-returns-6
-returns-6 c = λ s. let h : c .before .before .before .before .before .before .before .before .args .call ≡ 19 = last-of-six 14 _ (omega arith) (omega arith) (c .before .before .before .before .before .before .before .match .rest .0 .0 .0 .0 .1) (c .before .before .before .before .before .before .before .match .rest .0 .0 .0 .1) (c .before .before .before .before .before .before .before .match .rest .0 .0 .1) (c .before .before .before .before .before .before .before .match .rest .0 .1) (c .before .before .before .before .before .before .before .match .rest .1) in rw h (c .pool-info .ensures (whole (c .before .before .before .before .before .before .before .before) s))
+returns-6 c = λ s. let h : c .before .before .before .before .before .before .before .before .args .call ≡ 19 = only 19 _ (past 18 _ (past 17 _ (past 16 _ (past 15 _ (past 14 _ (omega arith) (c .before .before .before .before .before .before .before .match .rest .0 .0 .0 .0 .1)) (c .before .before .before .before .before .before .before .match .rest .0 .0 .0 .1)) (c .before .before .before .before .before .before .before .match .rest .0 .0 .1)) (c .before .before .before .before .before .before .before .match .rest .0 .1)) (c .before .before .before .before .before .before .before .match .rest .1)) (omega arith) in rw h (c .pool-info .ensures (whole (c .before .before .before .before .before .before .before .before) s))
 
 pub pool-call-spec : {M : Type 1} → statement M
 pool-call-spec =

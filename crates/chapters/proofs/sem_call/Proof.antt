@@ -1,12 +1,12 @@
 -- `chapters::sem_call`: each call of the chapter by its number; the last is what is left when it is none of those before.
--- Assumes nothing.
+-- Assumes nothing. Printed by tools/generate/run.
 use native.Mathlib.Omega.{arith}
 use mathlib.Core.Path.{_≡_}
 use borrow.Author.Needs.{needs}
 use denote.Ref.{now}
 use Rattle.answers.proofs.Outcomes.{none-woken}
 use Rattle.answers.specs.Columns.{lentSemaphores}
-use Rattle.chapters.proofs.Laws.{last-of-six}
+use Rattle.chapters.proofs.Laws.{past, only}
 use Rattle.chapters.proofs.sem_call.Statement.{statement}
 use Rattle.chapters.proofs.sem_call.Tie as tie
 use Rattle.scope.specs.declared.State.{State}
@@ -49,7 +49,7 @@ returns-5 : tie.Need-returns-5
 returns-5 c = λ s d e. rw (c .before .before .before .before .before .before .before .before .before .match .keys5) (c .sem-release .ensures (whole (c .before .before .before .before .before .before .before .before .before .before) s))
 
 returns-6 : tie.Need-returns-6
-returns-6 c = λ s d e. let h : c .before .before .before .before .before .before .before .args .x .call ≡ 13 = last-of-six 8 _ (omega arith) (omega arith) (c .before .before .before .before .before .before .match .rest .0 .0 .0 .0 .1) (c .before .before .before .before .before .before .match .rest .0 .0 .0 .1) (c .before .before .before .before .before .before .match .rest .0 .0 .1) (c .before .before .before .before .before .before .match .rest .0 .1) (c .before .before .before .before .before .before .match .rest .1) in rw h (none-woken _ _ (c .before .before .before .before .before .before .before .pre .1) (c .sem-info .ensures (whole (c .before .before .before .before .before .before .before) s)))
+returns-6 c = λ s d e. let h : c .before .before .before .before .before .before .before .args .x .call ≡ 13 = only 13 _ (past 12 _ (past 11 _ (past 10 _ (past 9 _ (past 8 _ (omega arith) (c .before .before .before .before .before .before .match .rest .0 .0 .0 .0 .1)) (c .before .before .before .before .before .before .match .rest .0 .0 .0 .1)) (c .before .before .before .before .before .before .match .rest .0 .0 .1)) (c .before .before .before .before .before .before .match .rest .0 .1)) (c .before .before .before .before .before .before .match .rest .1)) (omega arith) in rw h (none-woken _ _ (c .before .before .before .before .before .before .before .pre .1) (c .sem-info .ensures (whole (c .before .before .before .before .before .before .before) s)))
 
 pub sem-call-spec : {M : Type 1} → statement M
 sem-call-spec =

@@ -1,11 +1,11 @@
 -- `chapters::task_call`: each call of the chapter by its number; the last is what is left when it is none of those before.
--- Assumes nothing.
+-- Assumes nothing. Printed by tools/generate/run.
 use native.Mathlib.Omega.{arith}
 use mathlib.Core.Path.{_≡_}
 use borrow.Author.Needs.{needs}
 use denote.Ref.{now}
 use Rattle.answers.specs.Columns.{lentTasks}
-use Rattle.chapters.proofs.Laws.{last-of-seven}
+use Rattle.chapters.proofs.Laws.{past, only}
 use Rattle.chapters.proofs.task_call.Statement.{statement}
 use Rattle.chapters.proofs.task_call.Tie as tie
 use Rattle.scope.specs.declared.State.{State}
@@ -54,7 +54,7 @@ returns-6 : tie.Need-returns-6
 returns-6 c = λ s x d e. rw (c .before .before .before .before .before .before .before .before .before .match .keys6) (c .task-resume .ensures (whole (c .before .before .before .before .before .before .before .before .before .before) s))
 
 returns-7 : tie.Need-returns-7
-returns-7 c = λ s x d e. let h : c .before .before .before .before .before .before .before .before .before .before .args .call ≡ 7 = last-of-seven 1 _ (omega arith) (omega arith) (c .before .before .before .before .before .before .before .before .before .match .rest .0 .0 .0 .0 .0 .1) (c .before .before .before .before .before .before .before .before .before .match .rest .0 .0 .0 .0 .1) (c .before .before .before .before .before .before .before .before .before .match .rest .0 .0 .0 .1) (c .before .before .before .before .before .before .before .before .before .match .rest .0 .0 .1) (c .before .before .before .before .before .before .before .before .before .match .rest .0 .1) (c .before .before .before .before .before .before .before .before .before .match .rest .1) in rw h (c .task-set-priority .ensures (whole (c .before .before .before .before .before .before .before .before .before .before) s))
+returns-7 c = λ s x d e. let h : c .before .before .before .before .before .before .before .before .before .before .args .call ≡ 7 = only 7 _ (past 6 _ (past 5 _ (past 4 _ (past 3 _ (past 2 _ (past 1 _ (omega arith) (c .before .before .before .before .before .before .before .before .before .match .rest .0 .0 .0 .0 .0 .1)) (c .before .before .before .before .before .before .before .before .before .match .rest .0 .0 .0 .0 .1)) (c .before .before .before .before .before .before .before .before .before .match .rest .0 .0 .0 .1)) (c .before .before .before .before .before .before .before .before .before .match .rest .0 .0 .1)) (c .before .before .before .before .before .before .before .before .before .match .rest .0 .1)) (c .before .before .before .before .before .before .before .before .before .match .rest .1)) (omega arith) in rw h (c .task-set-priority .ensures (whole (c .before .before .before .before .before .before .before .before .before .before) s))
 
 pub task-call-spec : {M : Type 1} → statement M
 task-call-spec =
