@@ -5,8 +5,8 @@ from walk import Walk, chain, path, reader_ghost, reader_walk
 CRATE = 'kernel'
 BELOW = 'lending'
 # the locals of `is_sound`: of each part what is passed and what takes its answer; and what it is then joined into, and of what
-AT = [(3, 2), (5, 4), (8, 7), (11, 10)]
-ANDS = [None, (6, 2, 4), (9, 6, 7), (0, 9, 10)]
+AT = [(3, 2), (5, 4), (8, 7), (11, 10), (14, 13)]
+ANDS = [None, (6, 2, 4), (9, 6, 7), (12, 9, 10), (0, 12, 13)]
 
 # what chapter k requires, by the tests before it and its own: the first chapter is call 0, a later one goes on where the one before it ends
 def told(names, k):
@@ -244,8 +244,8 @@ perform-spec 𝓤 H 𝓜 𝓖 𝓡 =
 
 # ---- the check, part by part: a walk that names no column
 def asked():
-    PARTS = [('ok', 'orders_kept', 'keeps orderRules d'), ('tr', 'tasks_right', 'tasksRight (d .tasks)'), ('sr', 'sems_right', 'semsRight (d .semaphores)'), ('pk', 'pools_kept', 'poolsKept (d .pools)')]
-    N = 12
+    PARTS = [('ok', 'orders_kept', 'keeps orderRules d'), ('tr', 'tasks_right', 'tasksRight (d .tasks)'), ('sr', 'sems_right', 'semsRight (d .semaphores)'), ('qr', 'queues_right', 'queuesRight (d .queues)'), ('pk', 'pools_kept', 'poolsKept (d .pools)')]
+    N = 15
     W = Walk(); w = W.w
     def uses(nm, f): return f'use Rattle.{BELOW}.proofs.{f} as {nm}\nuse Rattle.{BELOW}.proofs.{f}.Symbol as {nm}-def\nuse Rattle.{BELOW}.proofs.{f}.Symbol.{{name as #{nm}}}\nuse Rattle.{BELOW}.proofs.{f}.Met as {nm}-thm\n'
     w(f'''-- `kernel::is_sound` meets its contract: a walk of its MIR, by hand. The borrow is opened, the state is lent again to each part of the check, which leaves it as it was, and the borrow is closed.
@@ -286,7 +286,7 @@ use denote.Triple.Table.{{entered, cited}}
 use denote.Triple.Walked.{{says, Stays, stay-ref, walkOf, goes-ref, Walks, ends-at, walked, walk-meets}}
 use denote.Signature.{{plain}}
 use Rattle.scope.specs.declared.State.{{State}}
-use Rattle.scope.specs.Rules.{{keeps, orderRules, tasksRight, semsRight, sound as isSound}}
+use Rattle.scope.specs.Rules.{{keeps, orderRules, tasksRight, semsRight, queuesRight, sound as isSound}}
 use Rattle.rules.specs.Lent.{{poolsKept}}
 use Rattle.scope.proofs.State as S
 use Rattle.lending.proofs.Lending.{{Col, Keys, tokens, lasts, lie, refs, kept, lends, backs}}
@@ -357,7 +357,7 @@ G{nm} 𝓤 H A mem run = tripleOf 𝓤 H A {nm}.signature ({nm}.spec 𝓤 H A me
         W.move(f'l{i}', f'd{i}'); w('free1 ! $ '); W.head(2)
     assert W.ctx == ['obs', 'bor', 'lft', 'none'], W.ctx
     is_ = ' '.join(f'(is-{p[0]} .0)' for p in PARTS)
-    w(f'free0 ! $\n        by ! (exits (((y-ok && y-tr) && y-sr) && y-pk) (sound-parts d {" ".join(ys)} {is_}))' + ')' * W.close + '\n')
+    w(f'free0 ! $\n        by ! (exits ((((y-ok && y-tr) && y-sr) && y-qr) && y-pk) (sound-parts d {" ".join(ys)} {is_}))' + ')' * W.close + '\n')
     w(f'''
 module _ {{M : Type 1}} (𝓤 : URA M) (H : Heap 𝓤) (A : Atoms 𝓤) (W : Given 𝓤 H A) (mem : Memory → SProp 𝓤) (run : Routine → Fun 𝓤) where
   is-sound-walks : (C : Calls 𝓤 H) (Λ : Loops 𝓤 H) → FmC 𝓤 H (W .laws) C → {kn('C')} → Walks 𝓤 H A outer.ended stayed (WpFn 𝓤 H C Λ code.function) (outer.clauses 𝓤 H A mem run)

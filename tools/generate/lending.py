@@ -20,7 +20,7 @@ use scope::State;
 ghost use mathlib.Core.Path.{_≡_};
 ghost use Prim.Native.Nat.{_<_, _≤_};
 ghost use Rattle.scope.specs.Step.{answered};
-ghost use Rattle.scope.specs.Rules.{keeps, orderRules, tasksRight, semsRight};
+ghost use Rattle.scope.specs.Rules.{keeps, orderRules, tasksRight, semsRight, queuesRight};
 ghost use Rattle.scope.specs.Views.{runningTask};
 ghost use Rattle.answers.specs.Outcomes.{answerOf};
 ghost use Rattle.rules.specs.Lent.{poolsKept};

@@ -5,9 +5,10 @@ TABLES = [
     ('K', 'Tasks', 'tasks', 32, [('name', 4), ('serial', 2), ('live', 0), ('started', 0), ('suspended', 0), ('priority', 1)]),
     ('Q', 'Semaphores', 'semaphores', 16, [('name', 4), ('serial', 2), ('units', 2), ('live', 0), ('fifo', 0)]),
     ('P', 'Pools', 'pools', 8, [('out', 8), ('name', 4), ('address', 4), ('length', 4), ('size', 4), ('serial', 2), ('live', 0), ('forced', 0), ('place', 1)]),
+    ('U', 'Queues', 'queues', 8, [('name', 4), ('serial', 2), ('live', 0), ('fifo', 0), ('limits', 1), ('held', 1)]),
 ]
 # A column that does not have one place for each slot: table, column, length.
-LENGTHS = {('L', 'rings'): 1, ('P', 'place'): 512}
+LENGTHS = {('L', 'rings'): 1, ('P', 'place'): 512, ('U', 'limits'): 16}
 # A chapter: its calls in words, their crate, their numbers (tools/calls.tsv names them); the last chapter also answers the numbers that no call has.
 CALLS = {
     'tick': ('tick', 'ticks', range(0, 1)),
@@ -27,6 +28,7 @@ LENT = [
 # the columns lent; `is` is what the reader promises of the state `{}`.
 READY = ['started', 'suspended', 'priority']
 QUEUED = ['units', 'live', 'fifo']
+RECEIVED = ['live', 'fifo', 'limits', 'held']
 READERS = [
     {'name': 'runner', 'head': 'The identifier of the task that runs; 0 for nobody.', 'type': 'u32', 'is': 'runningTask ({})',
      'crate': 'answers', 'callee': 'running_task', 'lent': [('K', 'shr', ['serial'])], 'running': True,
@@ -34,7 +36,7 @@ READERS = [
      'unfolding': 'runningTask', 'so': 'said',
      'uses': 'use Rattle.scope.specs.Choice.{pick as choose}\nuse Rattle.scope.specs.Views.{runningTask}\n'},
     {'name': 'orders_kept', 'head': 'Whether the state keeps the rules of orders and queues.', 'type': 'bool', 'is': 'keeps orderRules ({})',
-     'crate': 'rules', 'callee': 'orders_kept', 'lent': [('L', 'shr', None), ('K', 'shr', READY), ('Q', 'shr', QUEUED)], 'running': True,
+     'crate': 'rules', 'callee': 'orders_kept', 'lent': [('L', 'shr', None), ('K', 'shr', READY), ('Q', 'shr', QUEUED), ('U', 'shr', RECEIVED)], 'running': True,
      'said': '(s : State) → r ≡ keeps orderRules (lentOrders s {} (d .running))', 'unfolding': '', 'so': 'said d',
      'uses': 'use Rattle.scope.specs.Rules.{keeps, orderRules}\nuse Rattle.rules.specs.Lent.{lentOrders}\n'},
     {'name': 'tasks_right', 'head': "Whether it keeps the tasks' rule.", 'type': 'bool', 'is': 'tasksRight ({} .tasks)',
@@ -43,6 +45,9 @@ READERS = [
     {'name': 'sems_right', 'head': "Whether it keeps the semaphores' rule.", 'type': 'bool', 'is': 'semsRight ({} .semaphores)',
      'crate': 'rules', 'callee': 'sems_right', 'lent': [('Q', 'shr', None)], 'running': False,
      'said': 'r ≡ semsRight (d .semaphores)', 'unfolding': '', 'so': 'said', 'uses': 'use Rattle.scope.specs.Rules.{semsRight}\n'},
+    {'name': 'queues_right', 'head': "Whether it keeps the queues' rule.", 'type': 'bool', 'is': 'queuesRight ({} .queues)',
+     'crate': 'rules', 'callee': 'queues_right', 'lent': [('U', 'shr', None)], 'running': False,
+     'said': 'r ≡ queuesRight (d .queues)', 'unfolding': '', 'so': 'said', 'uses': 'use Rattle.scope.specs.Rules.{queuesRight}\n'},
     {'name': 'pools_kept', 'head': "Whether it keeps the pools' rules.", 'type': 'bool', 'is': 'poolsKept ({} .pools)',
      'crate': 'rules', 'callee': 'pools_kept', 'lent': [('P', 'shr', None)], 'running': False,
      'said': 'r ≡ poolsKept (d .pools)', 'unfolding': '', 'so': 'said', 'uses': 'use Rattle.rules.specs.Lent.{poolsKept}\n'},

@@ -9,6 +9,7 @@ use Rattle.scope.specs.declared.Line.{Line}
 use Rattle.scope.specs.declared.Tasks.{Tasks}
 use Rattle.scope.specs.declared.Semaphores.{Semaphores}
 use Rattle.scope.specs.declared.Pools.{Pools}
+use Rattle.scope.specs.declared.Queues.{Queues}
 use Rattle.scope.specs.declared.Waking.{Waking}
 use Rattle.scope.specs.declared.Answer.{Answer}
 use Rattle.scope.specs.Statuses.{OK}
@@ -38,20 +39,20 @@ pub none-woken : (s : State) (o : Outcome) {wakes : List ℕ} {a : Answer} → w
 none-woken s o e p = rw e p
 
 -- tasks stand elsewhere, and the seats say who runs
-module _ (k : Tasks) (m : Semaphores) (p : Pools) (running n : ℕ) (o : Outcome) where
+module _ (k : Tasks) (m : Semaphores) (p : Pools) (u : Queues) (running n : ℕ) (o : Outcome) where
   pub plain-moved : (l l' : Line) (status : ℕ) → o ≡ outcome status 0 0 0 0 false n → n ≡ runnerOf (l' .seat) (maskOf (l' .rings)) → l' ≡ l
-      → answerOf (stateOf l' k m p running) noWakes o ≡ plain (stateOf l k m p (runnerOf (l .seat) (maskOf (l .rings)))) status
+      → answerOf (stateOf l' k m p u running) noWakes o ≡ plain (stateOf l k m p u (runnerOf (l .seat) (maskOf (l .rings)))) status
   unfolding answerOf outcome plain answer
   plain-moved l l' status e f g = rw (e, f, g)
 
   pub gives-moved : (l l' : Line) (v : ℕ) → o ≡ outcome 0 v 0 0 0 false n → n ≡ runnerOf (l' .seat) (maskOf (l' .rings)) → l' ≡ l
-      → answerOf (stateOf l' k m p running) noWakes o ≡ gives (stateOf l k m p (runnerOf (l .seat) (maskOf (l .rings)))) v
+      → answerOf (stateOf l' k m p u running) noWakes o ≡ gives (stateOf l k m p u (runnerOf (l .seat) (maskOf (l .rings)))) v
   unfolding answerOf outcome gives answer
   gives-moved l l' v e f g = rw (e, f, g)
 
   -- and tasks were woken, `l` and `before` being where they stood and who ran before
   pub woke-moved : (l : Line) (before : ℕ) (w w' : Waking) (why : ℕ) → o ≡ woke (w' .woken) why n → n ≡ runnerOf (w' .line .seat) (maskOf (w' .line .rings)) → w' ≡ w
-      → answerOf (stateOf (w' .line) k m p running) (w' .wakes) o ≡ wakesWith (stateOf l k m p before) w why
+      → answerOf (stateOf (w' .line) k m p u running) (w' .wakes) o ≡ wakesWith (stateOf l k m p u before) w why
   unfolding answerOf woke wakesWith
   woke-moved l before w w' why e f g = rw (e, f, g)
 

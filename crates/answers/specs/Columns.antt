@@ -8,6 +8,7 @@ use Rattle.scope.specs.declared.Line.{Line}
 use Rattle.scope.specs.declared.Tasks.{Tasks}
 use Rattle.scope.specs.declared.Semaphores.{Semaphores}
 use Rattle.scope.specs.declared.Pools.{Pools}
+use Rattle.scope.specs.declared.Queues.{Queues}
 use Rattle.scope.specs.declared.State.{State}
 use Rattle.scope.specs.declared.Waking.{Waking}
 
@@ -35,8 +36,12 @@ poolsOf out name address length size serial live forced place =
       place = place;
     }
 
-abbrev pub stateOf : Line → Tasks → Semaphores → Pools → ℕ → State
-stateOf l k q p running = record { line = l; tasks = k; semaphores = q; pools = p; running = running }
+abbrev pub queuesOf : List ℕ → List ℕ → List Bool → List Bool → List ℕ → List ℕ → Queues
+queuesOf name serial live fifo limits held =
+    record { name = name; serial = serial; live = live; fifo = fifo; limits = limits; held = held }
+
+abbrev pub stateOf : Line → Tasks → Semaphores → Pools → Queues → ℕ → State
+stateOf l k q p u running = record { line = l; tasks = k; semaphores = q; pools = p; queues = u; running = running }
 
 -- the tasks k with these columns, which waking a task reads
 abbrev pub wakers : Tasks → List ℕ → List Bool → List ℕ → Tasks
@@ -49,19 +54,19 @@ wakingOf left seat joined rings wakes woken = record { line = lineOf left seat j
 -- what the tick is lent; waker, suspended and priority are the tasks'
 abbrev pub lentLine : State → List ℕ → List ℕ → List ℕ → List ℕ → List ℕ → List Bool → List ℕ → ℕ → State
 lentLine s left seat joined rings waker suspended priority running =
-    stateOf (lineOf left seat joined rings) (wakers (s .tasks) waker suspended priority) (s .semaphores) (s .pools) running
+    stateOf (lineOf left seat joined rings) (wakers (s .tasks) waker suspended priority) (s .semaphores) (s .pools) (s .queues) running
 
 -- what the task calls are lent
 abbrev pub lentTasks : State → List ℕ → List ℕ → List ℕ → List ℕ → List ℕ → List ℕ → List Bool → List Bool → List Bool → List ℕ → ℕ → State
 lentTasks s left seat joined rings name serial live started suspended priority running =
-    stateOf (lineOf left seat joined rings) (tasksOf name serial live started suspended priority) (s .semaphores) (s .pools) running
+    stateOf (lineOf left seat joined rings) (tasksOf name serial live started suspended priority) (s .semaphores) (s .pools) (s .queues) running
 
 -- what the semaphore calls are lent; waker, suspended and priority are the tasks'
 abbrev pub lentSemaphores : State → List ℕ → List ℕ → List ℕ → List ℕ → List ℕ → List Bool → List ℕ → List ℕ → List ℕ → List ℕ → List Bool → List Bool → ℕ → State
 lentSemaphores s left seat joined rings waker suspended priority name serial units live fifo running =
-    stateOf (lineOf left seat joined rings) (wakers (s .tasks) waker suspended priority) (semaphoresOf name serial units live fifo) (s .pools) running
+    stateOf (lineOf left seat joined rings) (wakers (s .tasks) waker suspended priority) (semaphoresOf name serial units live fifo) (s .pools) (s .queues) running
 
 -- what the pool calls are lent
 abbrev pub lentPools : State → List ℕ → List ℕ → List ℕ → List ℕ → List ℕ → List ℕ → List Bool → List Bool → List ℕ → ℕ → State
 lentPools s out name address length size serial live forced place running =
-    stateOf (s .line) (s .tasks) (s .semaphores) (poolsOf out name address length size serial live forced place) running
+    stateOf (s .line) (s .tasks) (s .semaphores) (poolsOf out name address length size serial live forced place) (s .queues) running

@@ -11,7 +11,7 @@ use Rattle.answers.specs.declared.Outcome.{Outcome}
 
 -- the state with another running task
 abbrev pub nowRuns : State → ℕ → State
-nowRuns s t = record { line = s .line; tasks = s .tasks; semaphores = s .semaphores; pools = s .pools; running = t }
+nowRuns s t = record { line = s .line; tasks = s .tasks; semaphores = s .semaphores; pools = s .pools; queues = s .queues; running = t }
 
 -- "An answer is a status, four values (0 where none is named), the wake list (task and status, in order) and the running task
 -- after it, 0 if none": what an outcome says, beside the state, the wake list and the running task

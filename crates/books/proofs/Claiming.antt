@@ -21,7 +21,7 @@ use Rattle.scope.specs.Waiting.{waits}
 use Rattle.scope.proofs.Seats.{ahead-from}
 use Rattle.laws.proofs.Branches.{true-or-false, eq-or-not, not-of-false, picked-yes, picked-no}
 use Rattle.laws.proofs.Arrays.{inside}
-use Rattle.seats.specs.Rule.{In, Queues}
+use Rattle.seats.specs.Rule.{In, AllSeated}
 use Rattle.seats.proofs.Leaving.{leaves-out}
 use Rattle.seats.proofs.Joining.{joins-is, joins-in}
 use Rattle.seats.proofs.Counting.{standing-le}
@@ -42,11 +42,11 @@ pub apart-slots : (a b t u : ℕ) → t < 64 → u < 64 → identifier a t ≡ i
 apart-slots a b t u h l e = omega arith
 
 -- who waits has a slot
-pub waits-room : (s : State) → Queues (s .line .seat) → (i t : ℕ) → WaitsFor s i t → t < 32
+pub waits-room : (s : State) → AllSeated (s .line .seat) → (i t : ℕ) → WaitsFor s i t → t < 32
 waits-room s rule i t w = inside 32 (s .line .seat) t (rule .tasks) (λ z. omega (arith, z, w .0))
 
 -- task t, which stands nowhere, joins the queue above o: all others stay
-pub joins-others : (q key : List ℕ) (t o x : ℕ) → Queues q → o % 64 ≡ 0 → (b : ℕ) → b % 64 ≡ 0 → (u : ℕ) → (u ≡ t → ⊥) → In q b u → In (joins q key t o x) b u
+pub joins-others : (q key : List ℕ) (t o x : ℕ) → AllSeated q → o % 64 ≡ 0 → (b : ℕ) → b % 64 ≡ 0 → (u : ℕ) → (u ≡ t → ⊥) → In q b u → In (joins q key t o x) b u
 joins-others q key t o x rule level b flat u ne a =
     let small : getD q u 0 ≤ b + standing q b = rule .seated b flat .small u a in
     let few = standing-le q b in
@@ -57,7 +57,7 @@ joins-others q key t o x rule level b flat u ne a =
     (joins-is q key t o x u ne)
 
 -- What is told after the caller, in slot r, joined queue i. `line` is where tasks stand then.
-module _ (p : ℕ) (s : State) (line : Line) (y : Turn) (past : List Turn) (told : Arrivals) (ok : Waiters p s past told) (rule : Queues (s .line .seat))
+module _ (p : ℕ) (s : State) (line : Line) (y : Turn) (past : List Turn) (told : Arrivals) (ok : Waiters p s past told) (rule : AllSeated (s .line .seat))
     (times : length (told .time) ≡ 32) (r i : ℕ) (room : r < 32) (hi : i < 16)
     (called : isAnswer 11 PENDING y ≡ true)
     (mine : y .event .a ≡ semId s i)

@@ -100,7 +100,7 @@ module _ (p : ℕ) (s : State) (ok : Sound s) (past : List Turn) (told : Arrival
   waited-live i h t w =
       let v : (v : Waits (s .line) (s .tasks) (objectsOf s) t) × (v .on ≡ i) =
       queue-waits (s .line) (s .tasks) (objectsOf s) (ok .line) t (waits-room s (ok .line .queues) i t w) i (omega arith) w in
-      sym (sem-live (s .semaphores) i h) ∙ subst (λ (j : ℕ). objectsOf s .live j ≡ true) (v .1) (v .0 .alive)
+      sym (sem-live (s .semaphores) (s .queues) i h) ∙ subst (λ (j : ℕ). objectsOf s .live j ≡ true) (v .1) (v .0 .alive)
 
   live-names : (i : ℕ) → i < 16 → getD (s .semaphores .live) i false ≡ true → SemaphoreAt s (semId s i) i
   live-names i h live =
@@ -158,7 +158,7 @@ module _ (p : ℕ) (s : State) (ok : Sound s) (past : List Turn) (told : Arrival
         c
 
     option : isFifo past (semId s i) ≡ objectsOf s .fifo i
-    option = ag .fifo i h (waited-live i h t a) ∙ sym (sem-fifo (s .semaphores) i h)
+    option = ag .fifo i h (waited-live i h t a) ∙ sym (sem-fifo (s .semaphores) (s .queues) i h)
 
     pub precedes-told : PrecedesBySlot s told i t u → Precedes p past (semId s i) (taskId s t) (taskId s u)
     precedes-told c =

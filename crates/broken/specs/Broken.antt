@@ -12,37 +12,41 @@ use Rattle.scope.specs.declared.Line.{Line}
 use Rattle.scope.specs.declared.Tasks.{Tasks}
 use Rattle.scope.specs.declared.Semaphores.{Semaphores}
 use Rattle.scope.specs.declared.Pools.{Pools}
+use Rattle.scope.specs.declared.Queues.{Queues}
 use Rattle.scope.specs.Choice.{pick}
 use Rattle.scope.specs.Seats.{queueSeats, ringSeats}
+use Rattle.scope.specs.Views.{withQueues}
 use Rattle.scope.specs.Answers.{noWakes}
 use Rattle.scope.specs.Waiting.{FOREVER}
 use Rattle.scope.specs.Statuses.{OK, BAD-STATE}
-use Rattle.scope.specs.Objects.{objectsOf}
-use Rattle.scope.specs.Rules.{seatsRight, ringsRight, readyOrderRight, waitsRight, queuesSorted, countsRight, startsRight, tasksRight, semsRight, poolsRight, ordersRight, poolsApart, runningRight}
+use Rattle.scope.specs.Objects.{queueObject, objectsOf}
+use Rattle.scope.specs.Rules.{seatsRight, ringsRight, readyOrderRight, waitsRight, queuesSorted, countsRight, heldRight, startsRight}
+use Rattle.scope.specs.Rules.{tasksRight, semsRight, queuesRight, poolsRight, ordersRight, poolsApart, runningRight}
 use Rattle.scope.specs.Places.{newRow}
 use Rattle.scope.specs.Step.{stepped}
 use Rattle.cases.specs.Cases.{same}
 
 -- Tasks 0 and 1, of priority 5, are ready, and 0 runs; 2 waits for semaphore 0, with 2 ticks left, and behind it 3, which is
--- suspended, for ever; 4 is suspended, 5 not started, and 6 is deleted.
+-- suspended, for ever; 4 is suspended, 5 not started, and 6 is deleted; 7 waits for queue 0, with 9 ticks left, and behind it 8.
 abbrev goodLine : Line
 goodLine =
     record {
-      left = 0 ∷ 0 ∷ 2 ∷ FOREVER ∷ replicate 28 0;
-      seat = (ringSeats 5 + 1) ∷ (ringSeats 5 + 2) ∷ (queueSeats 0 + 1) ∷ (queueSeats 0 + 2) ∷ replicate 28 0;
-      joined = 0 ∷ 0 ∷ 8 ∷ 6 ∷ replicate 28 0;
+      left = 0 ∷ 0 ∷ 2 ∷ FOREVER ∷ 0 ∷ 0 ∷ 0 ∷ 9 ∷ FOREVER ∷ replicate 23 0;
+      seat = (ringSeats 5 + 1) ∷ (ringSeats 5 + 2) ∷ (queueSeats 0 + 1) ∷ (queueSeats 0 + 2) ∷ 0 ∷ 0 ∷ 0
+          ∷ (queueSeats (queueObject 0) + 1) ∷ (queueSeats (queueObject 0) + 2) ∷ replicate 23 0;
+      joined = 0 ∷ 0 ∷ 8 ∷ 6 ∷ 0 ∷ 0 ∷ 0 ∷ 4 ∷ 3 ∷ replicate 23 0;
       rings = 32 ∷ [];
     }
 
 abbrev goodTasks : Tasks
 goodTasks =
     record {
-      name = 0 ∷ 11 ∷ 12 ∷ 13 ∷ 14 ∷ 15 ∷ replicate 26 0;
-      serial = 1 ∷ 1 ∷ 1 ∷ 1 ∷ 1 ∷ 1 ∷ 2 ∷ replicate 25 0;
-      live = true ∷ true ∷ true ∷ true ∷ true ∷ true ∷ replicate 26 false;
-      started = true ∷ true ∷ true ∷ true ∷ true ∷ replicate 27 false;
+      name = 0 ∷ 11 ∷ 12 ∷ 13 ∷ 14 ∷ 15 ∷ 0 ∷ 17 ∷ 18 ∷ replicate 23 0;
+      serial = 1 ∷ 1 ∷ 1 ∷ 1 ∷ 1 ∷ 1 ∷ 2 ∷ 1 ∷ 1 ∷ replicate 23 0;
+      live = true ∷ true ∷ true ∷ true ∷ true ∷ true ∷ false ∷ true ∷ true ∷ replicate 23 false;
+      started = true ∷ true ∷ true ∷ true ∷ true ∷ false ∷ false ∷ true ∷ true ∷ replicate 23 false;
       suspended = false ∷ false ∷ false ∷ true ∷ true ∷ replicate 27 false;
-      priority = 5 ∷ 5 ∷ 8 ∷ 6 ∷ 3 ∷ 2 ∷ replicate 26 0;
+      priority = 5 ∷ 5 ∷ 8 ∷ 6 ∷ 3 ∷ 2 ∷ 0 ∷ 4 ∷ 3 ∷ replicate 23 0;
     }
 
 -- semaphore 0 has waiters, 1 is FIFO and has count 3, and 2 is deleted
@@ -72,24 +76,47 @@ goodPools =
       place = 0 ∷ 1 ∷ replicate 62 0 ++ (2 ∷ 1 ∷ drop 2 (newRow 64) ++ replicate 384 0);
     }
 
-abbrev pub good : State
-good = record { line = goodLine; tasks = goodTasks; semaphores = goodSemaphores; pools = goodPools; running = 0 }
+-- queue 0 has waiters and so holds nothing; 1 is FIFO, and holds the two messages that are its most; 2 is deleted
+abbrev goodQueues : Queues
+goodQueues =
+    record {
+      name = 41 ∷ 42 ∷ replicate 6 0;
+      serial = 1 ∷ 1 ∷ 1 ∷ replicate 5 0;
+      live = true ∷ true ∷ replicate 6 false;
+      fifo = false ∷ true ∷ replicate 6 false;
+      limits = 16 ∷ 64 ∷ 2 ∷ 1 ∷ replicate 12 0;
+      held = 0 ∷ 2 ∷ replicate 6 0;
+    }
 
--- the good state with another line, other tasks, semaphores, pools, another running task
+abbrev pub good : State
+good =
+    record {
+      line = goodLine;
+      tasks = goodTasks;
+      semaphores = goodSemaphores;
+      pools = goodPools;
+      queues = goodQueues;
+      running = 0;
+    }
+
+-- the good state with another line, other tasks, semaphores, pools, queues, another running task
 abbrev aLine : Line → State
-aLine l = record { line = l; tasks = goodTasks; semaphores = goodSemaphores; pools = goodPools; running = 0 }
+aLine l = record { line = l; tasks = goodTasks; semaphores = goodSemaphores; pools = goodPools; queues = goodQueues; running = 0 }
 
 abbrev aTable : Tasks → State
-aTable k = record { line = goodLine; tasks = k; semaphores = goodSemaphores; pools = goodPools; running = 0 }
+aTable k = record { line = goodLine; tasks = k; semaphores = goodSemaphores; pools = goodPools; queues = goodQueues; running = 0 }
 
 abbrev semaphores : Semaphores → State
-semaphores m = record { line = goodLine; tasks = goodTasks; semaphores = m; pools = goodPools; running = 0 }
+semaphores m = record { line = goodLine; tasks = goodTasks; semaphores = m; pools = goodPools; queues = goodQueues; running = 0 }
 
 abbrev pools : Pools → State
-pools p = record { line = goodLine; tasks = goodTasks; semaphores = goodSemaphores; pools = p; running = 0 }
+pools p = record { line = goodLine; tasks = goodTasks; semaphores = goodSemaphores; pools = p; queues = goodQueues; running = 0 }
+
+abbrev queues : Queues → State
+queues u = withQueues good u
 
 abbrev runs : ℕ → State
-runs t = record { line = goodLine; tasks = goodTasks; semaphores = goodSemaphores; pools = goodPools; running = t }
+runs t = record { line = goodLine; tasks = goodTasks; semaphores = goodSemaphores; pools = goodPools; queues = goodQueues; running = t }
 
 -- Column n of a table, and in its slot i another number or mark if it is the column that is meant.
 abbrev numbers : ℕ → ℕ → ℕ → ℕ → List ℕ → List ℕ
@@ -220,6 +247,40 @@ forced i b = poolsWith 7 i 0 b
 abbrev placed : ℕ → ℕ → ℕ → State
 placed i k x = poolsWith 8 (i * 64 + k) x false
 
+-- of queue i
+abbrev queuesWith : ℕ → ℕ → ℕ → Bool → State
+queuesWith meant i x b =
+    queues
+    (record {
+      name = numbers meant i x 0 (goodQueues .name);
+      serial = numbers meant i x 1 (goodQueues .serial);
+      live = marks meant i b 2 (goodQueues .live);
+      fifo = marks meant i b 3 (goodQueues .fifo);
+      limits = numbers meant i x 4 (goodQueues .limits);
+      held = numbers meant i x 5 (goodQueues .held);
+    })
+
+abbrev queueName : ℕ → ℕ → State
+queueName i x = queuesWith 0 i x false
+
+abbrev queueSerial : ℕ → ℕ → State
+queueSerial i x = queuesWith 1 i x false
+
+abbrev queueLive : ℕ → Bool → State
+queueLive i b = queuesWith 2 i 0 b
+
+abbrev queueFifo : ℕ → Bool → State
+queueFifo i b = queuesWith 3 i 0 b
+
+abbrev most : ℕ → ℕ → State
+most i x = queuesWith 4 (2 * i) x false
+
+abbrev longest : ℕ → ℕ → State
+longest i x = queuesWith 4 (2 * i + 1) x false
+
+abbrev held : ℕ → ℕ → State
+held i x = queuesWith 5 i x false
+
 -- a rule, and states that break it
 pub record Broken : Type 0 where
   pub rule : State → Bool
@@ -242,25 +303,33 @@ broken =
     ∷ breaks (λ s. readyOrderRight (s .line) (s .tasks))
     (seat 1 0 ∷ seat 4 (ringSeats 3 + 1) ∷ seat 5 (ringSeats 2 + 1) ∷ seat 6 (ringSeats 0 + 1)
     ∷ seat 1 (ringSeats 4 + 1) ∷ priority 1 4 ∷ [])
-    -- "Each waiting task stands once in one live semaphore's queue": a deleted semaphore's, one past the last, none;
+    -- "Each waiting task stands once in one live semaphore's queue", or a queue's (M-100): a deleted semaphore's, one never made,
+    -- a deleted queue's, one past the last, none;
     -- "with a time_out left of 1 to 65,535 or FOREVER, and its joining priority": 0, 65,536, priority 16;
     -- "the waiting fields of a task that doesn't wait": of one ready, one suspended, one not started, one deleted
     ∷ breaks (λ s. waitsRight (s .line) (objectsOf s .live))
-    (seat 3 (queueSeats 2 + 1) ∷ seat 3 (queueSeats 16 + 1) ∷ seat 3 1 ∷ semLive 0 false
-    ∷ left 2 0 ∷ left 2 65536 ∷ joined 2 16
+    (seat 3 (queueSeats 2 + 1) ∷ seat 3 (queueSeats 15 + 1) ∷ semLive 0 false
+    ∷ seat 8 (queueSeats (queueObject 2) + 1) ∷ seat 8 (queueSeats (queueObject 8) + 1) ∷ queueLive 0 false ∷ seat 3 1
+    ∷ left 2 0 ∷ left 2 65536 ∷ joined 2 16 ∷ left 7 0 ∷ joined 7 16
     ∷ left 0 1 ∷ joined 0 1 ∷ left 4 FOREVER ∷ joined 5 2 ∷ left 6 1 ∷ [])
     -- "those not FIFO never rise in joining priority"
-    ∷ breaks (λ s. queuesSorted (s .line) (objectsOf s .fifo)) (joined 3 9 ∷ [])
+    ∷ breaks (λ s. queuesSorted (s .line) (objectsOf s .fifo)) (joined 3 9 ∷ joined 8 5 ∷ [])
     -- "A queue with n tasks, n above 0, has count −n": units beside waiters; "an empty queue has count 0 to 32,767": 32,768
     ∷ breaks (λ s. countsRight (s .line) (s .semaphores)) (units 0 1 ∷ units 1 32768 ∷ [])
+    -- M-100, "a queue with waiters holds nothing": it holds one; "any other only what sends can leave": one more than its most
+    ∷ breaks (λ s. heldRight (s .line) (s .queues)) (held 0 1 ∷ held 1 3 ∷ [])
     -- "Tasks not started neither wait nor are suspended."
-    ∷ breaks (λ s. startsRight (s .line) (s .tasks)) (started 2 false ∷ suspended 5 true ∷ [])
+    ∷ breaks (λ s. startsRight (s .line) (s .tasks)) (started 2 false ∷ started 7 false ∷ suspended 5 true ∷ [])
     -- "Serials, priorities and options are in range.": live with serial 0, priority 16; "A slot without a live object holds its
     -- last serial (0 if none) and otherwise zeros": a name, started, suspended, a priority, all that task 4 had
     ∷ breaks (λ s. tasksRight (s .tasks))
     (taskSerial 5 0 ∷ priority 5 16 ∷ taskName 6 1 ∷ started 6 true ∷ suspended 6 true ∷ priority 6 1 ∷ taskLive 4 false ∷ [])
     -- the same for semaphores
     ∷ breaks (λ s. semsRight (s .semaphores)) (semSerial 1 0 ∷ semName 2 1 ∷ fifo 2 true ∷ units 2 1 ∷ semLive 1 false ∷ [])
+    -- the same for queues, and M-100, "most messages (1 to 16), longest message (1 to 64)": 0 and one above, of each
+    ∷ breaks (λ s. queuesRight (s .queues))
+    (queueSerial 1 0 ∷ queueName 2 1 ∷ queueFifo 2 true ∷ most 2 1 ∷ longest 2 1 ∷ held 2 1 ∷ queueLive 1 false
+    ∷ most 0 0 ∷ most 0 17 ∷ longest 0 0 ∷ longest 0 65 ∷ [])
     -- the same for pools; "Each live pool is one that creation admits": an area without length, one past the end, buffers of size
     -- 0, no buffer, 65 buffers; "marks of buffers past a pool's number"
     ∷ breaks (λ s. poolsRight (s .pools))
@@ -299,7 +368,10 @@ sameState s r =
     && (same (s .pools .length) (r .pools .length) && (same (s .pools .size) (r .pools .size)
     && (same (s .pools .serial) (r .pools .serial) && (sameMarks (s .pools .live) (r .pools .live)
     && (sameMarks (s .pools .forced) (r .pools .forced) && (same (s .pools .place) (r .pools .place)
-    && eqb (s .running) (r .running))))))))))))))))))))))))
+    && (same (s .queues .name) (r .queues .name) && (same (s .queues .serial) (r .queues .serial)
+    && (sameMarks (s .queues .live) (r .queues .live) && (sameMarks (s .queues .fifo) (r .queues .fifo)
+    && (same (s .queues .limits) (r .queues .limits) && (same (s .queues .held) (r .queues .held)
+    && eqb (s .running) (r .running))))))))))))))))))))))))))))))
 
 -- BAD_STATE: "four zero values, an empty wake list, and the given state back; its running task is .. 0 with BAD_STATE"
 abbrev pub isRefusal : State → Answer → Bool

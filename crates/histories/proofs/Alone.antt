@@ -1,5 +1,6 @@
 -- What a call leaves alone: only sem_create, sem_delete, sem_claim and sem_release change semaphores, and only pool_create,
--- pool_delete, pool_get_buff and pool_ret_buff change pools. A part of the state, by the deeds that may touch it.
+-- pool_delete, pool_get_buff and pool_ret_buff change pools, and none changes queues. A part of the state, by the deeds that may
+-- touch it.
 -- Assumes nothing.
 use Prim.Native.Nat.{ℕ}
 use mathlib.Core.Path.{_≡_, refl, _∙_}
@@ -72,3 +73,7 @@ module _ (s : State) where
     pub pools-alone : Spared x 14 15 17 18 → SamePools (answerTo s x)
     pools-alone n =
         spared (λ r. r .pools) s x (λ r k. refl) (λ r l. refl) (λ m v c. refl) (λ at m. refl) (λ p v c. absurd (not-pools c n))
+
+    -- no call changes the table of queues yet (M-100)
+    pub queues-alone : answerTo s x .state .queues ≡ s .queues
+    queues-alone = spared (λ r. r .queues) s x (λ r k. refl) (λ r l. refl) (λ m v c. refl) (λ at m. refl) (λ p v c. refl)

@@ -14,6 +14,7 @@ use Rattle.scope.specs.declared.State.{State}
 use Rattle.scope.specs.declared.Line.{Line}
 use Rattle.scope.specs.declared.Tasks.{Tasks}
 use Rattle.scope.specs.declared.Semaphores.{Semaphores}
+use Rattle.scope.specs.declared.Queues.{Queues}
 use Rattle.scope.specs.declared.Waking.{Waking}
 use Rattle.scope.specs.declared.Answer.{Answer}
 use Rattle.scope.specs.Statuses.{OK, PENDING}
@@ -30,7 +31,7 @@ use Rattle.scope.proofs.Rows.{by-choice}
 use Rattle.scope.proofs.Counts.{plusOne, lessOne, waiter-more}
 use Rattle.scope.proofs.Waiters as waiters
 use Rattle.scope.proofs.Waiters.{countIn}
-use Rattle.seats.specs.Rule.{In, Queues}
+use Rattle.seats.specs.Rule.{In, AllSeated}
 use Rattle.seats.proofs.Counting.{standing-is, standing-le}
 use Rattle.seats.proofs.Leaving.{length-leaves, leaves-out, leaves-others}
 use Rattle.seats.proofs.Joining.{length-joins, joins-seated}
@@ -59,7 +60,7 @@ module _ (l : Line) (k : Tasks) (m : Objects) (ok : LineSound l k m) (i : ℕ) (
   joined : (t key : ℕ) → t < 32 → Ready l k t → standing (joins (leaves (l .seat) t) (l .joined) t (queueSeats i) key) (queueSeats i) ≡ standing (l .seat) (queueSeats i) + 1
   joined t key h ready =
       let q : List ℕ = leaves (l .seat) t in
-      let rule : Queues q = leaves-keeps (l .seat) (ok .queues) (seats-low l k m ok) t in
+      let rule : AllSeated q = leaves-keeps (l .seat) (ok .queues) (seats-low l k m ok) t in
       standing-is (joins q (l .joined) t (queueSeats i) key) (queueSeats i) _ (length-joins q (l .joined) t (queueSeats i) key ∙ rule .tasks)
       (joins-seated q (l .joined) t (queueSeats i) key (standing q (queueSeats i)) (rule .tasks) h (leaves-out (l .seat) t)
       (rule .seated (queueSeats i) (omega arith)))
@@ -69,9 +70,9 @@ module _ (l : Line) (k : Tasks) (m : Objects) (ok : LineSound l k m) (i : ℕ) (
       (λ e. omega arith) (standing (l .seat) (queueSeats i)) (ok .queues .tasks) (ok .queues .seated (queueSeats i) (omega arith))))
 
 -- "timed out": at its slot a tick finds that nothing is left of its time_out
-pub timed-out-count : (k : Tasks) (m : Semaphores) (w : Waking) (i t : ℕ) → LineSound (w .line) k (objects m) → i < 16 → t < 32 → In (w .line .seat) (queueSeats i) t
+pub timed-out-count : (k : Tasks) (m : Semaphores) (u : Queues) (w : Waking) (i t : ℕ) → LineSound (w .line) k (objects m u) → i < 16 → t < 32 → In (w .line .seat) (queueSeats i) t
     → isDue (w .line) t ≡ true → count (wakeDue k 1 t w .line) m i ≡ plusOne (count (w .line) m i)
-timed-out-count k m w i t ok hi h at due = waiters.timed-out-gives-back k m w i t (waiter (w .line) k (objects m) ok i hi t h at) due
+timed-out-count k m u w i t ok hi h at due = waiters.timed-out-gives-back k m w i t (waiter (w .line) k (objects m u) ok i hi t h at) due
 
 module _ (s : State) (ok : Sound s) (i : ℕ) (hi : i < 16) where
   fits : i < length (s .semaphores .units)

@@ -83,7 +83,7 @@ module _ (s : State) (ok : Sound s) where
   -- "tasks wait only when the count is negative, and then its size is their number"
   pub waiting-negative : (i : ℕ) → i < 16 → WaitingNegative s i
   waiting-negative i h =
-      let z = no-units (s .line) (s .tasks) (s .semaphores) (ok .line) i h in
+      let z = no-units (s .line) (s .tasks) (s .semaphores) (s .queues) (ok .line) i h in
       record {
         waiting = waiting-below _ _ z;
         some = λ e. below-waiting _ _ z e .0;

@@ -14,7 +14,7 @@ use Rattle.scope.specs.Views.{readyWith, less}
 use Rattle.scope.specs.Areas.{isArea, isSize, buffersOf, shareByte, isOut, isFree, freeOf}
 use Rattle.scope.specs.Places.{rowOf, onPlace}
 use Rattle.scope.specs.Waiting.{isTimeOut}
-use Rattle.scope.specs.Rules.{seatRight, seatsRight, ringsRight, readyRight, readyOrderRight, waitRight, waitsRight, joinedRight, queuesSorted, countRight, countsRight, startRight, startsRight, taskRight, tasksRight, semRight, semsRight, admitted, poolRight, poolsRight, placeRight, orderRight, ordersRight, pairShares, poolsApart, runningRight, keeps, sound}
+use Rattle.scope.specs.Rules.{seatRight, seatsRight, ringsRight, readyRight, readyOrderRight, waitRight, waitsRight, joinedRight, queuesSorted, countRight, countsRight, holdsRight, heldRight, startRight, startsRight, taskRight, tasksRight, semRight, semsRight, queueRight, queuesRight, admitted, poolRight, poolsRight, placeRight, orderRight, ordersRight, pairShares, poolsApart, runningRight, keeps, sound}
 use Rattle.scope.specs.Fresh.{freshState, fresh}
 use Rattle.scope.proofs.Rows.{by-choice}
 use Rattle.laws.proofs.Searches.{every-at}
@@ -22,7 +22,7 @@ use Rattle.histories.specs.Sound.{Sized, Sound}
 use Rattle.histories.proofs.Meaning.{sound-says}
 
 fresh-passes : every (λ p. sound (freshState p)) 16 ≡ true
-unfolding pick least every number bits leadingZeros waitsOn onSeat standsIn standing holdsTask ringMask runnerOf readyWith less isArea isSize buffersOf shareByte isOut isFree freeOf rowOf onPlace isTimeOut seatRight seatsRight ringsRight readyRight readyOrderRight waitRight waitsRight joinedRight queuesSorted countRight countsRight startRight startsRight taskRight tasksRight semRight semsRight admitted poolRight poolsRight placeRight orderRight ordersRight pairShares poolsApart runningRight keeps sound freshState
+unfolding pick least every number bits leadingZeros waitsOn onSeat standsIn standing holdsTask ringMask runnerOf readyWith less isArea isSize buffersOf shareByte isOut isFree freeOf rowOf onPlace isTimeOut seatRight seatsRight ringsRight readyRight readyOrderRight waitRight waitsRight joinedRight queuesSorted countRight countsRight holdsRight heldRight startRight startsRight taskRight tasksRight semRight semsRight queueRight queuesRight admitted poolRight poolsRight placeRight orderRight ordersRight pairShares poolsApart runningRight keeps sound freshState
 fresh-passes = refl
 
 fresh-sized : (p : ℕ) → Sized (freshState p)
@@ -43,6 +43,7 @@ fresh-sized p =
         forceds = refl;
         places = refl;
       };
+      queues = record { names = refl; serials = refl; lives = refl; fifos = refl; limitss = refl; helds = refl };
     }
 
 pub fresh-sound : (p : ℕ) → p ≤ 15 → Sound (freshState p)

@@ -2,7 +2,7 @@
 -- Assumes nothing.
 use Prim.Native.Nat.{ℕ, _+_, _-_, _%_, _≤_, _<_}
 use native.Mathlib.Omega.{arith}
-use mathlib.Core.Path.{_≡_, refl, sym, ap, _∙_}
+use mathlib.Core.Path.{_≡_, refl, sym, subst, ap, _∙_}
 use mathlib.Core.Logic.{_⊎_, inl, inr, ⊎-elim}
 use mathlib.Core.Bool.{Bool, true, false, not, _&&_}
 use mathlib.Core.List.{List, [], _∷_}
@@ -15,8 +15,9 @@ use Rattle.scope.specs.declared.Tasks.{Tasks}
 use Rattle.scope.specs.declared.Semaphores.{Semaphores}
 use Rattle.scope.specs.Seats.{queueSeats, waitsOn, queueOf, standing, ringMask, maskOf}
 use Rattle.scope.specs.Views.{readyWith, waitersOf, count}
-use Rattle.scope.specs.Objects.{objectsEnd, Objects, objectsOf}
-use Rattle.scope.specs.Rules.{seatsRight, ringsRight, readyRight, readyOrderRight, waitRight, waitsRight, joinedRight, queuesSorted, countRight, countsRight, startRight, startsRight, taskRight, tasksRight, semRight, semsRight, poolRight, poolsRight, orderRight, ordersRight, poolsApart, runningRight, orderRules, tableRules, keeps, sound}
+use Rattle.scope.specs.Objects.{objectsEnd, queueObject, Objects, objectsOf}
+use Rattle.scope.specs.Queues.{mostOf}
+use Rattle.scope.specs.Rules.{seatsRight, ringsRight, readyRight, readyOrderRight, waitRight, waitsRight, joinedRight, queuesSorted, countRight, countsRight, holdsRight, heldRight, startRight, startsRight, taskRight, tasksRight, semRight, semsRight, queueRight, queuesRight, poolRight, poolsRight, orderRight, ordersRight, poolsApart, runningRight, orderRules, tableRules, keeps, sound}
 use Rattle.scope.proofs.Counts.{right-says, says-right}
 use Rattle.laws.proofs.Branches.{both, both-true, first-fails, second-fails, not-of-true, not-of-false, true-false, true-or-false, lt-or-le}
 use Rattle.laws.proofs.Searches.{every-yes, every-at}
@@ -25,13 +26,13 @@ use Rattle.scope.specs.Pools.{poolBuffers, poolRow}
 use Rattle.scope.proofs.Buffers.{buffers-few}
 use Rattle.scope.proofs.Places.{length-row}
 use Rattle.places.proofs.Orders.{order-says, order-right}
-use Rattle.seats.specs.Rule.{In, Sorted, Queues}
+use Rattle.seats.specs.Rule.{In, Sorted, AllSeated}
 use Rattle.seats.proofs.Rule.{queues-from-rule, rule-from-queues}
 use Rattle.seats.proofs.Sorting.{steps-from-sorted, sorted-from-steps}
-use Rattle.histories.specs.Sound.{Waits, Ready, Stands, LineSound, TaskSound, TasksSound, SemSound, SemsSound, PoolsSound, Sound, Sized}
-use Rattle.histories.proofs.Tests.{chosen-yes, chosen-no, choose, waits-is, waits-says, ready-says, idle-says, ready-right, start-says, start-right, wait-says, rest-says, wait-right, joined-says, joined-right}
+use Rattle.histories.specs.Sound.{Waits, Ready, Stands, LineSound, TaskSound, TasksSound, SemSound, SemsSound, PoolsSound, QueuesSound, Sound, Sized}
+use Rattle.histories.proofs.Tests.{chosen-yes, chosen-no, choose, waits-is, waits-says, ready-says, idle-says, ready-right, start-says, start-right, wait-says, rest-says, wait-right, joined-says, joined-right, holds-says, holds-right}
 use Rattle.histories.proofs.Ruled.{Row, rows, row-holds, none, more, each-keeps, sound-keeps, keeps-sound}
-use Rattle.histories.proofs.Objects.{sem-stock, no-stock, no-units}
+use Rattle.histories.proofs.Objects.{sem-stock, queue-stock, no-stock, no-units, holds-nothing}
 
 -- a seat that nobody waits on
 waits-not : (x : ℕ) → (x ≡ 0) ⊎ (2048 ≤ x) → waitsOn x ≡ false
@@ -176,7 +177,7 @@ module _ (l : Line) (k : Tasks) (m : Objects) (t : ℕ) where
       ))
 
 -- a queue by joining priority: a test of each task says it of each pair
-module _ (l : Line) (k : Tasks) (m : Objects) (queues : Queues (l .seat)) where
+module _ (l : Line) (k : Tasks) (m : Objects) (queues : AllSeated (l .seat)) where
   sorted-says : queuesSorted l (m .fifo) ≡ true → (i : ℕ) → i < objectsEnd → m .fifo i ≡ false → Sorted (l .seat) (l .joined) (queueSeats i)
   unfolding queuesSorted
   sorted-says e i b f =
@@ -271,7 +272,7 @@ module _ (s : State) (sized : Sized s) (orders : keeps orderRules s ≡ true) (t
   table-rule : (rule : State → Bool) → Row rule tableRules → rule s ≡ true
   table-rule rule row = row-holds tableRules s tables rule row
 
-  says-queues : Queues (s .line .seat)
+  says-queues : AllSeated (s .line .seat)
   says-queues = queues-from-rule (s .line .seat) (sized .line .seats) (order-rule (λ x. seatsRight (x .line .seat)) (search rows depth 12))
 
   start-at : (t : ℕ) → t < 32 → StartRight (s .line) (s .tasks) (objectsOf s) t
@@ -303,10 +304,26 @@ module _ (s : State) (sized : Sized s) (orders : keeps orderRules s ≡ true) (t
       right-says (waitersOf (s .line) i) (getD (s .semaphores .units) i 0)
       (every-at (λ j. countRight (waitersOf (s .line) j) (count (s .line) (s .semaphores) j)) 16 (order-rule (λ x. countsRight (x .line) (x .semaphores)) (search rows depth 12)) i h)
 
+  held-at : (i : ℕ) → i < 8
+      → (getD (s .queues .held) i 0 ≤ mostOf (s .queues) i)
+      × (0 < standing (s .line .seat) (queueSeats (queueObject i)) → getD (s .queues .held) i 0 ≡ 0)
+  unfolding heldRight
+  held-at i h =
+      holds-says (waitersOf (s .line) (queueObject i)) (getD (s .queues .held) i 0) (mostOf (s .queues) i)
+      (every-at (λ j. holdsRight (waitersOf (s .line) (queueObject j)) (getD (s .queues .held) j 0) (mostOf (s .queues) j)) 8
+      (order-rule (λ x. heldRight (x .line) (x .queues)) (search rows depth 12)) i h)
+
   -- an object that tasks wait for has no stock
   stock-at : (i : ℕ) → i < objectsEnd → 0 < standing (s .line .seat) (queueSeats i) → objectsOf s .stock i ≡ 0
   stock-at i h some =
-      ⊎-elim (λ l. sem-stock (s .semaphores) i l ∙ count-at i l .1 some) (no-stock (s .semaphores) i (sized .semaphores .unitss)) (lt-or-le i 16)
+      ⊎-elim (λ l. sem-stock (s .semaphores) (s .queues) i l ∙ count-at i l .1 some)
+      (λ l. ⊎-elim (λ r. of-queue (i - 16) (omega arith) (omega (arith, l, r)) some) (no-stock (s .semaphores) (s .queues) i (sized .queues .helds)) (lt-or-le i 24))
+      (lt-or-le i 16)
+    where
+      of-queue : (j : ℕ) → i ≡ queueObject j → j < 8 → 0 < standing (s .line .seat) (queueSeats i) → objectsOf s .stock i ≡ 0
+      of-queue j e r some =
+          ap (objectsOf s .stock) e ∙ queue-stock (s .semaphores) (s .queues) j
+          ∙ held-at j r .1 (subst (λ (v : ℕ). 0 < standing (s .line .seat) (queueSeats v)) e some)
 
   says-rings : s .line .rings ≡ ringMask (s .line .seat) ∷ []
   unfolding ringsRight
@@ -358,6 +375,15 @@ module _ (s : State) (sized : Sized s) (orders : keeps orderRules s ≡ true) (t
         apart = table-rule (λ x. poolsApart (x .pools)) (search rows depth 12);
       }
 
+  says-queue-table : QueuesSound (s .queues)
+  unfolding queuesRight
+  says-queue-table =
+      record {
+        sized = sized .queues;
+        each = every-at (queueRight (s .queues)) 8 (table-rule (λ x. queuesRight (x .queues)) (search rows depth 12));
+        held = λ i h. held-at i h .0;
+      }
+
   held-says : Sound s
   unfolding runningRight
   held-says =
@@ -366,6 +392,7 @@ module _ (s : State) (sized : Sized s) (orders : keeps orderRules s ≡ true) (t
         tasks = says-tasks;
         semaphores = says-sems;
         pools = says-pools;
+        queues = says-queue-table;
         running = eqb-true _ _ (order-rule (λ x. runningRight x) (search rows depth 12));
       }
 
@@ -375,7 +402,7 @@ sound-says s sized e = let h = sound-keeps s e in held-says s sized (h .0) (h .1
 -- and back, a row each
 module _ (s : State) (h : Sound s) where
   orders-right : keeps orderRules s ≡ true
-  unfolding ringsRight readyOrderRight waitsRight queuesSorted countsRight startsRight runningRight
+  unfolding ringsRight readyOrderRight waitsRight queuesSorted countsRight heldRight startsRight runningRight
   orders-right =
       each-keeps orderRules s
       (more (rule-from-queues (s .line .seat) (h .line .queues))
@@ -383,21 +410,23 @@ module _ (s : State) (h : Sound s) where
       (more (every-yes _ 32 (λ t l. stands-ready (s .line) (s .tasks) (objectsOf s) t (h .line .stands t l)))
       (more (every-yes _ 32 (λ t l. stands-wait (s .line) (s .tasks) (objectsOf s) t (h .line .stands t l)))
       (more (every-yes _ 32 (λ t l. sorted-right (s .line) (s .tasks) (objectsOf s) (h .line .queues) t (h .line .stands t l) (h .line .sorted)))
-      (more (every-yes _ 16 (λ i l. says-right (waitersOf (s .line) i) _ (h .semaphores .each i l .units) (no-units (s .line) (s .tasks) (s .semaphores) (h .line) i l)))
+      (more (every-yes _ 16 (λ i l. says-right (waitersOf (s .line) i) _ (h .semaphores .each i l .units) (no-units (s .line) (s .tasks) (s .semaphores) (s .queues) (h .line) i l)))
+      (more (every-yes _ 8 (λ i l. holds-right (waitersOf (s .line) (queueObject i)) _ _ (h .queues .held i l) (holds-nothing (s .line) (s .tasks) (s .semaphores) (s .queues) (h .line) i l)))
       (more (every-yes _ 32 (λ t l. stands-start (s .line) (s .tasks) (objectsOf s) t (h .tasks .each t l .suspended) (h .line .stands t l)))
       (more (eq-eqb _ _ (h .running))
-      none))))))))
+      none)))))))))
 
   tables-right : keeps tableRules s ≡ true
-  unfolding tasksRight semsRight poolsRight ordersRight
+  unfolding tasksRight semsRight queuesRight poolsRight ordersRight
   tables-right =
       each-keeps tableRules s
       (more (every-yes _ 32 (λ t l. task-right (s .tasks) t (h .tasks .each t l)))
       (more (every-yes _ 16 (λ i l. sem-right (s .semaphores) i (h .semaphores .each i l)))
+      (more (every-yes _ 8 (h .queues .each))
       (more (every-yes _ 8 (h .pools .each))
       (more (every-yes _ 8 (λ i l. order-right (h .pools .orders i l)))
       (more (h .pools .apart)
-      none)))))
+      none))))))
 
   pub sound-right : sound s ≡ true
   sound-right = keeps-sound s orders-right tables-right

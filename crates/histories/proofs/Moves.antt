@@ -21,7 +21,7 @@ use Rattle.scope.specs.Views.{withSeats, withWait}
 use Rattle.scope.specs.Waiting.{isTimeOut, queueKey, waits, wokenSeats, wokenRings, wake}
 use Rattle.laws.proofs.Branches.{lt-or-le, eq-or-not, picked-yes, picked-no, both, both-true, true-false}
 use Rattle.laws.proofs.Arrays.{inside}
-use Rattle.seats.specs.Rule.{In, Sorted, Queues}
+use Rattle.seats.specs.Rule.{In, Sorted, AllSeated}
 use Rattle.seats.proofs.Counting.{standing-is, standing-le}
 use Rattle.seats.proofs.Apart.{untouched-sorted}
 use Rattle.seats.proofs.Leaving.{length-leaves, leaves-out, leaves-nowhere, leaves-is, leaves-seated, leaves-sorted, leaves-others, leaves-others-sorted}
@@ -37,7 +37,7 @@ unfolding ringsLeft maskLeft
 rings-stay rings q t h = ap (set rings 0) (picked-yes (ltb (getD q t 0) 2048) _ _ (lt-ltb _ _ h)) ∙ set-getD rings 0 0
 
 -- Seats: what becomes of everybody else when task t leaves.
-module _ (q : List ℕ) (rule : Queues q) (low : (u : ℕ) → In q 0 u → ⊥) (t : ℕ) where
+module _ (q : List ℕ) (rule : AllSeated q) (low : (u : ℕ) → In q 0 u → ⊥) (t : ℕ) where
   leaves-by : (P : List ℕ → Type 0) → P q → (0 < getD q t 0 → P (leaves q t)) → P (leaves q t)
   leaves-by P same other =
       ⊎-elim other (λ h. subst P (sym (leaves-nowhere q t (omega arith) low)) same) (lt-or-le 0 (getD q t 0))
@@ -96,7 +96,7 @@ module _ (q : List ℕ) (rule : Queues q) (low : (u : ℕ) → In q 0 u → ⊥)
       (eq-or-not o b))
 
 -- And when task t, which stands nowhere, joins the queue above o.
-module _ (q key : List ℕ) (t o p : ℕ) (rule : Queues q) (room : t < 32) (out : getD q t 0 ≡ 0) (level : o % 64 ≡ 0) where
+module _ (q key : List ℕ) (t o p : ℕ) (rule : AllSeated q) (room : t < 32) (out : getD q t 0 ≡ 0) (level : o % 64 ≡ 0) where
   joins-zero : (u : ℕ) → (u ≡ t → ⊥) → getD q u 0 ≡ 0 → getD (joins q key t o p) u 0 ≡ 0
   joins-zero u ne z = ⊎-elim (λ s. absurd (omega arith)) (λ s. s .1 ∙ z) (joins-is q key t o p u ne)
 
@@ -182,7 +182,7 @@ stands-other l r k j m t same agree u ne =
 pub record Out (l : Line) (k : Tasks) (m : Objects) (t : ℕ) : Type 0 where
   pub lefts : length (l .left) ≡ 32
   pub joineds : length (l .joined) ≡ 32
-  pub queues : Queues (l .seat)
+  pub queues : AllSeated (l .seat)
   pub rings : l .rings ≡ ringMask (l .seat) ∷ []
   pub others : (u : ℕ) → u < 32 → (u ≡ t → ⊥) → Stands l k m u
   pub sorted : (i : ℕ) → i < objectsEnd → m .fifo i ≡ false → Sorted (l .seat) (l .joined) (queueSeats i)

@@ -1,7 +1,7 @@
 -- "a release answered OK that finds waiters grants the one none precedes", in every history from a fresh state: each queue is in
 -- order, and a release wakes the task on its first seat.
 -- Assumes nothing.
-use Prim.Native.Nat.{ℕ, suc, _+_, _<_}
+use Prim.Native.Nat.{ℕ, suc, _+_, _-_, _<_}
 use native.Mathlib.Omega.{arith}
 use native.Mathlib.Nat.{eq-or-lt-of-le}
 use mathlib.Core.Path.{_≡_, refl, sym, subst, ap, _∙_}
@@ -17,7 +17,7 @@ use Rattle.scope.specs.declared.Fresh.{Fresh}
 use Rattle.scope.specs.declared.Found.{Found}
 use Rattle.scope.specs.Statuses.{OK}
 use Rattle.scope.specs.Seats.{queueSeats, firstOf}
-use Rattle.scope.specs.Objects.{objectsEnd, objects, objectsOf}
+use Rattle.scope.specs.Objects.{objectsEnd, ofObject, objects, objectsOf}
 use Rattle.scope.specs.Views.{waitersOf}
 use Rattle.scope.specs.Answers.{answer, plain, badState, wakesWith, onFound}
 use Rattle.scope.specs.Waiting.{wakeNext}
@@ -66,8 +66,11 @@ getD-same n i a =
     ⊎-elim (λ h. getD-replicate n i a a h) (λ h. List·getD-eq-default (replicate n a) a (omega (arith, length-replicate n a))) (lt-or-le i n)
 
 fresh-dead : (p i : ℕ) → objectsOf (fresh p .state) .live i ≡ false
-unfolding fresh freshState objects
-fresh-dead p i = by-choice (λ (f : Fresh). objectsOf (f .state) .live i ≡ false) (ltb 15 p) (λ e. getD-same 16 i false) (λ e. getD-same 16 i false)
+unfolding fresh freshState objects ofObject
+fresh-dead p i = by-choice (λ (f : Fresh). objectsOf (f .state) .live i ≡ false) (ltb 15 p) (λ e. none) (λ e. none)
+  where
+    none : ofObject (replicate 16 false) (replicate 8 false) false i ≡ false
+    none = by-choice (λ (b : Bool). b ≡ false) (ltb i 16) (λ e. getD-same 16 i false) (λ e. getD-same 8 (i - 16) false)
 
 fresh-nobody : (p i : ℕ) → i < objectsEnd → (t : ℕ) → In (fresh p .state .line .seat) (queueSeats i) t → ⊥
 fresh-nobody p i h =

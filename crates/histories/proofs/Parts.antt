@@ -11,17 +11,17 @@ use Rattle.histories.specs.Sound.{LineSound, TasksSound, SemsSound, Soun
 
 module _ (s : State) (ok : Sound s) where
   -- tasks stand elsewhere, and the tables of tasks and semaphores may change with it; who runs is told anew
-  pub all-sound : (l : Line) (k : Tasks) (m : Semaphores) → LineSound l k (objects m) → TasksSound k → SemsSound m
+  pub all-sound : (l : Line) (k : Tasks) (m : Semaphores) → LineSound l k (objects m (s .queues)) → TasksSound k → SemsSound m
       → Sound (withLine (withTasks (withSemaphores s m) k) l)
-  all-sound l k m line tasks sems = record { line = line; tasks = tasks; semaphores = sems; pools = ok .pools; running = refl }
+  all-sound l k m line tasks sems = record { line = line; tasks = tasks; semaphores = sems; pools = ok .pools; queues = ok .queues; running = refl }
 
   -- tasks stand elsewhere
   pub line-sound : (l : Line) → LineSound l (s .tasks) (objectsOf s) → Sound (withLine s l)
-  line-sound l line = record { line = line; tasks = ok .tasks; semaphores = ok .semaphores; pools = ok .pools; running = refl }
+  line-sound l line = record { line = line; tasks = ok .tasks; semaphores = ok .semaphores; pools = ok .pools; queues = ok .queues; running = refl }
 
   -- tasks stand where they stood, and a table changes
   pub tasks-sound : (k : Tasks) → LineSound (s .line) k (objectsOf s) → TasksSound k → Sound (withTasks s k)
-  tasks-sound k line tasks = record { line = line; tasks = tasks; semaphores = ok .semaphores; pools = ok .pools; running = ok .running }
+  tasks-sound k line tasks = record { line = line; tasks = tasks; semaphores = ok .semaphores; pools = ok .pools; queues = ok .queues; running = ok .running }
 
-  pub semaphores-sound : (m : Semaphores) → LineSound (s .line) (s .tasks) (objects m) → SemsSound m → Sound (withSemaphores s m)
-  semaphores-sound m line sems = record { line = line; tasks = ok .tasks; semaphores = sems; pools = ok .pools; running = ok .running }
+  pub semaphores-sound : (m : Semaphores) → LineSound (s .line) (s .tasks) (objects m (s .queues)) → SemsSound m → Sound (withSemaphores s m)
+  semaphores-sound m line sems = record { line = line; tasks = ok .tasks; semaphores = sems; pools = ok .pools; queues = ok .queues; running = ok .running }

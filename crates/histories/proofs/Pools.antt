@@ -230,6 +230,7 @@ pools-kept p sound h =
       tasks = sound .tasks;
       semaphores = sound .semaphores;
       pools = h;
+      queues = sound .queues;
       running = sound .running;
     }
 

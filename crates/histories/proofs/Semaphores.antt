@@ -132,14 +132,14 @@ module _ (s : State) (ok : Sound s) where
         let d : LineSound (w .line) (s .tasks) (objectsOf s) × (standing (w .line .seat) (queueSeats i) ≡ 0) =
         all-woken (s .tasks) (objectsOf s) i (omega arith) 32 (noneWoken (s .line)) (ok .line) (standing-le (s .line .seat) (queueSeats i)) in
         all-sound s ok (w .line) (s .tasks) (semGone (s .semaphores) i)
-        (empty-changes (w .line) (s .tasks) (objectsOf s) (d .0) i _ (gone-elsewhere (s .semaphores) i) (d .1))
+        (empty-changes (w .line) (s .tasks) (objectsOf s) (d .0) i _ (gone-elsewhere (s .semaphores) (s .queues) i) (d .1))
         (ok .tasks)
         (gone-sems (s .semaphores) (ok .semaphores) i hi)
 
     units-sound : (n : ℕ) → n ≤ 32767 → standing (s .line .seat) (queueSeats i) ≡ 0 → Sound (withSemaphores s (withUnits (s .semaphores) i n))
     units-sound n fits none =
         semaphores-sound s ok (withUnits (s .semaphores) i n)
-        (empty-changes (s .line) (s .tasks) (objectsOf s) (ok .line) i _ (units-elsewhere (s .semaphores) i n) none)
+        (empty-changes (s .line) (s .tasks) (objectsOf s) (ok .line) i _ (units-elsewhere (s .semaphores) (s .queues) i n) none)
         (units-sems (s .semaphores) (ok .semaphores) i hi n fits alive)
 
     -- the running task waits for it, which has no unit
@@ -149,9 +149,9 @@ module _ (s : State) (ok : Sound s) where
         let r : Ready (s .line) (s .tasks) (s .running) = runs-ready s ok h in
         line-sound s ok _
         (subst (λ (f : Bool). LineSound (waits (s .line) i f (getD (s .tasks .priority) (s .running) 0) ticks (s .running)) (s .tasks) (objectsOf s))
-        (sem-fifo (s .semaphores) i hi)
+        (sem-fifo (s .semaphores) (s .queues) i hi)
         (waits-sound (s .line) (s .tasks) (objectsOf s) (ok .line) (s .running) h i (getD (s .tasks .priority) (s .running) 0) ticks r (omega arith)
-        (sem-live (s .semaphores) i hi ∙ alive) (sem-stock (s .semaphores) i hi ∙ none) time
+        (sem-live (s .semaphores) (s .queues) i hi ∙ alive) (sem-stock (s .semaphores) (s .queues) i hi ∙ none) time
         (started-priority (s .tasks) (s .running) (ok .tasks) h (r .started))))
 
     -- the first who waits for it is woken
@@ -171,16 +171,16 @@ module _ (s : State) (ok : Sound s) where
       let l : i < length serial = leb-false (length serial) i g in
       let h : i < 16 = omega (arith, l, ok .semaphores .sized .serials) in
       semaphores-sound s ok (semBorn (s .semaphores) i (x .a) (x .b) (eqb (x .c) 1))
-      (empty-changes (s .line) (s .tasks) (objectsOf s) (ok .line) i _ (born-elsewhere (s .semaphores) i (x .a) (x .b) (eqb (x .c) 1))
+      (empty-changes (s .line) (s .tasks) (objectsOf s) (ok .line) i _ (born-elsewhere (s .semaphores) (s .queues) i (x .a) (x .b) (eqb (x .c) 1))
       (dead-empty (s .line) (s .tasks) (objectsOf s) (ok .line) i (omega arith)
-      (sem-live (s .semaphores) i h ∙ usable-free serial live i (usable-at serial live l))))
+      (sem-live (s .semaphores) (s .queues) i h ∙ usable-free serial live i (usable-at serial live l))))
       (born-sems (s .semaphores) (ok .semaphores) i h (x .a) (x .b) (eqb (x .c) 1) (ltb-false lastCount (x .b) e))
   sem-sound x (unit-claimed at i e f) =
       let n : ℕ = getD (s .semaphores .units) i 0 in
       let a = named-slot (x .a) i e in
       let some : 0 < n = ltb-true 0 n f in
       units-sound i (a .0) (a .1) (n - 1) (omega (arith, ok .semaphores .each i (a .0) .units))
-      (⊎-elim (λ c. absurd (omega (arith, some, no-units (s .line) (s .tasks) (s .semaphores) (ok .line) i (a .0) c))) (λ c. omega arith)
+      (⊎-elim (λ c. absurd (omega (arith, some, no-units (s .line) (s .tasks) (s .semaphores) (s .queues) (ok .line) i (a .0) c))) (λ c. omega arith)
       (lt-or-le 0 (standing (s .line .seat) (queueSeats i))))
   sem-sound x (unit-released at i e f g) =
       let t : ℕ = firstOf (s .line .seat) (queueSeats i) in

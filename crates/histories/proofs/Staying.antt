@@ -20,14 +20,14 @@ use Rattle.scope.specs.Views.{withWait}
 use Rattle.scope.specs.Waiting.{wokenSeats, wake, wakeNext, wakeAll}
 use Rattle.scope.specs.Ticks.{ticked, isDue, wakeDue}
 use Rattle.laws.proofs.Branches.{lt-or-le}
-use Rattle.seats.specs.Rule.{In, Queues}
+use Rattle.seats.specs.Rule.{In, AllSeated}
 use Rattle.seats.proofs.Leaving.{Lowered, leaves-out, leaves-nowhere, leaves-is}
 use Rattle.seats.proofs.Joining.{joins-untouched}
 use Rattle.seats.proofs.Rule.{stands-in, leaves-keeps, joins-queues}
 
 -- seats that say queues, and none of them below the first queue
 pub record Good (q : List ℕ) : Type 0 where
-  pub queues : Queues q
+  pub queues : AllSeated q
   pub low : (u : ℕ) → In q 0 u → ⊥
 
 -- who stands in a queue below the rings, by seats r, stood there by seats q, and in the same order

@@ -8,15 +8,15 @@ use mathlib.Core.Bool.{Bool, true, false, not, _&&_}
 use mathlib.Core.List.{List}
 use lib.ListN.{getD}
 use lib.Dec.{ltb, leb, eqb}
-use borrow.Author.Tests.{lt-ltb, le-leb, eq-eqb, ltb-true, leb-true, eqb-true, not-true}
+use borrow.Author.Tests.{lt-ltb, le-ltb, le-leb, eq-eqb, ltb-true, leb-true, eqb-true, not-true}
 use Rattle.scope.specs.declared.Tasks.{Tasks}
 use Rattle.scope.specs.Choice.{pick}
 use Rattle.scope.specs.Seats.{ringSeats, waitsOn, queueOf, onSeat}
 use Rattle.scope.specs.Views.{readyWith}
 use Rattle.scope.specs.Waiting.{isTimeOut}
-use Rattle.scope.specs.Rules.{readyRight, waitRight, joinedRight, startRight, taskRight}
+use Rattle.scope.specs.Rules.{readyRight, waitRight, joinedRight, holdsRight, startRight, taskRight}
 use Rattle.scope.proofs.Rows.{by-choice}
-use Rattle.laws.proofs.Branches.{picked-yes, picked-no, both, both-true, not-of-false, true-or-false}
+use Rattle.laws.proofs.Branches.{picked-yes, picked-no, both, both-true, not-of-false, true-or-false, lt-or-le}
 
 pub chosen-yes : (b x y : Bool) → pick b x y ≡ true → b ≡ true → x ≡ true
 chosen-yes b x y e h = sym (picked-yes b x y h) ∙ e
@@ -108,6 +108,22 @@ module _ (q joined : List ℕ) (fifo : ℕ → Bool) (x priority : ℕ) where
       (λ e. let b = both-true (waitsOn x) _ e in
       choose (fifo (queueOf x)) (λ a. refl) (λ a. le-leb _ _ (f (b .0) (ltb-true _ _ (b .1)) a)))
       (λ e. refl)
+
+-- what a queue holds, by whether tasks wait for it
+module _ (n held most : ℕ) where
+  pub holds-says : holdsRight n held most ≡ true → (held ≤ most) × (0 < n → held ≡ 0)
+  unfolding holdsRight
+  holds-says e = (
+    ⊎-elim (λ h. omega (arith, none h)) (λ h. leb-true _ _ (chosen-no (ltb 0 n) _ _ e (le-ltb 0 n h))) (lt-or-le 0 n),
+    none,
+  )
+    where
+      none : 0 < n → held ≡ 0
+      none h = eqb-true _ _ (chosen-yes (ltb 0 n) _ _ e (lt-ltb 0 n h))
+
+  pub holds-right : held ≤ most → (0 < n → held ≡ 0) → holdsRight n held most ≡ true
+  unfolding holdsRight
+  holds-right l f = choose (ltb 0 n) (λ e. eq-eqb _ _ (f (ltb-true 0 n e))) (λ e. le-leb _ _ l)
 
 -- a slot's priority is in range
 pub task-range : (k : Tasks) (t : ℕ) → taskRight k t ≡ true → getD (k .priority) t 0 ≤ 15

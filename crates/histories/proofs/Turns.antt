@@ -92,7 +92,7 @@ broken-goes s = passes refl same
 -- nobody waits for a semaphore that is not live
 pub no-waiters : (s : State) → Sound s → (i : ℕ) → i < 16 → getD (s .semaphores .live) i false ≡ false → (t : ℕ) → In (s .line .seat) (queueSeats i) t → ⊥
 no-waiters s ok i hi dead =
-    dead-nobody (s .line) (s .tasks) (objectsOf s) (ok .line) i (omega arith) (sem-live (s .semaphores) i hi ∙ dead)
+    dead-nobody (s .line) (s .tasks) (objectsOf s) (ok .line) i (omega arith) (sem-live (s .semaphores) (s .queues) i hi ∙ dead)
 
 module _ (s : State) (ok : Sound s) where
   abbrev l : Line
@@ -124,8 +124,8 @@ module _ (s : State) (ok : Sound s) where
   slot-room id i e = omega (arith, found-below (m .serial) (m .live) id e, ok .semaphores .sized .serials)
 
   -- a slot where nobody stands in the queue changes
-  slot-passes : (r : Line) (n : Semaphores) (i : ℕ) → Fewer l r → Elsewhere (objects m) (objects n) i → ((t : ℕ) → In (r .seat) (queueSeats i) t → ⊥)
-      → Passes l (objects m .fifo) r (objects n .fifo)
+  slot-passes : (r : Line) (n : Semaphores) (i : ℕ) → Fewer l r → Elsewhere (objects m (s .queues)) (objects n (s .queues)) i → ((t : ℕ) → In (r .seat) (queueSeats i) t → ⊥)
+      → Passes l (objects m (s .queues) .fifo) r (objects n (s .queues) .fifo)
   slot-passes r n i f same none =
       record {
         line = f;
@@ -153,15 +153,15 @@ module _ (s : State) (ok : Sound s) where
           joined = λ o a b u h. refl;
         }
 
-    sem-passes : {n : Semaphores} {v : ℕ} → SemChange s x n v → Passes l (objects m .fifo) l (objects n .fifo)
+    sem-passes : {n : Semaphores} {v : ℕ} → SemChange s x n v → Passes l (objects m (s .queues) .fifo) l (objects n (s .queues) .fifo)
     sem-passes (sem-created at e f g) =
         let h : newSemaphore s < length (m .serial) = leb-false (length (m .serial)) (newSemaphore s) g in
         slot-passes l _ (newSemaphore s) (fewer-same l)
-        (born-elsewhere m (newSemaphore s) _ _ _)
+        (born-elsewhere m (s .queues) (newSemaphore s) _ _ _)
         (no-waiters s ok (newSemaphore s) (omega (arith, h, ok .semaphores .sized .serials))
         (usable-free (m .serial) (m .live) (newSemaphore s) (usable-at (m .serial) (m .live) h)))
-    sem-passes (unit-claimed at i e f) = subst (λ (f : ℕ → Bool). Passes l (objects m .fifo) l f) (sym (units-fifo m i _)) same
-    sem-passes (unit-released at i e f g) = subst (λ (f : ℕ → Bool). Passes l (objects m .fifo) l f) (sym (units-fifo m i _)) same
+    sem-passes (unit-claimed at i e f) = subst (λ (f : ℕ → Bool). Passes l (objects m (s .queues) .fifo) l f) (sym (units-fifo m (s .queues) i _)) same
+    sem-passes (unit-released at i e f g) = subst (λ (f : ℕ → Bool). Passes l (objects m (s .queues) .fifo) l f) (sym (units-fifo m (s .queues) i _)) same
 
     deed-goes : {a : Answer} → Deed s x a → Goes s a
     unfolding plain answer wakesWith semDeleteAt tick
@@ -177,14 +177,14 @@ module _ (s : State) (ok : Sound s) where
         let p : ℕ = getD (k .priority) (s .running) 0 in
         arrived-goes refl
         (λ told n before.
-        subst (λ (f : Bool). Ordered (waits l i f p (x .c) (s .running)) (objectsOf s .fifo) (arrival told (s .running) n p) (suc n)) (sem-fifo m i hi)
+        subst (λ (f : Bool). Ordered (waits l i f p (x .c) (s .running)) (objectsOf s .fifo) (arrival told (s .running) n p) (suc n)) (sem-fifo m (s .queues) i hi)
         (waits-ordered l k (objectsOf s) (ok .line) (s .running) h (runs-ready s ok h) i p (x .c) (omega arith) told n before))
     deed-goes (first-woken at i e f) = passes refl (moved (next-fewer k (noneWoken l) (firstOf (l .seat) (queueSeats i)) (ltb-true _ 32 f) good))
     deed-goes (sem-deleted at i e) =
         let hi : i < 16 = slot-room (x .a) i e in
         passes refl
         (slot-passes _ _ i (all-fewer k i 32 (noneWoken l) good)
-        (gone-elsewhere m i)
+        (gone-elsewhere m (s .queues) i)
         (no-waiters (semDeleteAt s i .state) (sem-delete-at s ok i hi (found-live (m .serial) (m .live) (x .a) e)) i hi
         (getD-set-same (m .live) i false false (omega (arith, ok .semaphores .sized .lives)))))
     deed-goes (time-passes at) =

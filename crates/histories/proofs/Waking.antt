@@ -18,14 +18,14 @@ use Rattle.scope.specs.Seats.{queueSeats, firstOf, standing}
 use Rattle.scope.specs.Waiting.{wakeNext, wakeAll}
 use Rattle.laws.proofs.Branches.{lt-or-le, eq-or-not, true-false}
 use Rattle.laws.proofs.Arrays.{inside}
-use Rattle.seats.specs.Rule.{In, Sorted, Queues}
+use Rattle.seats.specs.Rule.{In, Sorted, AllSeated}
 use Rattle.seats.proofs.First.{on-seat, first-is}
 use Rattle.histories.specs.Sound.{Waits, LineSound}
 use Rattle.histories.proofs.Objects.{Elsewhere}
 use Rattle.histories.proofs.Moves.{wake-sound, wake-standing, queue-waits}
 
 -- nobody stands in an empty queue
-nobody : (q : List ℕ) (o t : ℕ) → Queues q → o % 64 ≡ 0 → standing q o ≡ 0 → In q o t → ⊥
+nobody : (q : List ℕ) (o t : ℕ) → AllSeated q → o % 64 ≡ 0 → standing q o ≡ 0 → In q o t → ⊥
 nobody q o t rule level none at = omega (arith, rule .seated o level .small t at, at .0)
 
 module _ (l : Line) (k : Tasks) (m : Objects) (line : LineSound l k m) (i : ℕ) where

@@ -12,13 +12,15 @@ use Rattle.scope.specs.declared.Line.{Line}
 use Rattle.scope.specs.declared.Tasks.{Tasks}
 use Rattle.scope.specs.declared.Semaphores.{Semaphores}
 use Rattle.scope.specs.declared.Pools.{Pools}
+use Rattle.scope.specs.declared.Queues.{Queues}
 use Rattle.scope.specs.Seats.{queueSeats, ringSeats, standing, ringMask, maskOf, runnerOf}
 use Rattle.scope.specs.Objects.{objectsEnd, Objects, objectsOf}
 use Rattle.scope.specs.Waiting.{isTimeOut}
 use Rattle.scope.specs.Pools.{poolBuffers, poolRow}
-use Rattle.scope.specs.Rules.{poolRight, poolsApart}
+use Rattle.scope.specs.Queues.{mostOf}
+use Rattle.scope.specs.Rules.{queueRight, poolRight, poolsApart}
 use Rattle.places.specs.Order.{Ordered}
-use Rattle.seats.specs.Rule.{In, Sorted, Queues}
+use Rattle.seats.specs.Rule.{In, Sorted, AllSeated}
 
 -- The arrays have the sizes that document 01's room sets: true of every state that the code can hold.
 pub record LineSized (l : Line) : Type 0 where
@@ -53,11 +55,20 @@ pub record PoolsSized (p : Pools) : Type 0 where
   pub forceds : length (p .forced) ≡ 8
   pub places : length (p .place) ≡ 512
 
+pub record QueuesSized (u : Queues) : Type 0 where
+  pub names : length (u .name) ≡ 8
+  pub serials : length (u .serial) ≡ 8
+  pub lives : length (u .live) ≡ 8
+  pub fifos : length (u .fifo) ≡ 8
+  pub limitss : length (u .limits) ≡ 16
+  pub helds : length (u .held) ≡ 8
+
 pub record Sized (s : State) : Type 0 where
   pub line : LineSized (s .line)
   pub tasks : TasksSized (s .tasks)
   pub semaphores : SemsSized (s .semaphores)
   pub pools : PoolsSized (s .pools)
+  pub queues : QueuesSized (s .queues)
 
 -- task t stands nowhere: it is not started, or suspended
 pub record Nowhere (l : Line) (k : Tasks) (t : ℕ) : Type 0 where
@@ -91,7 +102,7 @@ Stands l k o t = Nowhere l k t ⊎ (Waits l k o t ⊎ Ready l k t)
 pub record LineSound (l : Line) (k : Tasks) (o : Objects) : Type 0 where
   pub lefts : length (l .left) ≡ 32
   pub joineds : length (l .joined) ≡ 32
-  pub queues : Queues (l .seat)
+  pub queues : AllSeated (l .seat)
   pub rings : l .rings ≡ ringMask (l .seat) ∷ []
   pub stands : (t : ℕ) → t < 32 → Stands l k o t
   pub sorted : (i : ℕ) → i < objectsEnd → o .fifo i ≡ false → Sorted (l .seat) (l .joined) (queueSeats i)
@@ -137,9 +148,16 @@ pub record PoolsSound (p : Pools) : Type 0 where
   pub orders : (i : ℕ) → i < 8 → Ordered (poolRow p i) (getD (p .out) i 0) (poolBuffers p i)
   pub apart : poolsApart p ≡ true
 
+-- each slot of the queues is right, and no queue holds more than its most messages
+pub record QueuesSound (u : Queues) : Type 0 where
+  pub sized : QueuesSized u
+  pub each : (i : ℕ) → i < 8 → queueRight u i ≡ true
+  pub held : (i : ℕ) → i < 8 → getD (u .held) i 0 ≤ mostOf u i
+
 pub record Sound (s : State) : Type 0 where
   pub line : LineSound (s .line) (s .tasks) (objectsOf s)
   pub tasks : TasksSound (s .tasks)
   pub semaphores : SemsSound (s .semaphores)
   pub pools : PoolsSound (s .pools)
+  pub queues : QueuesSound (s .queues)
   pub running : s .running ≡ runnerOf (s .line .seat) (maskOf (s .line .rings))

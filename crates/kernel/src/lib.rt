@@ -3,13 +3,14 @@
 use answers::Outcome;
 use scope::Line;
 use scope::Pools;
+use scope::Queues;
 use scope::Semaphores;
 use scope::State;
 use scope::Tasks;
 ghost use mathlib.Core.Path.{_≡_};
 ghost use mathlib.Core.Bool.{true, false};
 ghost use Prim.Native.Nat.{_<_};
-ghost use Rattle.scope.specs.Fresh.{freshTasks, freshLine, noSemaphores, noPools, freshState, fresh};
+ghost use Rattle.scope.specs.Fresh.{freshTasks, freshLine, noSemaphores, noPools, noQueues, freshState, fresh};
 ghost use Rattle.scope.specs.Rules.{sound};
 ghost use Rattle.scope.specs.Step.{answered};
 ghost use Rattle.scope.specs.Statuses.{BAD-STATE};
@@ -84,6 +85,19 @@ fn no_pools() -> Pools
     }
 }
 
+fn no_queues() -> Queues
+    ensures { λ r. ⌜ r ≡ noQueues ⌝ }
+{
+    Queues {
+        name: [0; 8],
+        serial: [0; 8],
+        live: [false; 8],
+        fifo: [false; 8],
+        limits: [0; 16],
+        held: [0; 8],
+    }
+}
+
 fn fresh_state(priority: u8) -> State
     requires { ⌜ priority < 16 ⌝ }
     ensures { λ r. ⌜ r ≡ freshState priority ⌝ }
@@ -93,6 +107,7 @@ fn fresh_state(priority: u8) -> State
         tasks: fresh_tasks(priority),
         semaphores: no_semaphores(),
         pools: no_pools(),
+        queues: no_queues(),
         running: 0,
     }
 }
@@ -166,6 +181,7 @@ pub fn is_sound(s: &mut State) -> bool
     lending::orders_kept(s)
         & lending::tasks_right(s)
         & lending::sems_right(s)
+        & lending::queues_right(s)
         & lending::pools_kept(s)
 }
 

@@ -31,6 +31,9 @@ use Rattle.scope.proofs.Semaphores.Laws as Q′
 use Rattle.scope.specs.declared.Pools.{Pools}
 use Rattle.scope.proofs.Pools as P
 use Rattle.scope.proofs.Pools.Laws as P′
+use Rattle.scope.specs.declared.Queues.{Queues}
+use Rattle.scope.proofs.Queues as U
+use Rattle.scope.proofs.Queues.Laws as U′
 use Rattle.lending.proofs.Lending.{Col, members, columns, same, lie, joined}
 
 abbrev pub msS : List Member
@@ -108,6 +111,24 @@ madeP x = record { out = x .0; name = x .1 .0; address = x .1 .1 .0; length = x 
 pub isP : (x : Pools) → P.the-type .to x ≡ heldP x
 isP x = λ i. (same (x .out) i, (same (x .name) i, (same (x .address) i, (same (x .length) i, (same (x .size) i, (same (x .serial) i, (same (x .live) i, (same (x .forced) i, (same (x .place) i, tt)))))))))
 
+abbrev pub msU : List Member
+msU = members (U.the-type .parts)
+
+abbrev pub csU : ℕ → List Col
+csU o = columns msU 0 (o + 1448)
+
+abbrev pub XsU : Type 0
+XsU = List ℕ × (List ℕ × (List Bool × (List Bool × (List ℕ × (List ℕ × Unit {0})))))
+
+abbrev pub heldU : Queues → XsU
+heldU x = (x .name, (x .serial, (x .live, (x .fifo, (x .limits, (x .held, tt))))))
+
+abbrev pub madeU : XsU → Queues
+madeU x = record { name = x .0; serial = x .1 .0; live = x .1 .1 .0; fifo = x .1 .1 .1 .0; limits = x .1 .1 .1 .1 .0; held = x .1 .1 .1 .1 .1 .0 }
+
+pub isU : (x : Queues) → U.the-type .to x ≡ heldU x
+isU x = λ i. (same (x .name) i, (same (x .serial) i, (same (x .live) i, (same (x .fifo) i, (same (x .limits) i, (same (x .held) i, tt))))))
+
 module _ {M : Type 1} (𝓤 : URA M) (H : Heap 𝓤) (A : Atoms 𝓤) (W : Given 𝓤 H A) (b o : ℕ) where
   abbrev pub Back : SProp 𝓤
   Back = PartsBack 𝓤 H A fullShare (S.the-type .name) msS b o
@@ -167,3 +188,15 @@ module _ {M : Type 1} (𝓤 : URA M) (H : Heap 𝓤) (A : Atoms 𝓤) (W : Given
 
   pub togetherP : (x : Pools) → ent 𝓤 (sep 𝓤 (sem 𝓤 H A (lie b (csP o) (P.the-type .to x))) BackP) (sem 𝓤 H A (AtP x))
   togetherP x = joined 𝓤 H A W b (o + 712) (P.the-type .name) msP (P.the-type .to x)
+
+  abbrev pub BackU : SProp 𝓤
+  BackU = PartsBack 𝓤 H A fullShare (U.the-type .name) msU b (o + 1448)
+
+  abbrev pub AtU : Queues → Fml
+  AtU x = partAt (Struct (shapeOf (U.the-type .name) msU)) fullShare (U.the-type .to x) b (o + 1448)
+
+  pub apartU : (x : Queues) → ent 𝓤 (sem 𝓤 H A (AtU x)) (sep 𝓤 (sem 𝓤 H A (lie b (csU o) (U.the-type .to x))) BackU)
+  apartU x = struct-parts 𝓤 H A W fullShare (U.the-type .name) msU (LL.lawfuls 𝓤 H A W (U.the-type .parts) U′.the-laws) (U.the-type .to x) b (o + 1448)
+
+  pub togetherU : (x : Queues) → ent 𝓤 (sep 𝓤 (sem 𝓤 H A (lie b (csU o) (U.the-type .to x))) BackU) (sem 𝓤 H A (AtU x))
+  togetherU x = joined 𝓤 H A W b (o + 1448) (U.the-type .name) msU (U.the-type .to x)

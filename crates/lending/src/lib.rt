@@ -6,7 +6,7 @@ use scope::State;
 ghost use mathlib.Core.Path.{_≡_};
 ghost use Prim.Native.Nat.{_<_, _≤_};
 ghost use Rattle.scope.specs.Step.{answered};
-ghost use Rattle.scope.specs.Rules.{keeps, orderRules, tasksRight, semsRight};
+ghost use Rattle.scope.specs.Rules.{keeps, orderRules, tasksRight, semsRight, queuesRight};
 ghost use Rattle.scope.specs.Views.{runningTask};
 ghost use Rattle.answers.specs.Outcomes.{answerOf};
 ghost use Rattle.rules.specs.Lent.{poolsKept};
@@ -209,6 +209,10 @@ pub fn orders_kept(s: &mut State) -> bool
         &s.semaphores.units,
         &s.semaphores.live,
         &s.semaphores.fifo,
+        &s.queues.live,
+        &s.queues.fifo,
+        &s.queues.limits,
+        &s.queues.held,
         running,
     )
 }
@@ -237,6 +241,20 @@ pub fn sems_right(s: &mut State) -> bool
         &s.semaphores.units,
         &s.semaphores.live,
         &s.semaphores.fifo,
+    )
+}
+
+// Whether it keeps the queues' rule.
+pub fn queues_right(s: &mut State) -> bool
+    ensures { λ r. ⌜ (r ≡ queuesRight (now (s .entry) .queues)) × (now (s .exit) ≡ now (s .entry)) ⌝ }
+{
+    rules::queues_right(
+        &s.queues.name,
+        &s.queues.serial,
+        &s.queues.live,
+        &s.queues.fifo,
+        &s.queues.limits,
+        &s.queues.held,
     )
 }
 

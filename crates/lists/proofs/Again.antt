@@ -16,7 +16,7 @@ use Rattle.scope.specs.Seats.{ringSeats, queueSeats, firstRing, standing, leave
 use Rattle.scope.specs.Objects.{objectsEnd, Objects}
 use Rattle.laws.proofs.Branches.{true-false, true-or-false, eq-or-not}
 use Rattle.laws.proofs.Arrays.{inside}
-use Rattle.seats.specs.Rule.{In, Queues}
+use Rattle.seats.specs.Rule.{In, AllSeated}
 use Rattle.seats.proofs.Leaving.{leaves-out}
 use Rattle.histories.specs.Sound.{LineSound, TasksSound}
 use Rattle.histories.proofs.Moves.{seats-low, ring-ready}
@@ -66,7 +66,7 @@ module _ (q key priority : List ℕ) (good : Good q) (own : Own q priority) (t :
       let g : Good r = again-good p in
       let h : has (queueAbove r (ringSeats m)) u ≡ true =
       queue-has r (ringSeats m) (standing r (ringSeats m)) (g .queues .tasks) (g .queues .seated (ringSeats m) (omega arith)) u a in
-      let left : Queues (leaves q t) = leaves-good q good t .queues in
+      let left : AllSeated (leaves q t) = leaves-good q good t .queues in
       ⊎-elim
       (λ d. let z : ringSeats m ≡ ringSeats p = omega (arith, d) in
       ⊎-elim

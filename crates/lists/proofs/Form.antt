@@ -20,7 +20,7 @@ use Rattle.laws.proofs.Branches.{lt-or-le, true-false}
 use Rattle.seats.specs.Rule.{In}
 use Rattle.seats.proofs.First.{on-seat}
 use Rattle.histories.specs.Sound.{Sound}
-use Rattle.histories.proofs.Objects.{live-sem}
+use Rattle.histories.proofs.Objects.{live-object}
 use Rattle.lists.specs.Along.{queueAbove, firstIn}
 use Rattle.lists.specs.Rules.{readyOf, queueIn}
 use Rattle.lists.proofs.Plain.{has-says, keep-all, keep-none, keep-append}
@@ -84,11 +84,11 @@ module _ (q priority : List ℕ) (own : Own q priority) (p : ℕ) where
 record Alike (s r : State) : Type 0 where
   priorities : s .tasks .priority ≡ r .tasks .priority
   order : readyOf s ≡ readyOf r
-  queues : (i : ℕ) → i < 16 → queueIn s i ≡ queueIn r i
+  queues : (i : ℕ) → i < 24 → queueIn s i ≡ queueIn r i
 
 -- who stands somewhere in one stands there in the other
 module _ (s r : State) (ok : Sound s) (fine : Sound r) (same : Alike s r) where
-  waiter : (i t : ℕ) → i < 16 → In (s .line .seat) (queueSeats i) t → getD (s .line .seat) t 0 ≡ getD (r .line .seat) t 0
+  waiter : (i t : ℕ) → i < 24 → In (s .line .seat) (queueSeats i) t → getD (s .line .seat) t 0 ≡ getD (r .line .seat) t 0
   unfolding queue
   waiter i t h a =
       same-seat (s .line .seat) (r .line .seat) (queueSeats i) 32 1 (same .queues i h) t
@@ -111,14 +111,14 @@ module _ (s r : State) (ok : Sound s) (fine : Sound r) (same : Alike s r) where
   stands-same : (t : ℕ) → t < 32 → 0 < getD (s .line .seat) t 0 → getD (s .line .seat) t 0 ≡ getD (r .line .seat) t 0
   stands-same t room h =
       ⊎-elim (λ n. absurd (omega (arith, n .seat, h)))
-      (λ w. ⊎-elim (λ x. waiter (x .on) t (live-sem (s .semaphores) (x .on) (ok .semaphores .sized .lives) (x .alive)) (x .stands))
+      (λ w. ⊎-elim (λ x. waiter (x .on) t (live-object (s .semaphores) (s .queues) (x .on) (ok .queues .sized .lives) (x .alive)) (x .stands))
       (λ x. ready (getD (s .tasks .priority) t 0) t (range-below (s .tasks) (ok .tasks) t room) (x .stands))
       w)
       (ok .line .stands t room)
 
--- the seats are told by the lists
+-- the seats are told by the lists: the ready order, and the wait queues of the sixteen semaphores and the eight queues
 pub one-array : (s r : State) → Sound s → Sound r → s .tasks .priority ≡ r .tasks .priority → readyOf s ≡ readyOf r
-    → ((i : ℕ) → i < 16 → queueIn s i ≡ queueIn r i) → s .line .seat ≡ r .line .seat
+    → ((i : ℕ) → i < 24 → queueIn s i ≡ queueIn r i) → s .line .seat ≡ r .line .seat
 one-array s r ok fine p o w =
     ext-getD 0 (s .line .seat) (r .line .seat) (ok .line .queues .tasks ∙ sym (fine .line .queues .tasks))
     (λ t h. let room : t < 32 = omega (arith, h, ok .line .queues .tasks) in

@@ -16,7 +16,7 @@ use Rattle.scope.specs.Seats.{queueSeats, ringSeats, standing, aheadOf, seatBeh
 use Rattle.scope.proofs.Seats.{ahead-from}
 use Rattle.scope.specs.Objects.{objectsEnd}
 use Rattle.laws.proofs.Branches.{eq-or-not}
-use Rattle.seats.specs.Rule.{In, Seated, Sorted, Queues}
+use Rattle.seats.specs.Rule.{In, Seated, Sorted, AllSeated}
 use Rattle.seats.proofs.Counting.{standing-le}
 use Rattle.seats.proofs.Joining.{Raised, joins-is, joins-in, joins-behind, joins-before, joins-untouched, joins-others}
 use Rattle.seats.proofs.Rule.{joins-queues}
@@ -27,14 +27,14 @@ use Rattle.lists.proofs.Leaving.{untouched-queue}
 use Rattle.lists.proofs.Ready.{below-says}
 
 -- task t, which stands nowhere, joins the queue above o behind all whose key is p or more
-module _ (q key : List ℕ) (t o p : ℕ) (rule : Queues q) (room : t < 32) (out : getD q t 0 ≡ 0) (level : o % 64 ≡ 0) where
+module _ (q key : List ℕ) (t o p : ℕ) (rule : AllSeated q) (room : t < 32) (out : getD q t 0 ≡ 0) (level : o % 64 ≡ 0) where
   abbrev after : List ℕ
   after = joins q key t o p
 
   abbrev ahead : ℕ → Bool
   ahead u = leb p (getD key u 0)
 
-  kept : Queues after
+  kept : AllSeated after
   kept = joins-queues q key t o p rule room out level
 
   here : Seated q o (standing q o)
@@ -121,7 +121,7 @@ module _ (q key : List ℕ) (t o p : ℕ) (rule : Queues q) (room : t < 32) (out
       ∙ ap (λ (l : List ℕ). queueAbove q (ringSeats m) ++ l) (joins-other-rings m (λ k h. away k (omega arith)))
 
 -- in a semaphore's queue
-module _ (q key : List ℕ) (t i p : ℕ) (rule : Queues q) (room : t < 32) (out : getD q t 0 ≡ 0) where
+module _ (q key : List ℕ) (t i p : ℕ) (rule : AllSeated q) (room : t < 32) (out : getD q t 0 ≡ 0) where
   pub joins-queue : length key ≡ 32 → Sorted q key (queueSeats i)
       → queue (joins q key t (queueSeats i) p) i ≡ insert (λ u. leb p (getD key u 0)) t (queue q i)
   unfolding queue
@@ -143,7 +143,7 @@ module _ (q key : List ℕ) (t i p : ℕ) (rule : Queues q) (room : t < 32) (out
       joins-other-rings q key t (queueSeats i) p rule room out (omega arith) 16 (λ m l e. omega (arith, e, h))
 
 -- among the ready
-module _ (q key priority : List ℕ) (t p : ℕ) (rule : Queues q) (room : t < 32) (out : getD q t 0 ≡ 0)
+module _ (q key priority : List ℕ) (t p : ℕ) (rule : AllSeated q) (room : t < 32) (out : getD q t 0 ≡ 0)
     (own : (m u : ℕ) → In q (ringSeats m) u → getD priority u 0 ≡ m) where
   abbrev behind : ℕ → Bool
   behind u = leb p (getD priority u 0)

@@ -12,7 +12,7 @@ use lib.Dec.{eqb}
 use Rattle.scope.specs.Lists.{without}
 use Rattle.scope.specs.Seats.{queueSeats, ringSeats, standing, leaves, queue, readyBelow, readyOrder}
 use Rattle.laws.proofs.Branches.{eq-or-not, lt-or-le}
-use Rattle.seats.specs.Rule.{In, Seated, Queues}
+use Rattle.seats.specs.Rule.{In, Seated, AllSeated}
 use Rattle.seats.proofs.Apart.{Untouched}
 use Rattle.seats.proofs.Leaving.{leaves-is, leaves-untouched, leaves-others, leaves-nowhere}
 use Rattle.seats.proofs.Rule.{stands-in, leaves-queues}
@@ -35,11 +35,11 @@ module _ (q r : List ℕ) (m n : ℕ) (long : length q ≡ 32) (rule : Seated q 
       queue-has r m n size after t (omega (arith, a, same t (inl a)), omega (arith, a, same t (inl a))))
 
 -- the queue that t leaves
-module _ (q : List ℕ) (rule : Queues q) (o t : ℕ) (round : o % 64 ≡ 0) (at : In q o t) where
+module _ (q : List ℕ) (rule : AllSeated q) (o t : ℕ) (round : o % 64 ≡ 0) (at : In q o t) where
   abbrev after : List ℕ
   after = leaves q t
 
-  kept : Queues after
+  kept : AllSeated after
   kept = leaves-queues q rule t (omega (arith, at))
 
   order : (u v : ℕ) → In q o u → In q o v → (v ≡ t → ⊥) → getD q u 0 < getD q v 0 → (u ≡ t → ⊥) → getD after u 0 < getD after v 0
@@ -95,7 +95,7 @@ module _ (q : List ℕ) (rule : Queues q) (o t : ℕ) (round : o % 64 ≡ 0) (at
       ∙ sym (without-none t (queueAbove q m) (λ h. let b : In q m t = queue-says q m t h in ne (omega (arith, b, at, round, level))))
 
 -- whoever leaves, wherever it stands, as long as no queue has its seats below 63
-module _ (q : List ℕ) (rule : Queues q) (none : (u : ℕ) → In q 0 u → ⊥) (t : ℕ) where
+module _ (q : List ℕ) (rule : AllSeated q) (none : (u : ℕ) → In q 0 u → ⊥) (t : ℕ) where
   pub leaves-above : (base : ℕ) → base % 64 ≡ 0 → queueAbove (leaves q t) base ≡ without t (queueAbove q base)
   leaves-above base level =
       ⊎-elim

@@ -12,7 +12,7 @@ use lib.ListN.{getD}
 use Rattle.scope.specs.Lists.{has}
 use Rattle.scope.specs.Seats.{ringSeats, firstOf, standing, readyBelow, readyOrder, ringMask, runnerOf}
 use Rattle.laws.proofs.Branches.{true-false, lt-or-le}
-use Rattle.seats.specs.Rule.{In, Seated, Queues, Runs}
+use Rattle.seats.specs.Rule.{In, Seated, AllSeated, Runs}
 use Rattle.seats.proofs.First.{first-is, first-none, runner-none, runs-runner}
 use Rattle.lists.specs.Along.{Along, Once, NeverRising, queueAbove, firstIn}
 use Rattle.lists.proofs.Plain.{along-append, along-turn, has-append, append-first, append-second}
@@ -74,7 +74,7 @@ module _ (q : List ℕ) where
       (λ p m u v l a b. omega (arith, l, own p u a, own m v b))
       16
 
-module _ (q : List ℕ) (rule : Queues q) where
+module _ (q : List ℕ) (rule : AllSeated q) where
   ring : (p : ℕ) → Seated q (ringSeats p) (standing q (ringSeats p))
   ring p = rule .seated (ringSeats p) (omega arith)
 

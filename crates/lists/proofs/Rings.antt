@@ -104,6 +104,7 @@ masked s =
       tasks = s .tasks;
       semaphores = s .semaphores;
       pools = s .pools;
+      queues = s .queues;
       running = s .running;
     }
 
@@ -123,6 +124,8 @@ old-masked s h = (
     sorted = h .2 .sorted;
     below = h .2 .below;
     empty = h .2 .empty;
+    nothing = h .2 .nothing;
+    within = h .2 .within;
     idle = h .2 .idle;
     zeros = h .2 .zeros;
   },

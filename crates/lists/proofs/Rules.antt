@@ -12,21 +12,22 @@ use borrow.Author.Tests.{eq-eqb, eqb-true}
 use Rattle.scope.specs.declared.State.{State}
 use Rattle.scope.specs.Lists.{has}
 use Rattle.scope.specs.Seats.{queueSeats, ringSeats, firstRing, queueOf, standing, queue, maskOf, runnerOf}
-use Rattle.scope.specs.Objects.{objectsOf}
+use Rattle.scope.specs.Objects.{queueObject, objectsOf}
+use Rattle.scope.specs.Queues.{mostOf}
 use Rattle.scope.specs.Views.{Signed, less, isReady, waitersOf, count}
 use Rattle.scope.specs.Waiting.{isTimeOut}
 use Rattle.scope.specs.Semaphores.{lastCount}
-use Rattle.scope.specs.Rules.{seatsRight, ringsRight, readyRight, readyOrderRight, waitRight, waitsRight, joinedRight, queuesSorted, countRight, countsRight, startRight, startsRight, taskRight, tasksRight, runningRight, orderRules, keeps}
+use Rattle.scope.specs.Rules.{seatsRight, ringsRight, readyRight, readyOrderRight, waitRight, waitsRight, joinedRight, queuesSorted, countRight, countsRight, holdsRight, heldRight, startRight, startsRight, taskRight, tasksRight, runningRight, orderRules, keeps}
 use Rattle.scope.proofs.Counts.{minus, natural, less-below, less-above, less-negative, less-not-negative, right-says, says-right}
 use Rattle.laws.proofs.Branches.{true-false, true-or-false, lt-or-le}
 use Rattle.laws.proofs.Searches.{every-yes, every-at}
 use Rattle.laws.proofs.Arrays.{past, inside}
-use Rattle.seats.specs.Rule.{In, Sorted, Queues}
+use Rattle.seats.specs.Rule.{In, Sorted, AllSeated}
 use Rattle.seats.proofs.Rule.{queues-from-rule}
 use Rattle.seats.proofs.Sorting.{steps-from-sorted, sorted-from-steps}
 use Rattle.histories.specs.Sound.{Sized}
 use Rattle.histories.proofs.Ruled.{Row, rows, row-holds, none, more, each-keeps}
-use Rattle.histories.proofs.Tests.{waits-is, waits-says, ready-says, idle-says, ready-right, ready-started, start-says, start-right, wait-says, rest-says, wait-right, joined-says, joined-right, task-range}
+use Rattle.histories.proofs.Tests.{waits-is, waits-says, ready-says, idle-says, ready-right, ready-started, start-says, start-right, wait-says, rest-says, wait-right, joined-says, joined-right, holds-says, holds-right, task-range}
 use Rattle.lists.specs.Along.{Once, NeverRising, queueAbove, firstIn}
 use Rattle.lists.specs.Rules.{readyOf, queueIn, waiting, HoldsTheReady, PrioritiesFall, FirstRuns, StandsInOne, NoOther, JoinedFall, CountBelow, CountEmpty, Ordered, OwnRing, PrioritiesInRange}
 use Rattle.lists.proofs.Plain.{same-test, along-turn, along-at}
@@ -52,7 +53,13 @@ module _ (s : State) (sized : Sized s) (seats : seatsRight (s .line .seat) ≡ t
   abbrev units : ℕ → ℕ
   units i = getD (s .semaphores .units) i 0
 
-  rule : Queues q
+  abbrev held : ℕ → ℕ
+  held i = getD (s .queues .held) i 0
+
+  abbrev receivers : ℕ → ℕ
+  receivers i = waitersOf (s .line) (queueObject i)
+
+  rule : AllSeated q
   rule = queues-from-rule q (sized .line .seats) seats
 
   range : (t : ℕ) → priority t ≤ 15
@@ -136,6 +143,12 @@ module _ (s : State) (sized : Sized s) (seats : seatsRight (s .line .seat) ≡ t
     count-at i h =
         right-says (waitersOf (s .line) i) (units i)
         (every-at (λ j. countRight (waitersOf (s .line) j) (count (s .line) (s .semaphores) j)) 16 (kept (λ x. countsRight (x .line) (x .semaphores)) (search rows depth 12)) i h)
+
+    held-at : (i : ℕ) → i < 8 → (held i ≤ mostOf (s .queues) i) × (0 < receivers i → held i ≡ 0)
+    unfolding heldRight
+    held-at i h =
+        holds-says (receivers i) (held i) (mostOf (s .queues) i)
+        (every-at (λ j. holdsRight (receivers j) (held j) (mostOf (s .queues) j)) 8 (kept (λ x. heldRight (x .line) (x .queues)) (search rows depth 12)) i h)
 
     start-at : (t : ℕ) → t < 32 → startRight (getD (s .tasks .started) t false) (getD (s .tasks .suspended) t false) (seat t) ≡ true
     unfolding startsRight
@@ -241,6 +254,8 @@ module _ (s : State) (sized : Sized s) (seats : seatsRight (s .line .seat) ≡ t
           sorted = joined-falls;
           below = count-below;
           empty = count-empty;
+          nothing = λ i l h. held-at i l .1 (omega (arith, h, long (queueObject i)));
+          within = λ i l e. held-at i l .0;
           idle = λ t l e. start-says _ _ (seat t) (start-at t l) e;
           zeros = λ t l e. rest-says (objectsOf s .live) (seat t) _ _ (wait-at t l) e;
         }
@@ -306,6 +321,15 @@ module _ (s : State) (sized : Sized s) (seats : seatsRight (s .line .seat) ≡ t
         (⊎-elim (λ h. omega (arith, taken h)) (λ h. few-left i l (omega (arith, h))) (lt-or-le 0 (waitersOf (s .line) i)))
         taken)
 
+    held-right : heldRight (s .line) (s .queues) ≡ true
+    unfolding heldRight
+    held-right =
+        every-yes (λ i. holdsRight (receivers i) (held i) (mostOf (s .queues) i)) 8
+        (λ i l. let taken : 0 < receivers i → held i ≡ 0 = λ h. rules .nothing i l (omega (arith, h, long (queueObject i))) in
+        holds-right (receivers i) (held i) (mostOf (s .queues) i)
+        (⊎-elim (λ h. omega (arith, taken h)) (λ h. rules .within i l (omega (arith, h, long (queueObject i)))) (lt-or-le 0 (receivers i)))
+        taken)
+
     starts-right : startsRight (s .line) (s .tasks) ≡ true
     unfolding startsRight
     starts-right =
@@ -322,9 +346,10 @@ module _ (s : State) (sized : Sized s) (seats : seatsRight (s .line .seat) ≡ t
         (more waits-right
         (more sorted-right
         (more counts-right
+        (more held-right
         (more starts-right
         (more (eq-eqb _ _ (rules .running ∙ first-runs own))
-        none))))))))
+        none)))))))))
 
   -- the tests pass just if the rules hold
   pub tests-are-rules : (keeps orderRules s ≡ true) ↔ (OwnRing s × Ordered s)

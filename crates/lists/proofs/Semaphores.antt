@@ -172,7 +172,7 @@ module _ (s : State) (ok : Sound s) (i : ℕ) (hi : i < 16) where
         ∙ ap (λ (l : List ℕ). l ++ (t ∷ [])) (left-queue i (omega arith))
         ∙ sym (picked-yes fifo _ _ f))
         (λ f. ap (λ (x : ℕ). queue (joins left (s .line .joined) t (queueSeats i) x) i) (other-key f)
-        ∙ joins-queue left (s .line .joined) t i p (out .queues) run (out .seat) (ok .line .joineds) (out .sorted i (omega arith) (sem-fifo (s .semaphores) i hi ∙ f))
+        ∙ joins-queue left (s .line .joined) t i p (out .queues) run (out .seat) (ok .line .joineds) (out .sorted i (omega arith) (sem-fifo (s .semaphores) (s .queues) i hi ∙ f))
         ∙ ap (λ (l : List ℕ). insert (λ u. leb p (getD (s .line .joined) u 0)) t l) (left-queue i (omega arith))
         ∙ sym (picked-no fifo (queueIn s i ++ (t ∷ [])) _ f))
         (true-or-false fifo)

@@ -27,6 +27,7 @@ sound-sized s h =
       tasks = h .tasks .sized;
       semaphores = h .semaphores .sized;
       pools = h .pools .sized;
+      queues = h .queues .sized;
     }
 
 -- the test `sound` passes just if the mask is that of the rings, and the rule of before M-106 holds, which knows no mask: the seats

@@ -9,8 +9,9 @@ use Rattle.scope.specs.declared.State.{State}
 use Rattle.scope.specs.Lists.{has}
 use Rattle.scope.specs.Choice.{pick, hasBit}
 use Rattle.scope.specs.Seats.{ringSeats, firstRing, waitsOn, maskOf, queue, readyOrder}
-use Rattle.scope.specs.Objects.{objectsEnd, objectsOf}
+use Rattle.scope.specs.Objects.{objectsEnd, queueObject, objectsOf}
 use Rattle.scope.specs.Views.{isReady, count}
+use Rattle.scope.specs.Queues.{mostOf}
 use Rattle.scope.specs.Tasks.{lastPriority}
 use Rattle.scope.specs.Waiting.{isTimeOut}
 use Rattle.scope.specs.Semaphores.{lastCount}
@@ -42,7 +43,8 @@ PrioritiesFall s = NeverRising (s .tasks .priority) (readyOf s)
 abbrev pub FirstRuns : State → Type 0
 FirstRuns s = s .running ≡ firstIn (readyOf s)
 
--- "Each waiting task stands once in one live semaphore's queue, .." (A semaphore is an object, and no other object is live.)
+-- "Each waiting task stands once in one live semaphore's queue, ..", which M-100 reads "one live semaphore's or queue's wait queue"
+-- (These are objects, and no other object is live.)
 pub record StandsInOne (s : State) : Type 0 where
   pub stands : (t : ℕ) → waiting s t ≡ true
       → (i : ℕ) × (i < objectsEnd) × (objectsOf s .live i ≡ true) × (has (queueIn s i) t ≡ true)
@@ -75,6 +77,14 @@ abbrev pub CountEmpty : State → Type 0
 CountEmpty s = (i : ℕ) → i < 16 → length (queueIn s i) ≡ 0
     → (count (s .line) (s .semaphores) i .negative ≡ false) × (count (s .line) (s .semaphores) i .size ≤ lastCount)
 
+-- M-100: "a queue with waiters holds nothing, .."
+abbrev pub HoldsNothing : State → Type 0
+HoldsNothing s = (i : ℕ) → i < 8 → 0 < length (queueIn s (queueObject i)) → getD (s .queues .held) i 0 ≡ 0
+
+-- ".. any other only what sends can leave"
+abbrev pub HoldsLeft : State → Type 0
+HoldsLeft s = (i : ℕ) → i < 8 → length (queueIn s (queueObject i)) ≡ 0 → getD (s .queues .held) i 0 ≤ mostOf (s .queues) i
+
 -- "Tasks not started neither wait nor are suspended."
 abbrev pub NotStarted : State → Type 0
 NotStarted s = (t : ℕ) → t < 32 → getD (s .tasks .started) t false ≡ false
@@ -96,6 +106,8 @@ pub record Ordered (s : State) : Type 0 where
   pub sorted : JoinedFall s
   pub below : CountBelow s
   pub empty : CountEmpty s
+  pub nothing : HoldsNothing s
+  pub within : HoldsLeft s
   pub idle : NotStarted s
   pub zeros : NotWaiting s
 

@@ -7,14 +7,15 @@ use native.Mathlib.Numerals.{add-one}
 use native.Mathlib.Nat.{div-eq-of-lt, div-lt-iff-lt-mul, one-mul, not-suc-le-zero, eq-or-lt-of-le}
 use mathlib.Core.Path.{_≡_, refl, sym, subst, ap, _∙_}
 use mathlib.Core.Logic.{⊎-elim}
-use mathlib.Core.Bool.{Bool, true, false, _&&_}
+use mathlib.Core.Bool.{Bool, true, false, _&&_, and-assoc, and-true}
 use mathlib.Core.List.{List}
-use lib.Dec.{eqb, ltb}
+use lib.Dec.{eqb, ltb, leb}
 use lib.Pow.{pow-pos, pow-mono}
-use borrow.Author.Tests.{ltb-true, lt-ltb, le-ltb, eq-eqb, ne-eqb}
+use borrow.Author.Tests.{ltb-true, lt-ltb, le-ltb, le-leb, eq-eqb, ne-eqb}
 use Rattle.scope.specs.Choice.{pick, least, number}
 use Rattle.scope.specs.Seats.{isOn, onSeat}
-use Rattle.laws.proofs.Branches.{both-true, lt-or-le, picked-yes, picked-no}
+use Rattle.scope.specs.Rules.{holdsRight}
+use Rattle.laws.proofs.Branches.{both-true, first-fails, second-decides, lt-or-le, pick-yes, pick-no, picked-yes, picked-no}
 use Rattle.laws.proofs.Searches.{least-true, least-below, number-le}
 use Rattle.laws.proofs.Arrays.{at-end}
 pub use Rattle.laws.proofs.Testing.{Testing, testing-start, testing-more, testing-done}
@@ -68,6 +69,24 @@ taken-counted q x n e = ap (ltb 0) e ∙ found-counted (isOn q x) 32
 -- a seat that is not the first of its queue has one before it
 pub behind-first : (b : Bool) (x : ℕ) → (b && ltb 1 (x % 64)) ≡ true → 1 ≤ x
 behind-first b x e = omega (arith, ltb-true 1 (x % 64) (both-true b (ltb 1 (x % 64)) e .1))
+
+-- a queue that holds nothing is right whoever waits, and one that holds something if nobody does
+module _ (n held most : ℕ) where
+  pub holds-none : held ≡ 0 → true ≡ holdsRight n held most
+  unfolding holdsRight
+  holds-none e =
+      ⊎-elim (λ h. pick-yes _ _ _ (lt-ltb 0 n h) (sym (eq-eqb held 0 e))) (λ h. pick-no _ _ _ (le-ltb 0 n h) (sym (le-leb held most (omega arith)))) (lt-or-le 0 n)
+
+  pub holds-some : (held ≡ 0 → ⊥) → (eqb n 0 && leb held most) ≡ holdsRight n held most
+  unfolding holdsRight
+  holds-some ne =
+      ⊎-elim (λ h. pick-yes _ _ _ (lt-ltb 0 n h) (first-fails (eqb n 0) _ (ne-eqb n 0 (λ z. omega arith)) ∙ sym (ne-eqb held 0 ne)))
+      (λ h. pick-no _ _ _ (le-ltb 0 n h) (second-decides (eqb n 0) _ (eq-eqb n 0 (omega arith)))) (lt-or-le 0 n)
+
+-- nine tests joined one after the other, each told by its rule, are the nine rules of a list
+pub nine-kept : (a1 a2 a3 a4 a5 a6 a7 a8 a9 b1 b2 b3 b4 b5 b6 b7 b8 b9 : Bool) → a1 ≡ b1 → a2 ≡ b2 → a3 ≡ b3 → a4 ≡ b4 → a5 ≡ b5 → a6 ≡ b6 → a7 ≡ b7 → a8 ≡ b8 → a9 ≡ b9
+    → ((((((((a1 && a2) && a3) && a4) && a5) && a6) && a7) && a8) && a9) ≡ (b1 && (b2 && (b3 && (b4 && (b5 && (b6 && (b7 && (b8 && (b9 && true)))))))))
+nine-kept a1 a2 a3 a4 a5 a6 a7 a8 a9 b1 b2 b3 b4 b5 b6 b7 b8 b9 e1 e2 e3 e4 e5 e6 e7 e8 e9 = simp (and-assoc, and-true) (rw (e1, e2, e3, e4, e5, e6, e7, e8, e9))
 
 -- nothing stands from bit n up where the number is below 2 ^ n
 pub shifted-out : (out n : ℕ) → eqb (out / 2 ^ n) 0 ≡ ltb out (2 ^ n)

@@ -8,9 +8,10 @@ use Rattle.scope.specs.declared.Line.{Line}
 use Rattle.scope.specs.declared.Tasks.{Tasks}
 use Rattle.scope.specs.declared.Semaphores.{Semaphores}
 use Rattle.scope.specs.declared.Pools.{Pools}
+use Rattle.scope.specs.declared.Queues.{Queues}
 use Rattle.scope.specs.declared.State.{State}
 use Rattle.scope.specs.Rules.{poolsRight, ordersRight, poolsApart}
-use Rattle.answers.specs.Columns.{lineOf, tasksOf, semaphoresOf, poolsOf, stateOf}
+use Rattle.answers.specs.Columns.{lineOf, tasksOf, semaphoresOf, poolsOf, queuesOf, stateOf}
 
 -- the line l with these seats
 abbrev pub seated : Line → List ℕ → Line
@@ -28,10 +29,15 @@ queued m units live fifo = semaphoresOf (m .name) (m .serial) units live fifo
 abbrev pub placed : Pools → List ℕ → List ℕ → List ℕ → List ℕ → Pools
 placed p out length size place = poolsOf out (p .name) (p .address) length size (p .serial) (p .live) (p .forced) place
 
--- what the rules of orders and queues are lent
-abbrev pub lentOrders : State → List ℕ → List ℕ → List ℕ → List ℕ → List Bool → List Bool → List ℕ → List ℕ → List Bool → List Bool → ℕ → State
-lentOrders s left seat joined rings started suspended priority units live fifo running =
-    stateOf (lineOf left seat joined rings) (readied (s .tasks) started suspended priority) (queued (s .semaphores) units live fifo) (s .pools) running
+-- the queues u with these columns, which the wait queues are held against
+abbrev pub received : Queues → List Bool → List Bool → List ℕ → List ℕ → Queues
+received u live fifo limits held = queuesOf (u .name) (u .serial) live fifo limits held
+
+-- what the rules of orders and queues are lent; the second live and FIFO are the queues'
+abbrev pub lentOrders : State → List ℕ → List ℕ → List ℕ → List ℕ → List Bool → List Bool → List ℕ → List ℕ → List Bool → List Bool → List Bool → List Bool → List ℕ → List ℕ → ℕ → State
+lentOrders s left seat joined rings started suspended priority units live fifo queueLive queueFifo limits held running =
+    stateOf (lineOf left seat joined rings) (readied (s .tasks) started suspended priority) (queued (s .semaphores) units live fifo) (s .pools)
+    (received (s .queues) queueLive queueFifo limits held) running
 
 -- the rules of the pools
 abbrev pub poolsKept : Pools → Bool

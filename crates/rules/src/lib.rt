@@ -1,4 +1,4 @@
-// "Rules of a state": each a function named after its rule, asked in four parts. A part is lent the columns that it reads, so the
+// "Rules of a state": each a function named after its rule, asked in five parts. A part is lent the columns that it reads, so the
 // state stays where it lies. Nothing stops at the first failure: a state is nearly always sound, and a loop without a way out in its
 // middle runs several slots at a time. So tests are joined by `&`, which asks both. (specs/Lent.antt, and scope's specs/Rules.antt.)
 ghost use mathlib.Core.Path.{_≡_};
@@ -8,17 +8,20 @@ ghost use Prim.Native.Nat.{ℕ, _-_, _%_, _^_, _<_};
 ghost use lib.ListN.{getD};
 ghost use lib.Dec.{eqb, ltb, leb};
 ghost use Rattle.scope.specs.Choice.{pick, number};
-ghost use Rattle.scope.specs.Seats.{isOn, queueOf, onSeat, holdsTask, ringMask};
+ghost use Rattle.scope.specs.Seats.{isOn, queueSeats, queueOf, onSeat, standing, holdsTask, ringMask};
+ghost use Rattle.scope.specs.Objects.{queueObject, ofObject};
 ghost use Rattle.scope.specs.Views.{readyWith, less};
 ghost use Rattle.scope.specs.Rules.{seatRight, seatsRight, ringsRight, readyRight, readyOrderRight, waitRight, waitsRight, joinedRight, queuesSorted, countRight};
-ghost use Rattle.scope.specs.Rules.{countsRight, startRight, startsRight, tasksRight, semsRight, admitted, poolsRight, ordersRight, runningRight, orderRules, keeps};
+ghost use Rattle.scope.specs.Rules.{countsRight, holdsRight, heldRight, startRight, startsRight, tasksRight, semsRight, queuesRight, admitted, poolsRight};
+ghost use Rattle.scope.specs.Rules.{ordersRight, runningRight, orderRules, keeps};
 ghost use Rattle.scope.specs.declared.Line.{Line};
 ghost use Rattle.scope.specs.declared.Tasks.{Tasks};
 ghost use Rattle.scope.specs.declared.Semaphores.{Semaphores};
 ghost use Rattle.scope.specs.declared.Pools.{Pools};
+ghost use Rattle.scope.specs.declared.Queues.{Queues};
 ghost use Rattle.scope.specs.declared.State.{State};
-ghost use Rattle.answers.specs.Columns.{lineOf, tasksOf, semaphoresOf, poolsOf, stateOf};
-ghost use Rattle.rules.specs.Lent.{seated, readied, queued, placed, lentOrders, poolsKept};
+ghost use Rattle.answers.specs.Columns.{lineOf, tasksOf, semaphoresOf, poolsOf, queuesOf, stateOf};
+ghost use Rattle.rules.specs.Lent.{seated, readied, queued, placed, received, lentOrders, poolsKept};
 
 // 1 where the two are equal, else 0.
 fn one_if(x: u16, y: u16) -> u16
@@ -152,37 +155,53 @@ fn rings_right(seat: &[u16; 32], rings: &[u16; 1]) -> bool
     rings[0] == ring_mask(seat)
 }
 
-// What a row of the semaphores holds for the object whose queue seat `x` is in; false where that is no semaphore.
-fn of_queue(row: [bool; 16], x: u16) -> bool
-    ensures { λ r. ⌜ r ≡ getD row (queueOf x) false ⌝ }
+// What a row of the semaphores and one of the queues hold for object `i`; false where there is none.
+fn of_object(sems: [bool; 16], queues: [bool; 8], i: usize) -> bool
+    ensures { λ r. ⌜ r ≡ ofObject sems queues false i ⌝ }
 {
-    if x < 128 {
-        return row[0];
-    }
-    let i = (x / 64 - 1) as usize;
     if i < 16 {
-        return row[i];
+        return sems[i];
+    }
+    if i < 24 {
+        return queues[i - 16];
     }
     false
 }
 
-// A waiting task waits for a live semaphore, with a time_out left and a joining priority; one that does not wait has neither.
-fn wait_right(live: &[bool; 16], x: u16, left: u32, joined: u8) -> bool
-    ensures { λ r. ⌜ r ≡ waitRight (λ i. getD (now (live .entry)) i false) x left joined ⌝ }
+// And for the object whose wait queue seat `x` is in.
+fn of_queue(sems: [bool; 16], queues: [bool; 8], x: u16) -> bool
+    ensures { λ r. ⌜ r ≡ ofObject sems queues false (queueOf x) ⌝ }
+{
+    if x < 128 {
+        return of_object(sems, queues, 0);
+    }
+    of_object(sems, queues, (x / 64 - 1) as usize)
+}
+
+// A waiting task waits for a live semaphore or queue, with a time_out left and a joining priority; one that does not wait has neither.
+fn wait_right(live: &[bool; 16], queues: &[bool; 8], x: u16, left: u32, joined: u8) -> bool
+    ensures { λ r. ⌜ r ≡ waitRight (ofObject (now (live .entry)) (now (queues .entry)) false) x left joined ⌝ }
 {
     if seats::waits_on(x) {
-        return (64 <= x) & of_queue(*live, x) & times::is_time_out(left) & (joined <= 15);
+        return (64 <= x) & of_queue(*live, *queues, x) & times::is_time_out(left) & (joined <= 15);
     }
     (left == 0) & (joined == 0)
 }
 
-fn waits_right(left: &[u32; 32], seat: &[u16; 32], joined: &[u8; 32], live: &[bool; 16]) -> bool
-    ensures { λ r. ⌜ ((rings : List ℕ) → r ≡ waitsRight (lineOf (now (left .entry)) (now (seat .entry)) (now (joined .entry)) rings) (λ i. getD (now (live .entry)) i false)) ⌝ }
+fn waits_right(
+    left: &[u32; 32],
+    seat: &[u16; 32],
+    joined: &[u8; 32],
+    live: &[bool; 16],
+    queues: &[bool; 8],
+) -> bool
+    ensures { λ r. ⌜ ((rings : List ℕ)
+        → r ≡ waitsRight (lineOf (now (left .entry)) (now (seat .entry)) (now (joined .entry)) rings) (ofObject (now (live .entry)) (now (queues .entry)) false)) ⌝ }
 {
     let mut ok = true;
     let mut t: usize = 0;
     while t < 32 {
-        let right = wait_right(live, seat[t], left[t], joined[t]);
+        let right = wait_right(live, queues, seat[t], left[t], joined[t]);
         ok = right & ok;
         t += 1;
     }
@@ -201,11 +220,18 @@ fn joined_on(q: &[u16; 32], joined: [u8; 32], x: u16) -> u8
 }
 
 // In a queue that is not FIFO nobody has a higher joining priority than who stands directly ahead.
-fn joined_right(q: &[u16; 32], joined: &[u8; 32], fifo: &[bool; 16], x: u16, priority: u8) -> bool
-    ensures { λ r. ⌜ r ≡ joinedRight (now (q .entry)) (now (joined .entry)) (λ i. getD (now (fifo .entry)) i false) x priority ⌝ }
+fn joined_right(
+    q: &[u16; 32],
+    joined: &[u8; 32],
+    fifo: &[bool; 16],
+    queues: &[bool; 8],
+    x: u16,
+    priority: u8,
+) -> bool
+    ensures { λ r. ⌜ r ≡ joinedRight (now (q .entry)) (now (joined .entry)) (ofObject (now (fifo .entry)) (now (queues .entry)) false) x priority ⌝ }
 {
     if seats::waits_on(x) & (1 < x % 64) {
-        if of_queue(*fifo, x) {
+        if of_queue(*fifo, *queues, x) {
             return true;
         }
         return priority <= joined_on(q, *joined, x - 1);
@@ -213,13 +239,14 @@ fn joined_right(q: &[u16; 32], joined: &[u8; 32], fifo: &[bool; 16], x: u16, pri
     true
 }
 
-fn queues_sorted(seat: &[u16; 32], joined: &[u8; 32], fifo: &[bool; 16]) -> bool
-    ensures { λ r. ⌜ ((left rings : List ℕ) → r ≡ queuesSorted (lineOf left (now (seat .entry)) (now (joined .entry)) rings) (λ i. getD (now (fifo .entry)) i false)) ⌝ }
+fn queues_sorted(seat: &[u16; 32], joined: &[u8; 32], fifo: &[bool; 16], queues: &[bool; 8]) -> bool
+    ensures { λ r. ⌜ ((left rings : List ℕ)
+        → r ≡ queuesSorted (lineOf left (now (seat .entry)) (now (joined .entry)) rings) (ofObject (now (fifo .entry)) (now (queues .entry)) false)) ⌝ }
 {
     let mut ok = true;
     let mut t: usize = 0;
     while t < 32 {
-        let right = joined_right(seat, joined, fifo, seat[t], joined[t]);
+        let right = joined_right(seat, joined, fifo, queues, seat[t], joined[t]);
         ok = right & ok;
         t += 1;
     }
@@ -245,6 +272,31 @@ fn counts_right(seat: &[u16; 32], units: &[u16; 16]) -> bool
     while i < 16 {
         let waiting = seats::waiters(*seat, i);
         let right = count_right(waiting, units[i]);
+        ok = right & ok;
+        i += 1;
+    }
+    ok
+}
+
+// "a queue with waiters holds nothing, any other only what sends can leave" (M-100). One that holds nothing breaks neither, so its
+// waiters need not be counted.
+fn holds_right(seat: &[u16; 32], i: usize, held: u8, most: u8) -> bool
+    requires { ⌜ i < 8 ⌝ }
+    ensures { λ r. ⌜ r ≡ holdsRight (standing (now (seat .entry)) (queueSeats (queueObject i))) held most ⌝ }
+{
+    if held == 0 {
+        return true;
+    }
+    (seats::waiters(*seat, 16 + i) == 0) & (held <= most)
+}
+
+fn held_right(seat: &[u16; 32], limits: &[u8; 16], held: &[u8; 8]) -> bool
+    ensures { λ r. ⌜ ((l : Line) (u : Queues) → r ≡ heldRight (seated l (now (seat .entry))) (received u (u .live) (u .fifo) (now (limits .entry)) (now (held .entry)))) ⌝ }
+{
+    let mut ok = true;
+    let mut i: usize = 0;
+    while i < 8 {
+        let right = holds_right(seat, i, held[i], limits[2 * i]);
         ok = right & ok;
         i += 1;
     }
@@ -342,6 +394,54 @@ pub fn sems_right(
     let mut i: usize = 0;
     while i < 16 {
         let right = sem_right(live[i], serial[i], name[i], fifo[i], units[i]);
+        ok = right & ok;
+        i += 1;
+    }
+    ok
+}
+
+// "most messages (1 to 16), longest message (1 to 64)" (M-100); a slot without a queue holds its last serial and otherwise zeros.
+fn queue_right(
+    live: bool,
+    serial: u16,
+    name: u32,
+    fifo: bool,
+    most: u8,
+    longest: u8,
+    held: u8,
+) -> bool
+    ensures { λ r. ⌜ r
+        ≡ pick live (leb 1 serial && (leb 1 most && (leb most 16 && (leb 1 longest && leb longest 64)))) (eqb name 0 && (not fifo && (eqb most 0 && (eqb longest 0 && eqb held 0)))) ⌝ }
+{
+    if live {
+        return (1 <= serial) & (1 <= most) & (most <= 16) & (1 <= longest) & (longest <= 64);
+    }
+    (name == 0) & !fifo & (most == 0) & (longest == 0) & (held == 0)
+}
+
+// Whether the queues' rule is kept.
+pub fn queues_right(
+    name: &[u32; 8],
+    serial: &[u16; 8],
+    live: &[bool; 8],
+    fifo: &[bool; 8],
+    limits: &[u8; 16],
+    held: &[u8; 8],
+) -> bool
+    ensures { λ r. ⌜ r ≡ queuesRight (queuesOf (now (name .entry)) (now (serial .entry)) (now (live .entry)) (now (fifo .entry)) (now (limits .entry)) (now (held .entry))) ⌝ }
+{
+    let mut ok = true;
+    let mut i: usize = 0;
+    while i < 8 {
+        let right = queue_right(
+            live[i],
+            serial[i],
+            name[i],
+            fifo[i],
+            limits[2 * i],
+            limits[2 * i + 1],
+            held[i],
+        );
         ok = right & ok;
         i += 1;
     }
@@ -463,7 +563,8 @@ pub fn pools_kept(
 
 // The kept running task is the one that runs.
 fn running_right(seat: &[u16; 32], rings: &[u16; 1], running: usize) -> bool
-    ensures { λ r. ⌜ ((left joined : List ℕ) (k : Tasks) (m : Semaphores) (p : Pools) → r ≡ runningRight (stateOf (lineOf left (now (seat .entry)) joined (now (rings .entry))) k m p running)) ⌝ }
+    ensures { λ r. ⌜ ((left joined : List ℕ) (k : Tasks) (m : Semaphores) (p : Pools) (u : Queues)
+        → r ≡ runningRight (stateOf (lineOf left (now (seat .entry)) joined (now (rings .entry))) k m p u running)) ⌝ }
 {
     running == seats::runner(seat, rings[0])
 }
@@ -480,18 +581,24 @@ pub fn orders_kept(
     units: &[u16; 16],
     live: &[bool; 16],
     fifo: &[bool; 16],
+    lives: &[bool; 8],
+    fifos: &[bool; 8],
+    limits: &[u8; 16],
+    held: &[u8; 8],
     running: usize,
 ) -> bool
     ensures { λ r. ⌜ ((s : State) → r
         ≡ keeps orderRules (lentOrders s (now (left .entry)) (now (seat .entry)) (now (joined .entry)) (now (rings .entry)) (now (started .entry)) (now (suspended .entry))
-        (now (priority .entry)) (now (units .entry)) (now (live .entry)) (now (fifo .entry)) running)) ⌝ }
+        (now (priority .entry)) (now (units .entry)) (now (live .entry)) (now (fifo .entry)) (now (lives .entry)) (now (fifos .entry)) (now (limits .entry))
+        (now (held .entry)) running)) ⌝ }
 {
     seats_right(seat)
         & rings_right(seat, rings)
         & ready_order_right(seat, started, suspended, priority)
-        & waits_right(left, seat, joined, live)
-        & queues_sorted(seat, joined, fifo)
+        & waits_right(left, seat, joined, live, lives)
+        & queues_sorted(seat, joined, fifo, fifos)
         & counts_right(seat, units)
+        & held_right(seat, limits, held)
         & starts_right(seat, started, suspended)
         & running_right(seat, rings, running)
 }

@@ -10,6 +10,7 @@ use Rattle.scope.specs.declared.Line.{Line}
 use Rattle.scope.specs.declared.Tasks.{Tasks}
 use Rattle.scope.specs.declared.Semaphores.{Semaphores}
 use Rattle.scope.specs.declared.Pools.{Pools}
+use Rattle.scope.specs.declared.Queues.{Queues}
 use Rattle.scope.specs.declared.Fresh.{Fresh}
 use Rattle.scope.specs.Choice.{pick}
 use Rattle.scope.specs.Seats.{ringSeats}
@@ -55,9 +56,27 @@ noPools =
       place = replicate 512 0;
     }
 
+abbrev pub noQueues : Queues
+noQueues =
+    record {
+      name = replicate 8 0;
+      serial = replicate 8 0;
+      live = replicate 8 false;
+      fifo = replicate 8 false;
+      limits = replicate 16 0;
+      held = replicate 8 0;
+    }
+
 unfoldable pub freshState : ℕ → State
 freshState p =
-    record { line = freshLine p; tasks = freshTasks p; semaphores = noSemaphores; pools = noPools; running = 0 }
+    record {
+      line = freshLine p;
+      tasks = freshTasks p;
+      semaphores = noSemaphores;
+      pools = noPools;
+      queues = noQueues;
+      running = 0;
+    }
 
 -- "Asked with a priority above 15, the answer is 19 and the fresh state of priority 0."
 unfoldable pub fresh : ℕ → Fresh

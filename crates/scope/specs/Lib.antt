@@ -15,6 +15,7 @@ pub mod Tasks
 pub mod Waiting
 pub mod Semaphores
 pub mod Pools
+pub mod Queues
 pub mod Ticks
 pub mod Rules
 pub mod Fresh

@@ -10,13 +10,15 @@ use Rattle.scope.specs.declared.Line.{Line}
 use Rattle.scope.specs.declared.Tasks.{Tasks}
 use Rattle.scope.specs.declared.Semaphores.{Semaphores}
 use Rattle.scope.specs.declared.Pools.{Pools}
+use Rattle.scope.specs.declared.Queues.{Queues}
 use Rattle.scope.specs.Choice.{pick, every, number}
 use Rattle.scope.specs.Seats.{ringSeats, firstRing, waitsOn, queueOf, isOn, onSeat, ringMask, maskOf, runnerOf}
-use Rattle.scope.specs.Objects.{objectsOf}
+use Rattle.scope.specs.Objects.{queueObject, objectsOf}
 use Rattle.scope.specs.Views.{readyWith, waitersOf, Signed, count}
 use Rattle.scope.specs.Areas.{isArea, isSize, buffersOf, shareByte, isFree, freeOf}
 use Rattle.scope.specs.Places.{onPlace}
 use Rattle.scope.specs.Pools.{poolBuffers, poolRow}
+use Rattle.scope.specs.Queues.{lastMost, lastLength, mostOf, longestOf}
 use Rattle.scope.specs.Tasks.{lastPriority}
 use Rattle.scope.specs.Waiting.{isTimeOut}
 use Rattle.scope.specs.Semaphores.{lastCount}
@@ -48,8 +50,8 @@ unfoldable pub ringsRight : Line → Bool
 ringsRight l = eqb (maskOf (l .rings)) (ringMask (l .seat))
 
 -- "Each waiting task stands once in one live semaphore's queue, with a time_out left of 1 to 65,535 or FOREVER, and its joining
--- priority; queues hold no other task"; "the waiting fields of a task that doesn't wait" are zeros. (`live` says it of an object's
--- number.)
+-- priority; queues hold no other task"; "the waiting fields of a task that doesn't wait" are zeros. M-100: "The state rules read
+-- 'one live semaphore's or queue's wait queue'". (`live` says it of an object's number.)
 unfoldable pub waitRight : (ℕ → Bool) → ℕ → ℕ → ℕ → Bool
 waitRight live x left joined =
     pick (waitsOn x)
@@ -75,6 +77,13 @@ countRight n c = pick (ltb 0 n) (c .negative && eqb (c .size) n) (not (c .negati
 
 unfoldable pub countsRight : Line → Semaphores → Bool
 countsRight l m = every (λ i. countRight (waitersOf l i) (count l m i)) 16
+
+-- M-100: "a queue with waiters holds nothing, any other only what sends can leave": no more than its most messages
+unfoldable pub holdsRight : ℕ → ℕ → ℕ → Bool
+holdsRight n held most = pick (ltb 0 n) (eqb held 0) (leb held most)
+
+unfoldable pub heldRight : Line → Queues → Bool
+heldRight l u = every (λ i. holdsRight (waitersOf l (queueObject i)) (getD (u .held) i 0) (mostOf u i)) 8
 
 -- "Tasks not started neither wait nor are suspended."
 unfoldable pub startRight : Bool → Bool → ℕ → Bool
@@ -103,6 +112,18 @@ semRight m i =
 
 unfoldable pub semsRight : Semaphores → Bool
 semsRight m = every (semRight m) 16
+
+-- M-100: "most messages (1 to 16), longest message (1 to 64)"
+unfoldable pub queueRight : Queues → ℕ → Bool
+queueRight u i =
+    pick (getD (u .live) i false)
+    (leb 1 (getD (u .serial) i 0)
+    && (leb 1 (mostOf u i) && (leb (mostOf u i) lastMost && (leb 1 (longestOf u i) && leb (longestOf u i) lastLength))))
+    (eqb (getD (u .name) i 0) 0
+    && (not (getD (u .fifo) i false) && (eqb (mostOf u i) 0 && (eqb (longestOf u i) 0 && eqb (getD (u .held) i 0) 0))))
+
+unfoldable pub queuesRight : Queues → Bool
+queuesRight u = every (queueRight u) 8
 
 -- "Each live pool is one that creation admits"; "marks of buffers past a pool's number" are zeros
 unfoldable pub admitted : ℕ → ℕ → ℕ → ℕ → Bool
@@ -158,6 +179,7 @@ orderRules =
     ∷ (λ s. waitsRight (s .line) (objectsOf s .live))
     ∷ (λ s. queuesSorted (s .line) (objectsOf s .fifo))
     ∷ (λ s. countsRight (s .line) (s .semaphores))
+    ∷ (λ s. heldRight (s .line) (s .queues))
     ∷ (λ s. startsRight (s .line) (s .tasks))
     ∷ (λ s. runningRight s)
     ∷ []
@@ -167,6 +189,7 @@ abbrev pub tableRules : List (State → Bool)
 tableRules =
     (λ s. tasksRight (s .tasks))
     ∷ (λ s. semsRight (s .semaphores))
+    ∷ (λ s. queuesRight (s .queues))
     ∷ (λ s. poolsRight (s .pools))
     ∷ (λ s. ordersRight (s .pools))
     ∷ (λ s. poolsApart (s .pools))

@@ -9,6 +9,7 @@ use Rattle.scope.specs.declared.Line.{Line}
 use Rattle.scope.specs.declared.Tasks.{Tasks}
 use Rattle.scope.specs.declared.Semaphores.{Semaphores}
 use Rattle.scope.specs.declared.Pools.{Pools}
+use Rattle.scope.specs.declared.Queues.{Queues}
 use Rattle.scope.specs.declared.State.{State}
 use Rattle.scope.specs.Choice.{pick}
 use Rattle.scope.specs.Identifiers.{identifier}
@@ -16,16 +17,19 @@ use Rattle.scope.specs.Seats.{maskOf, runnerOf, waitsOn, queueSeats, sta
 
 -- the state with tasks standing elsewhere; who runs follows from where they stand
 abbrev pub withLine : State → Line → State
-withLine s l = record { line = l; tasks = s .tasks; semaphores = s .semaphores; pools = s .pools; running = runnerOf (l .seat) (maskOf (l .rings)) }
+withLine s l = record { line = l; tasks = s .tasks; semaphores = s .semaphores; pools = s .pools; queues = s .queues; running = runnerOf (l .seat) (maskOf (l .rings)) }
 
 abbrev pub withTasks : State → Tasks → State
-withTasks s k = record { line = s .line; tasks = k; semaphores = s .semaphores; pools = s .pools; running = s .running }
+withTasks s k = record { line = s .line; tasks = k; semaphores = s .semaphores; pools = s .pools; queues = s .queues; running = s .running }
 
 abbrev pub withSemaphores : State → Semaphores → State
-withSemaphores s m = record { line = s .line; tasks = s .tasks; semaphores = m; pools = s .pools; running = s .running }
+withSemaphores s m = record { line = s .line; tasks = s .tasks; semaphores = m; pools = s .pools; queues = s .queues; running = s .running }
 
 abbrev pub withPools : State → Pools → State
-withPools s p = record { line = s .line; tasks = s .tasks; semaphores = s .semaphores; pools = p; running = s .running }
+withPools s p = record { line = s .line; tasks = s .tasks; semaphores = s .semaphores; pools = p; queues = s .queues; running = s .running }
+
+abbrev pub withQueues : State → Queues → State
+withQueues s u = record { line = s .line; tasks = s .tasks; semaphores = s .semaphores; pools = s .pools; queues = u; running = s .running }
 
 -- the line with other seats and rings
 abbrev pub withSeats : Line → List ℕ → List ℕ → Line
@@ -43,7 +47,7 @@ readyWith started suspended x = started && (not suspended && not (waitsOn x))
 abbrev pub isReady : Line → Tasks → ℕ → Bool
 isReady l k t = readyWith (getD (k .started) t false) (getD (k .suspended) t false) (getD (l .seat) t 0)
 
--- the tasks waiting for semaphore i
+-- the tasks waiting for object i (semaphore i is object i)
 abbrev pub waitersOf : Line → ℕ → ℕ
 waitersOf l i = standing (l .seat) (queueSeats i)
 

@@ -1,11 +1,13 @@
 // The state of the kernel and the answers it gives, as plain data. What they mean, sentence by sentence of document 01,
-// is in specs/. Every array is by slot: 32 tasks, 16 semaphores, 8 pools; places are by pool and buffer.
+// is in specs/. Every array is by slot: 32 tasks, 16 semaphores, 8 pools, 8 queues; places are by pool and buffer.
 
 pub const TASKS: usize = 32;
 
 pub const SEMAPHORES: usize = 16;
 
 pub const POOLS: usize = 8;
+
+pub const QUEUES: usize = 8;
 
 // "Status numbers", by name. (specs/Statuses.antt.)
 pub const OK: u32 = 0;
@@ -64,8 +66,8 @@ pub const BAD_STATE: u32 = 26;
 
 // Where each task stands, and what it waits with.
 // A seat is queue × 64 + place, place 1 first, 0 for a task that stands nowhere. Queue i + 1 is the wait queue of
-// semaphore i; queue 32 + p holds the ready tasks of priority p. So one number says which queue a task stands in and
-// how many stand ahead of it, and no list has to be kept.
+// semaphore i, queue i + 17 that of message queue i; queue 32 + p holds the ready tasks of priority p. So one number says
+// which queue a task stands in and how many stand ahead of it, and no list has to be kept.
 pub struct Line {
     // The ticks left of a waiting task's time_out, or FOREVER.
     pub left: [u32; 32],
@@ -109,11 +111,24 @@ pub struct Pools {
     pub place: [u8; 512],
 }
 
+// The message queues.
+pub struct Queues {
+    pub name: [u32; 8],
+    pub serial: [u16; 8],
+    pub live: [bool; 8],
+    pub fifo: [bool; 8],
+    // Queue i's most messages (1 to 16) are at 2 × i, its longest message (1 to 64 bytes) at 2 × i + 1.
+    pub limits: [u8; 16],
+    // How many messages a queue holds.
+    pub held: [u8; 8],
+}
+
 pub struct State {
     pub line: Line,
     pub tasks: Tasks,
     pub semaphores: Semaphores,
     pub pools: Pools,
+    pub queues: Queues,
     // The slot of the running task, 32 where nothing runs. It follows from the seats and the mask, and is kept so that it is found once.
     pub running: usize,
 }

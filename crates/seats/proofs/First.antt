@@ -17,7 +17,7 @@ use Rattle.laws.proofs.Searches.{least-true, least-upto, least-le}
 use Rattle.laws.proofs.Arrays.{inside}
 use Rattle.scope.specs.Choice.{bits}
 use Rattle.scope.specs.Seats.{isOn, onSeat, firstOf, leaves, ringSeats, holdsTask, ringMask, mostUrgent, runnerOf}
-use Rattle.seats.specs.Rule.{In, Seated, Queues, Runs}
+use Rattle.seats.specs.Rule.{In, Seated, AllSeated, Runs}
 use Rattle.seats.proofs.Leaving.{leaves-behind}
 
 -- the task found sits on the seat
@@ -117,7 +117,7 @@ runner-none q low =
     (bits-zero (holdsTask q) 16
     (λ p h. ⊎-elim (λ e. absurd (omega (arith, holds-says q p e, low (firstOf q (ringSeats p))))) (λ e. e) (true-or-false (holdsTask q p))))
 
-module _ (q : List ℕ) (rule : Queues q) where
+module _ (q : List ℕ) (rule : AllSeated q) where
   -- where seats say queues, the first of the highest ring in use is the one that the leading zeros of the mask name
   pub runs-runner : (t p : ℕ) → p < 16 → Runs q t p → runnerOf q (ringMask q) ≡ t
   unfolding ringMask

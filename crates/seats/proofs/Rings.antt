@@ -14,7 +14,7 @@ use Rattle.laws.proofs.Branches.{picked-yes, picked-no, lt-or-le, eq-or-not, tr
 use Rattle.laws.proofs.Bits.{bits-past, bits-at, bits-same, bits-turned}
 use Rattle.scope.specs.Choice.{hasBit, bits}
 use Rattle.scope.specs.Seats.{standing, leaves, joins, ringSeats, holdsTask, ringMask, maskFilled, maskEmptied, maskLeft, ringOf, ringsLeft, ringsReady}
-use Rattle.seats.specs.Rule.{In, Queues}
+use Rattle.seats.specs.Rule.{In, AllSeated}
 use Rattle.seats.proofs.Counting.{standing-is}
 use Rattle.seats.proofs.Leaving.{length-leaves, leaves-nowhere, leaves-others}
 use Rattle.seats.proofs.Joining.{length-joins, joins-seated, joins-others}
@@ -22,12 +22,12 @@ use Rattle.seats.proofs.First.{first-test}
 use Rattle.seats.proofs.Rule.{stands-in, leaves-keeps, joins-queues}
 
 -- a ring holds a task just if somebody stands in it
-pub holds-standing : (q : List ℕ) → Queues q → (p : ℕ) → holdsTask q p ≡ ltb 0 (standing q (ringSeats p))
+pub holds-standing : (q : List ℕ) → AllSeated q → (p : ℕ) → holdsTask q p ≡ ltb 0 (standing q (ringSeats p))
 unfolding holdsTask
 holds-standing q rule p = first-test q (ringSeats p) _ (rule .tasks) (rule .seated (ringSeats p) (omega arith))
 
 -- as many stand in it, so it holds a task as it did
-holds-kept : (q r : List ℕ) → Queues q → Queues r → (p : ℕ) → standing r (ringSeats p) ≡ standing q (ringSeats p) → holdsTask q p ≡ holdsTask r p
+holds-kept : (q r : List ℕ) → AllSeated q → AllSeated r → (p : ℕ) → standing r (ringSeats p) ≡ standing q (ringSeats p) → holdsTask q p ≡ holdsTask r p
 holds-kept q r rule new p e = holds-standing q rule p ∙ ap (ltb 0) (sym e) ∙ sym (holds-standing r new p)
 
 -- the mask of other seats, by which rings hold a task
@@ -72,8 +72,8 @@ emptied q r p gone same =
     (lt-or-le p 16)
 
 -- task t leaves
-module _ (q : List ℕ) (rule : Queues q) (low : (u : ℕ) → In q 0 u → ⊥) (t : ℕ) where
-  after : Queues (leaves q t)
+module _ (q : List ℕ) (rule : AllSeated q) (low : (u : ℕ) → In q 0 u → ⊥) (t : ℕ) where
+  after : AllSeated (leaves q t)
   after = leaves-keeps q rule low t
 
   -- every other queue has as many
@@ -116,11 +116,11 @@ module _ (q : List ℕ) (rule : Queues q) (low : (u : ℕ) → In q 0 u → ⊥)
           ∙ lt-ltb 0 (standing q (ringSeats p)) (omega (arith, rule .seated (ringSeats p) (omega arith) .small t at, at .0))
 
 -- task t, which stands nowhere, joins the queue above o
-module _ (q key : List ℕ) (t o x : ℕ) (rule : Queues q) (room : t < 32) (out : getD q t 0 ≡ 0) (level : o % 64 ≡ 0) where
+module _ (q key : List ℕ) (t o x : ℕ) (rule : AllSeated q) (room : t < 32) (out : getD q t 0 ≡ 0) (level : o % 64 ≡ 0) where
   abbrev joined : List ℕ
   joined = joins q key t o x
 
-  now : Queues joined
+  now : AllSeated joined
   now = joins-queues q key t o x rule room out level
 
   besides : (p : ℕ) → (ringSeats p ≡ o → ⊥) → holdsTask q p ≡ holdsTask joined p
@@ -153,10 +153,10 @@ abbrev pub ringsOf : List ℕ → List ℕ
 ringsOf q = ringMask q ∷ []
 
 module _ (rings q : List ℕ) (is : rings ≡ ringsOf q) where
-  pub rings-left : Queues q → ((u : ℕ) → In q 0 u → ⊥) → (t : ℕ) → ringsLeft rings q t ≡ ringsOf (leaves q t)
+  pub rings-left : AllSeated q → ((u : ℕ) → In q 0 u → ⊥) → (t : ℕ) → ringsLeft rings q t ≡ ringsOf (leaves q t)
   unfolding ringsLeft
   rings-left rule low t = rw is (ap (λ (m : ℕ). m ∷ []) (left-mask q rule low t))
 
-  pub rings-ready : (key : List ℕ) (t p : ℕ) → Queues q → t < 32 → getD q t 0 ≡ 0 → ringsReady rings p ≡ ringsOf (joins q key t (ringSeats p) 0)
+  pub rings-ready : (key : List ℕ) (t p : ℕ) → AllSeated q → t < 32 → getD q t 0 ≡ 0 → ringsReady rings p ≡ ringsOf (joins q key t (ringSeats p) 0)
   unfolding ringsReady
   rings-ready key t p rule room out = rw is (ap (λ (m : ℕ). m ∷ []) (ready-mask q key t (ringSeats p) 0 rule room out (omega arith) p refl))

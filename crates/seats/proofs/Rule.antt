@@ -16,7 +16,7 @@ use Rattle.laws.proofs.Arrays.{inside}
 use Rattle.scope.specs.Choice.{pick, least, number}
 use Rattle.scope.specs.Seats.{isOn, onSeat, standing, leaves, joins, aheadOf}
 use Rattle.scope.specs.Rules.{seatRight, seatsRight}
-use Rattle.seats.specs.Rule.{In, Seated, Queues}
+use Rattle.seats.specs.Rule.{In, Seated, AllSeated}
 use Rattle.seats.proofs.Counting.{number-one, number-only, standing-is, standing-le}
 use Rattle.scope.proofs.Seats.{ahead-from}
 use Rattle.seats.proofs.First.{on-seat, on-seat-hit}
@@ -121,7 +121,7 @@ module _ (q : List ℕ) (long : length q ≡ 32) (right : seatsRight q ≡ true)
         let s : Seated q o first-free = record { small = free-small; once = free-once; full = free-full } in
         subst (λ (n : ℕ). Seated q o n) (sym (standing-is q o first-free long s)) s
 
-  pub queues-from-rule : Queues q
+  pub queues-from-rule : AllSeated q
   queues-from-rule =
       record {
         tasks = long;
@@ -141,7 +141,7 @@ module _ (q : List ℕ) (long : length q ≡ 32) (right : seatsRight q ≡ true)
       }
 
 -- and back
-module _ (q : List ℕ) (rule : Queues q) where
+module _ (q : List ℕ) (rule : AllSeated q) where
   task-right : (t : ℕ) → SeatRight q (getD q t 0)
   task-right t =
       ⊎-elim inl
@@ -171,10 +171,10 @@ settled : (q : List ℕ) (o n : ℕ) → length q ≡ 32 → Seated q o n → Se
 settled q o n long s = subst (λ (m : ℕ). Seated q o m) (sym (standing-is q o n long s)) s
 
 -- who stands stands in the queue of its seat
-pub stands-in : (q : List ℕ) → Queues q → (t : ℕ) → 0 < getD q t 0 → In q (getD q t 0 / 64 * 64) t
+pub stands-in : (q : List ℕ) → AllSeated q → (t : ℕ) → 0 < getD q t 0 → In q (getD q t 0 / 64 * 64) t
 stands-in q rule t h = ⊎-elim (λ z. absurd (omega arith)) (λ w. (omega arith, omega arith)) (rule .places t)
 
-module _ (q : List ℕ) (rule : Queues q) (t : ℕ) (stands : 0 < getD q t 0) where
+module _ (q : List ℕ) (rule : AllSeated q) (t : ℕ) (stands : 0 < getD q t 0) where
   abbrev left : ℕ
   left = getD q t 0 / 64 * 64
 
@@ -184,7 +184,7 @@ module _ (q : List ℕ) (rule : Queues q) (t : ℕ) (stands : 0 < getD q t 0) wh
   at : In q left t
   at = stands-in q rule t stands
 
-  pub leaves-queues : Queues (leaves q t)
+  pub leaves-queues : AllSeated (leaves q t)
   leaves-queues =
       record {
         tasks = length-leaves q t ∙ rule .tasks;
@@ -207,20 +207,20 @@ module _ (q : List ℕ) (rule : Queues q) (t : ℕ) (stands : 0 < getD q t 0) wh
       }
 
 -- whoever leaves, as long as no queue has its seats below 63
-pub leaves-keeps : (q : List ℕ) → Queues q → ((u : ℕ) → In q 0 u → ⊥) → (t : ℕ) → Queues (leaves q t)
+pub leaves-keeps : (q : List ℕ) → AllSeated q → ((u : ℕ) → In q 0 u → ⊥) → (t : ℕ) → AllSeated (leaves q t)
 leaves-keeps q rule none t =
     ⊎-elim (λ h. leaves-queues q rule t h)
-    (λ h. subst (λ (r : List ℕ). Queues r) (sym (leaves-nowhere q t (omega arith) none)) rule)
+    (λ h. subst (λ (r : List ℕ). AllSeated r) (sym (leaves-nowhere q t (omega arith) none)) rule)
     (lt-or-le 0 (getD q t 0))
 
-module _ (q key : List ℕ) (i o p : ℕ) (rule : Queues q) (room : i < 32) (out : getD q i 0 ≡ 0) (level : o % 64 ≡ 0) where
+module _ (q key : List ℕ) (i o p : ℕ) (rule : AllSeated q) (room : i < 32) (out : getD q i 0 ≡ 0) (level : o % 64 ≡ 0) where
   abbrev after : List ℕ
   after = joins q key i o p
 
   here : Seated q o (standing q o)
   here = rule .seated o level
 
-  pub joins-queues : Queues (joins q key i o p)
+  pub joins-queues : AllSeated (joins q key i o p)
   joins-queues =
       record {
         tasks = length-joins q key i o p ∙ rule .tasks;

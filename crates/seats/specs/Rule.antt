@@ -23,7 +23,7 @@ pub record Sorted (q key : List ℕ) (base : ℕ) : Type 0 where
   pub falls : (t u : ℕ) → In q base t → In q base u → getD q t 0 < getD q u 0 → getD key u 0 ≤ getD key t 0
 
 -- all seats of 32 tasks say queues: who stands has a place of 1 to 62 in some queue, and every queue is seated
-pub record Queues (q : List ℕ) : Type 0 where
+pub record AllSeated (q : List ℕ) : Type 0 where
   pub tasks : length q ≡ 32
   pub places : (t : ℕ) → (getD q t 0 ≡ 0) ⊎ ((0 < getD q t 0 % 64) × (getD q t 0 % 64 < 63))
   pub seated : (base : ℕ) → base % 64 ≡ 0 → Seated q base (standing q base)

@@ -24,7 +24,7 @@ const LAST_PRIORITY: u32 = 15;
 fn find<'a>(serial: &'a [u16; 32], live: &'a [bool; 32], running: usize, id: u32) -> Found
     ensures names { λ r. ⌜ ((s : State) (l : Line) (name priority : List ℕ) (started suspended : List Bool) → r
         ≡ taskFound (stateOf l (tasksOf name (now (serial .entry))
-        (now (live .entry)) started suspended priority) (s .semaphores) (s .pools) running) id) ⌝ }
+        (now (live .entry)) started suspended priority) (s .semaphores) (s .pools) (s .queues) running) id) ⌝ }
     ensures inside { λ r. ⌜ ((t : ℕ) → r ≡ Found.At t → t < 32) ⌝ }
 {
     if id == 0 {

@@ -1,4 +1,4 @@
--- `kernel::fresh_state`: the four tables.
+-- `kernel::fresh_state`: the five tables.
 -- Assumes nothing.
 use Rattle.scope.specs.Fresh.{freshState}
 use borrow.Author.Needs.{needs}
@@ -17,9 +17,12 @@ no-semaphores-requires c κs = search needs
 no-pools-requires : tie.Need-no-pools-requires
 no-pools-requires c κs = search needs
 
+no-queues-requires : tie.Need-no-queues-requires
+no-queues-requires c κs = search needs
+
 returns : tie.Need-returns
 unfolding freshState
-returns c = rw (c .no-pools .ensures, c .before .no-semaphores .ensures, c .before .before .fresh-tasks .ensures, c .before .before .before .fresh-line .ensures)
+returns c = rw (c .no-queues .ensures, c .before .no-pools .ensures, c .before .before .no-semaphores .ensures, c .before .before .before .fresh-tasks .ensures, c .before .before .before .before .fresh-line .ensures)
 
 pub fresh-state-spec : {M : Type 1} → statement M
 fresh-state-spec =
@@ -29,4 +32,5 @@ fresh-state-spec =
     fresh-tasks-requires
     no-semaphores-requires
     no-pools-requires
+    no-queues-requires
     returns)

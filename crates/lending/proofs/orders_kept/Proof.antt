@@ -41,11 +41,12 @@ use Rattle.scope.specs.declared.State.{State}
 use Rattle.scope.proofs.Line as L
 use Rattle.scope.proofs.Tasks as K
 use Rattle.scope.proofs.Semaphores as Q
+use Rattle.scope.proofs.Queues as U
 use Rattle.scope.specs.Rules.{keeps, orderRules}
 use Rattle.rules.specs.Lent.{lentOrders}
 use Rattle.scope.proofs.State as S
 use Rattle.lending.proofs.Lending.{Col, Keys, With, columns, lfts, wholes, tokens, silent, lie, shared, kept-shared, args, ptrs, chosen, others, chosenXs, othersXs, lends-shared, backs-shared, parted, unparted, number-out, number-in}
-use Rattle.lending.proofs.Columns.{msS, Back, apart, together, csL, XsL, heldL, isL, BackL, AtL, apartL, togetherL, csK, XsK, heldK, isK, BackK, AtK, apartK, togetherK, csQ, XsQ, heldQ, isQ, BackQ, AtQ, apartQ, togetherQ}
+use Rattle.lending.proofs.Columns.{msS, Back, apart, together, csL, XsL, heldL, isL, BackL, AtL, apartL, togetherL, csK, XsK, heldK, isK, BackK, AtK, apartK, togetherK, csQ, XsQ, heldQ, isQ, BackQ, AtQ, apartQ, togetherQ, csU, XsU, heldU, isU, BackU, AtU, apartU, togetherU}
 use Rattle.rules.proofs.orders_kept as inner
 use Rattle.rules.proofs.orders_kept.Symbol as inner-def
 use Rattle.rules.proofs.orders_kept.Symbol.{name as #rules·orders_kept}
@@ -63,7 +64,7 @@ Inner 𝓤 H A mem run = tripleOf 𝓤 H A inner.signature (inner.spec 𝓤 H A 
 
 -- what the reader ensures of the state d, and what that says
 abbrev Said : State → Bool → Type 0
-Said d r = (s : State) → r ≡ keeps orderRules (lentOrders s (d .line .left) (d .line .seat) (d .line .joined) (d .line .rings) (d .tasks .started) (d .tasks .suspended) (d .tasks .priority) (d .semaphores .units) (d .semaphores .live) (d .semaphores .fifo) (d .running))
+Said d r = (s : State) → r ≡ keeps orderRules (lentOrders s (d .line .left) (d .line .seat) (d .line .joined) (d .line .rings) (d .tasks .started) (d .tasks .suspended) (d .tasks .priority) (d .semaphores .units) (d .semaphores .live) (d .semaphores .fifo) (d .queues .live) (d .queues .fifo) (d .queues .limits) (d .queues .held) (d .running))
 
 is-so : (d : State) (r : Bool) → Said d r → r ≡ keeps orderRules (d)
 is-so d r said = said d
@@ -83,8 +84,17 @@ maskQ = false ∷ false ∷ true ∷ true ∷ true ∷ []
 abbrev onQ : ℕ → List Col
 onQ o = chosen maskQ (csQ o)
 
+abbrev maskU : List Bool
+maskU = false ∷ false ∷ true ∷ true ∷ true ∷ true ∷ []
+
+abbrev onU : ℕ → List Col
+onU o = chosen maskU (csU o)
+
+abbrev ZU : Type 0
+ZU = With (λ _. Unit {0}) (onU 0) (Unit {0} × Unit {0})
+
 abbrev ZQ : Type 0
-ZQ = With (λ _. Unit {0}) (onQ 0) (Unit {0} × Unit {0})
+ZQ = With (λ _. Unit {0}) (onQ 0) ZU
 
 abbrev ZK : Type 0
 ZK = With (λ _. Unit {0}) (onK 0) ZQ
@@ -118,38 +128,47 @@ module _ {M : Type 1} (𝓤 : URA M) (H : Heap 𝓤) (A : Atoms 𝓤) (W : Given
   abbrev L₀ : Fml
   L₀ = fsep ftrue ftrue
 
-  abbrev tokQ : (kQ : Keys (onQ o)) → Fml
-  tokQ kQ = tokens (onQ o) kQ P₀
+  abbrev tokU : (kU : Keys (onU o)) → Fml
+  tokU kU = tokens (onU o) kU P₀
 
-  abbrev ownQ : (kQ : Keys (onQ o)) → Fml
-  ownQ kQ = shared b (onQ o) (chosenXs maskQ (csQ o) (heldQ (d .semaphores))) kQ T₀
+  abbrev ownU : (kU : Keys (onU o)) → Fml
+  ownU kU = shared b (onU o) (chosenXs maskU (csU o) (heldU (d .queues))) kU T₀
+
+  abbrev endU : Fml
+  endU = silent (onU o) L₀
+
+  abbrev tokQ : (kU : Keys (onU o)) (kQ : Keys (onQ o)) → Fml
+  tokQ kU kQ = tokens (onQ o) kQ (tokU kU)
+
+  abbrev ownQ : (kU : Keys (onU o)) (kQ : Keys (onQ o)) → Fml
+  ownQ kU kQ = shared b (onQ o) (chosenXs maskQ (csQ o) (heldQ (d .semaphores))) kQ (ownU kU)
 
   abbrev endQ : Fml
-  endQ = silent (onQ o) L₀
+  endQ = silent (onQ o) endU
 
-  abbrev tokK : (kQ : Keys (onQ o)) (kK : Keys (onK o)) → Fml
-  tokK kQ kK = tokens (onK o) kK (tokQ kQ)
+  abbrev tokK : (kU : Keys (onU o)) (kQ : Keys (onQ o)) (kK : Keys (onK o)) → Fml
+  tokK kU kQ kK = tokens (onK o) kK (tokQ kU kQ)
 
-  abbrev ownK : (kQ : Keys (onQ o)) (kK : Keys (onK o)) → Fml
-  ownK kQ kK = shared b (onK o) (chosenXs maskK (csK o) (heldK (d .tasks))) kK (ownQ kQ)
+  abbrev ownK : (kU : Keys (onU o)) (kQ : Keys (onQ o)) (kK : Keys (onK o)) → Fml
+  ownK kU kQ kK = shared b (onK o) (chosenXs maskK (csK o) (heldK (d .tasks))) kK (ownQ kU kQ)
 
   abbrev endK : Fml
   endK = silent (onK o) endQ
 
-  abbrev tokL : (kQ : Keys (onQ o)) (kK : Keys (onK o)) (kL : Keys (onL o)) → Fml
-  tokL kQ kK kL = tokens (onL o) kL (tokK kQ kK)
+  abbrev tokL : (kU : Keys (onU o)) (kQ : Keys (onQ o)) (kK : Keys (onK o)) (kL : Keys (onL o)) → Fml
+  tokL kU kQ kK kL = tokens (onL o) kL (tokK kU kQ kK)
 
-  abbrev ownL : (kQ : Keys (onQ o)) (kK : Keys (onK o)) (kL : Keys (onL o)) → Fml
-  ownL kQ kK kL = shared b (onL o) (heldL (d .line)) kL (ownK kQ kK)
+  abbrev ownL : (kU : Keys (onU o)) (kQ : Keys (onQ o)) (kK : Keys (onK o)) (kL : Keys (onL o)) → Fml
+  ownL kU kQ kK kL = shared b (onL o) (heldL (d .line)) kL (ownK kU kQ kK)
 
   abbrev endL : Fml
   endL = silent (onL o) endK
 
-  abbrev to-inner : (kQ : Keys (onQ o)) (kK : Keys (onK o)) (kL : Keys (onL o)) → Inner 𝓤 H A at-mem run .Ghost
-  to-inner kQ kK kL = ((lfts (onL o) kL (lfts (onK o) kK (lfts (onQ o) kQ (tt))), wholes (onL o) (wholes (onK o) (wholes (onQ o) (tt))), tt, args b (onL o) (heldL (d .line)) kL (args b (onK o) (chosenXs maskK (csK o) (heldK (d .tasks))) kK (args b (onQ o) (chosenXs maskQ (csQ o) (heldQ (d .semaphores))) kQ ((d .running, tt)))), ptrs b (onL o) (ptrs b (onK o) (ptrs b (onQ o) ((vint w64 (d .running) ∷ [], tt))))), tt)
+  abbrev to-inner : (kU : Keys (onU o)) (kQ : Keys (onQ o)) (kK : Keys (onK o)) (kL : Keys (onL o)) → Inner 𝓤 H A at-mem run .Ghost
+  to-inner kU kQ kK kL = ((lfts (onL o) kL (lfts (onK o) kK (lfts (onQ o) kQ (lfts (onU o) kU (tt)))), wholes (onL o) (wholes (onK o) (wholes (onQ o) (wholes (onU o) (tt)))), tt, args b (onL o) (heldL (d .line)) kL (args b (onK o) (chosenXs maskK (csK o) (heldK (d .tasks))) kK (args b (onQ o) (chosenXs maskQ (csQ o) (heldQ (d .semaphores))) kQ (args b (onU o) (chosenXs maskU (csU o) (heldU (d .queues))) kU ((d .running, tt))))), ptrs b (onL o) (ptrs b (onK o) (ptrs b (onQ o) (ptrs b (onU o) ((vint w64 (d .running) ∷ [], tt)))))), tt)
 
-  goes : (kQ : Keys (onQ o)) (kK : Keys (onK o)) (kL : Keys (onL o)) → ent 𝓤 (sep 𝓤 (sem 𝓤 H A (tokL kQ kK kL)) (sem 𝓤 H A (ownL kQ kK kL))) (Inner 𝓤 H A at-mem run .pre (to-inner kQ kK kL))
-  goes kQ kK kL = qed W (‵ (tokL kQ kK kL) ∷ ‵ (ownL kQ kK kL) ∷ []) ∵ join ! $ frame ! $ done !
+  goes : (kU : Keys (onU o)) (kQ : Keys (onQ o)) (kK : Keys (onK o)) (kL : Keys (onL o)) → ent 𝓤 (sep 𝓤 (sem 𝓤 H A (tokL kU kQ kK kL)) (sem 𝓤 H A (ownL kU kQ kK kL))) (Inner 𝓤 H A at-mem run .pre (to-inner kU kQ kK kL))
+  goes kU kQ kK kL = qed W (‵ (tokL kU kQ kK kL) ∷ ‵ (ownL kU kQ kK kL) ∷ []) ∵ join ! $ frame ! $ done !
 
   exits : (r : Bool) (v : Val) → Said d r → ent 𝓤 (⋆ 𝓤 H A (‵ (fobs γ (R .coded .code d)) ∷ ‵ (fbor κ (Body (mem R) b o γ)) ∷ ‵ (flft κ q) ∷ ‵ P₀ ∷ ‵ L₀ ∷ ‵ (Boolean .own r (v ∷ [])) ∷ [])) (Post v)
   exits r v said =
@@ -162,51 +181,60 @@ module _ {M : Type 1} (𝓤 : URA M) (H : Heap 𝓤) (A : Atoms 𝓤) (W : Given
     walk : ent 𝓤 (onEntry 𝓤 H A outer.signature (κ, tt) (q, tt) a vals) (WpFn 𝓤 H C Λ code.function flatly Post)
     walk =
         qed W ((‵ (flft κ q) ⊛ ‵ ftrue) ∷ ‵ (owns (MutRef (named 0) κ R ∷ []) a vals) ∷ []) ∵ enter ! C Λ code.function flatly _ $
-        alloc1 ! (λ l0. alloc1 ! (λ l1. alloc1 ! (λ l2. alloc1 ! (λ l3. alloc1 ! (λ l4. alloc1 ! (λ l5. alloc1 ! (λ l6. alloc1 ! (λ l7. alloc1 ! (λ l8. alloc1 ! (λ l9. alloc1 ! (λ l10. alloc1 ! (λ l11. alloc1 ! (λ l12. alloc0 ! $ params1 ! $ pass1 ! (init ! 22 refl (tt, tt)) $ pass0 ! $
+        alloc1 ! (λ l0. alloc1 ! (λ l1. alloc1 ! (λ l2. alloc1 ! (λ l3. alloc1 ! (λ l4. alloc1 ! (λ l5. alloc1 ! (λ l6. alloc1 ! (λ l7. alloc1 ! (λ l8. alloc1 ! (λ l9. alloc1 ! (λ l10. alloc1 ! (λ l11. alloc1 ! (λ l12. alloc1 ! (λ l13. alloc1 ! (λ l14. alloc1 ! (λ l15. alloc1 ! (λ l16. alloc0 ! $ params1 ! $ pass1 ! (init ! 30 refl (tt, tt)) $ pass0 ! $
         -- the borrow is opened, and the state is taken apart
-        move ! (27 ∷ []) $ fsplit ! $ fsplit3 ! $ drop ! $ move ! (29 ∷ []) $ split ! $ move ! (2 ∷ 3 ∷ 0 ∷ []) $ open-ref ! tt (mem R) {x = d} {b = b} {o = o} $ move ! (0 ∷ []) $ use1 W (‵ (lie b (columns msS 0 o) (S.the-type .to d)) ⊛ raw (Back 𝓤 H A W b o)) (apart 𝓤 H A W b o d) $ split ! $ fsplit ! $ move ! (1 ∷ []) $ fsplit ! $ move ! (1 ∷ []) $ fsplit ! $ move ! (1 ∷ []) $ fsplit ! $ move ! (1 ∷ []) $ fsplit ! $
-        use1 W (given (d .running < 2 ^ 64) (‵ (fat fullShare (tyInt w64) b (o + 1448) (vint w64 (d .running))))) (number-out 𝓤 H A W b (o + 1448) (d .running)) $ learn ! (λ run-fits.
-        assigns ! (of-opd ! (load ! (from ! (hop ! (look ! 34 refl) (fld ! refl (stop !)))) (look ! 0 refl))) (from ! (stop !)) (init ! 32 refl (tt, record { fits = run-fits })) $
+        move ! (35 ∷ []) $ fsplit ! $ fsplit3 ! $ drop ! $ move ! (37 ∷ []) $ split ! $ move ! (2 ∷ 3 ∷ 0 ∷ []) $ open-ref ! tt (mem R) {x = d} {b = b} {o = o} $ move ! (0 ∷ []) $ use1 W (‵ (lie b (columns msS 0 o) (S.the-type .to d)) ⊛ raw (Back 𝓤 H A W b o)) (apart 𝓤 H A W b o d) $ split ! $ fsplit ! $ move ! (1 ∷ []) $ fsplit ! $ move ! (1 ∷ []) $ fsplit ! $ move ! (1 ∷ []) $ fsplit ! $ move ! (1 ∷ []) $ fsplit ! $ move ! (1 ∷ []) $ fsplit ! $
+        use1 W (given (d .running < 2 ^ 64) (‵ (fat fullShare (tyInt w64) b (o + 1536) (vint w64 (d .running))))) (number-out 𝓤 H A W b (o + 1536) (d .running)) $ learn ! (λ run-fits.
+        assigns ! (of-opd ! (load ! (from ! (hop ! (look ! 43 refl) (fld ! refl (stop !)))) (look ! 0 refl))) (from ! (stop !)) (init ! 41 refl (tt, record { fits = run-fits })) $
         -- the columns' addresses
-        assigns ! (addr ! (from ! (hop ! (look ! 34 refl) (fld ! refl (fld ! refl (stop !)))))) (from ! (stop !)) (init ! 30 refl (tt, tt)) $
-        assigns ! (addr ! (from ! (hop ! (look ! 34 refl) (fld ! refl (fld ! refl (stop !)))))) (from ! (stop !)) (init ! 28 refl (tt, tt)) $
-        assigns ! (addr ! (from ! (hop ! (look ! 34 refl) (fld ! refl (fld ! refl (stop !)))))) (from ! (stop !)) (init ! 26 refl (tt, tt)) $
-        assigns ! (addr ! (from ! (hop ! (look ! 34 refl) (fld ! refl (fld ! refl (stop !)))))) (from ! (stop !)) (init ! 24 refl (tt, tt)) $
-        assigns ! (addr ! (from ! (hop ! (look ! 34 refl) (fld ! refl (fld ! refl (stop !)))))) (from ! (stop !)) (init ! 22 refl (tt, tt)) $
-        assigns ! (addr ! (from ! (hop ! (look ! 34 refl) (fld ! refl (fld ! refl (stop !)))))) (from ! (stop !)) (init ! 20 refl (tt, tt)) $
-        assigns ! (addr ! (from ! (hop ! (look ! 34 refl) (fld ! refl (fld ! refl (stop !)))))) (from ! (stop !)) (init ! 18 refl (tt, tt)) $
-        assigns ! (addr ! (from ! (hop ! (look ! 34 refl) (fld ! refl (fld ! refl (stop !)))))) (from ! (stop !)) (init ! 16 refl (tt, tt)) $
-        assigns ! (addr ! (from ! (hop ! (look ! 34 refl) (fld ! refl (fld ! refl (stop !)))))) (from ! (stop !)) (init ! 14 refl (tt, tt)) $
-        assigns ! (addr ! (from ! (hop ! (look ! 34 refl) (fld ! refl (fld ! refl (stop !)))))) (from ! (stop !)) (init ! 12 refl (tt, tt)) $
+        assigns ! (addr ! (from ! (hop ! (look ! 43 refl) (fld ! refl (fld ! refl (stop !)))))) (from ! (stop !)) (init ! 39 refl (tt, tt)) $
+        assigns ! (addr ! (from ! (hop ! (look ! 43 refl) (fld ! refl (fld ! refl (stop !)))))) (from ! (stop !)) (init ! 37 refl (tt, tt)) $
+        assigns ! (addr ! (from ! (hop ! (look ! 43 refl) (fld ! refl (fld ! refl (stop !)))))) (from ! (stop !)) (init ! 35 refl (tt, tt)) $
+        assigns ! (addr ! (from ! (hop ! (look ! 43 refl) (fld ! refl (fld ! refl (stop !)))))) (from ! (stop !)) (init ! 33 refl (tt, tt)) $
+        assigns ! (addr ! (from ! (hop ! (look ! 43 refl) (fld ! refl (fld ! refl (stop !)))))) (from ! (stop !)) (init ! 31 refl (tt, tt)) $
+        assigns ! (addr ! (from ! (hop ! (look ! 43 refl) (fld ! refl (fld ! refl (stop !)))))) (from ! (stop !)) (init ! 29 refl (tt, tt)) $
+        assigns ! (addr ! (from ! (hop ! (look ! 43 refl) (fld ! refl (fld ! refl (stop !)))))) (from ! (stop !)) (init ! 27 refl (tt, tt)) $
+        assigns ! (addr ! (from ! (hop ! (look ! 43 refl) (fld ! refl (fld ! refl (stop !)))))) (from ! (stop !)) (init ! 25 refl (tt, tt)) $
+        assigns ! (addr ! (from ! (hop ! (look ! 43 refl) (fld ! refl (fld ! refl (stop !)))))) (from ! (stop !)) (init ! 23 refl (tt, tt)) $
+        assigns ! (addr ! (from ! (hop ! (look ! 43 refl) (fld ! refl (fld ! refl (stop !)))))) (from ! (stop !)) (init ! 21 refl (tt, tt)) $
+        assigns ! (addr ! (from ! (hop ! (look ! 43 refl) (fld ! refl (fld ! refl (stop !)))))) (from ! (stop !)) (init ! 19 refl (tt, tt)) $
+        assigns ! (addr ! (from ! (hop ! (look ! 43 refl) (fld ! refl (fld ! refl (stop !)))))) (from ! (stop !)) (init ! 17 refl (tt, tt)) $
+        assigns ! (addr ! (from ! (hop ! (look ! 43 refl) (fld ! refl (fld ! refl (stop !)))))) (from ! (stop !)) (init ! 15 refl (tt, tt)) $
+        assigns ! (addr ! (from ! (hop ! (look ! 43 refl) (fld ! refl (fld ! refl (stop !)))))) (from ! (stop !)) (init ! 13 refl (tt, tt)) $
         -- the columns are lent, table by table from the last
-        move ! (11 ∷ []) $ owned ! usize (Is usize) (uint-makes 𝓤 H A W w64) (d .running) _ (refl, run-fits) $ fjoin ! $
-        move ! (4 ∷ []) $ use1 W (‵ (lie b (csQ o) (Q.the-type .to (d .semaphores))) ⊛ raw (BackQ 𝓤 H A W b o)) (apartQ 𝓤 H A W b o (d .semaphores)) $ split ! $ rewrite ! 0 (λ (xs : XsQ). ‵ (lie b (csQ o) xs)) (isQ (d .semaphores)) refl $
-        use1 W (‵ (lie b (onQ o) (chosenXs maskQ (csQ o) (heldQ (d .semaphores)))) ⊛ ‵ (lie b (others maskQ (csQ o)) (othersXs maskQ (csQ o) (heldQ (d .semaphores))))) (parted b 𝓤 H A W maskQ (csQ o) (heldQ (d .semaphores))) $ split ! $ move ! (0 ∷ 13 ∷ 3 ∷ []) $
-        use3 W (later (some (λ (k : Keys (onQ o)). ‵ (tokens (onQ o) k P₀) ⊛ ‵ (shared b (onQ o) (chosenXs maskQ (csQ o) (heldQ (d .semaphores))) k T₀) ⊛ ‵ (kept-shared b (onQ o) (chosenXs maskQ (csQ o) (heldQ (d .semaphores))) k)))) (lends-shared b 𝓤 H A W P₀ T₀ (onQ o) (chosenXs maskQ (csQ o) (heldQ (d .semaphores)))) $ await ! tt $ pick ! (λ kQ. split3 ! $
-        move ! (8 ∷ []) $ use1 W (‵ (lie b (csK o) (K.the-type .to (d .tasks))) ⊛ raw (BackK 𝓤 H A W b o)) (apartK 𝓤 H A W b o (d .tasks)) $ split ! $ rewrite ! 0 (λ (xs : XsK). ‵ (lie b (csK o) xs)) (isK (d .tasks)) refl $
+        move ! (12 ∷ []) $ owned ! usize (Is usize) (uint-makes 𝓤 H A W w64) (d .running) _ (refl, run-fits) $ fjoin ! $
+        move ! (3 ∷ []) $ use1 W (‵ (lie b (csU o) (U.the-type .to (d .queues))) ⊛ raw (BackU 𝓤 H A W b o)) (apartU 𝓤 H A W b o (d .queues)) $ split ! $ rewrite ! 0 (λ (xs : XsU). ‵ (lie b (csU o) xs)) (isU (d .queues)) refl $
+        use1 W (‵ (lie b (onU o) (chosenXs maskU (csU o) (heldU (d .queues)))) ⊛ ‵ (lie b (others maskU (csU o)) (othersXs maskU (csU o) (heldU (d .queues))))) (parted b 𝓤 H A W maskU (csU o) (heldU (d .queues))) $ split ! $ move ! (0 ∷ 14 ∷ 3 ∷ []) $
+        use3 W (later (some (λ (k : Keys (onU o)). ‵ (tokens (onU o) k P₀) ⊛ ‵ (shared b (onU o) (chosenXs maskU (csU o) (heldU (d .queues))) k T₀) ⊛ ‵ (kept-shared b (onU o) (chosenXs maskU (csU o) (heldU (d .queues))) k)))) (lends-shared b 𝓤 H A W P₀ T₀ (onU o) (chosenXs maskU (csU o) (heldU (d .queues)))) $ await ! tt $ pick ! (λ kU. split3 ! $
+        move ! (8 ∷ []) $ use1 W (‵ (lie b (csQ o) (Q.the-type .to (d .semaphores))) ⊛ raw (BackQ 𝓤 H A W b o)) (apartQ 𝓤 H A W b o (d .semaphores)) $ split ! $ rewrite ! 0 (λ (xs : XsQ). ‵ (lie b (csQ o) xs)) (isQ (d .semaphores)) refl $
+        use1 W (‵ (lie b (onQ o) (chosenXs maskQ (csQ o) (heldQ (d .semaphores)))) ⊛ ‵ (lie b (others maskQ (csQ o)) (othersXs maskQ (csQ o) (heldQ (d .semaphores))))) (parted b 𝓤 H A W maskQ (csQ o) (heldQ (d .semaphores))) $ split ! $ move ! (0 ∷ 3 ∷ 4 ∷ []) $
+        use3 W (later (some (λ (k : Keys (onQ o)). ‵ (tokens (onQ o) k (tokU kU)) ⊛ ‵ (shared b (onQ o) (chosenXs maskQ (csQ o) (heldQ (d .semaphores))) k (ownU kU)) ⊛ ‵ (kept-shared b (onQ o) (chosenXs maskQ (csQ o) (heldQ (d .semaphores))) k)))) (lends-shared b 𝓤 H A W (tokU kU) (ownU kU) (onQ o) (chosenXs maskQ (csQ o) (heldQ (d .semaphores)))) $ await ! tt $ pick ! (λ kQ. split3 ! $
+        move ! (11 ∷ []) $ use1 W (‵ (lie b (csK o) (K.the-type .to (d .tasks))) ⊛ raw (BackK 𝓤 H A W b o)) (apartK 𝓤 H A W b o (d .tasks)) $ split ! $ rewrite ! 0 (λ (xs : XsK). ‵ (lie b (csK o) xs)) (isK (d .tasks)) refl $
         use1 W (‵ (lie b (onK o) (chosenXs maskK (csK o) (heldK (d .tasks)))) ⊛ ‵ (lie b (others maskK (csK o)) (othersXs maskK (csK o) (heldK (d .tasks))))) (parted b 𝓤 H A W maskK (csK o) (heldK (d .tasks))) $ split ! $ move ! (0 ∷ 3 ∷ 4 ∷ []) $
-        use3 W (later (some (λ (k : Keys (onK o)). ‵ (tokens (onK o) k (tokQ kQ)) ⊛ ‵ (shared b (onK o) (chosenXs maskK (csK o) (heldK (d .tasks))) k (ownQ kQ)) ⊛ ‵ (kept-shared b (onK o) (chosenXs maskK (csK o) (heldK (d .tasks))) k)))) (lends-shared b 𝓤 H A W (tokQ kQ) (ownQ kQ) (onK o) (chosenXs maskK (csK o) (heldK (d .tasks)))) $ await ! tt $ pick ! (λ kK. split3 ! $
-        move ! (11 ∷ []) $ use1 W (‵ (lie b (csL o) (L.the-type .to (d .line))) ⊛ raw (BackL 𝓤 H A W b o)) (apartL 𝓤 H A W b o (d .line)) $ split ! $ rewrite ! 0 (λ (xs : XsL). ‵ (lie b (csL o) xs)) (isL (d .line)) refl $ move ! (0 ∷ 2 ∷ 3 ∷ []) $
-        use3 W (later (some (λ (k : Keys (onL o)). ‵ (tokens (onL o) k (tokK kQ kK)) ⊛ ‵ (shared b (onL o) (heldL (d .line)) k (ownK kQ kK)) ⊛ ‵ (kept-shared b (onL o) (heldL (d .line)) k)))) (lends-shared b 𝓤 H A W (tokK kQ kK) (ownK kQ kK) (onL o) (heldL (d .line))) $ await ! tt $ pick ! (λ kL. split3 ! $
-        move ! (0 ∷ 1 ∷ []) $ use2 W (raw (Inner 𝓤 H A at-mem run .pre (to-inner kQ kK kL))) (goes kQ kK kL) $
-        calls-at ! fm (Inner 𝓤 H A at-mem run) known (to-inner kQ kK kL) (and-then ! (load ! (from ! (stop !)) (look ! 34 refl)) (and-then ! (load ! (from ! (stop !)) (look ! 32 refl)) (and-then ! (load ! (from ! (stop !)) (look ! 30 refl)) (and-then ! (load ! (from ! (stop !)) (look ! 28 refl)) (and-then ! (load ! (from ! (stop !)) (look ! 26 refl)) (and-then ! (load ! (from ! (stop !)) (look ! 24 refl)) (and-then ! (load ! (from ! (stop !)) (look ! 22 refl)) (and-then ! (load ! (from ! (stop !)) (look ! 20 refl)) (and-then ! (load ! (from ! (stop !)) (look ! 18 refl)) (and-then ! (load ! (from ! (stop !)) (look ! 16 refl)) (and-then ! (load ! (from ! (stop !)) (look ! 36 refl)) (no-more !)))))))))))) (λ v.
-        use1 W (later (some (λ (r : Bool). (‵ (tokL kQ kK kL) ⊛ ‵ (Boolean .own r (v ∷ []))) ⊛ raw (ensured 𝓤 H A inner.ended (inner.clauses 𝓤 H A at-mem run) (to-inner kQ kK kL .0 .0) (to-inner kQ kK kL .0 .3) tt r)))) (id⊢ 𝓤 _) $ await ! tt $ pick ! (λ r.
+        use3 W (later (some (λ (k : Keys (onK o)). ‵ (tokens (onK o) k (tokQ kU kQ)) ⊛ ‵ (shared b (onK o) (chosenXs maskK (csK o) (heldK (d .tasks))) k (ownQ kU kQ)) ⊛ ‵ (kept-shared b (onK o) (chosenXs maskK (csK o) (heldK (d .tasks))) k)))) (lends-shared b 𝓤 H A W (tokQ kU kQ) (ownQ kU kQ) (onK o) (chosenXs maskK (csK o) (heldK (d .tasks)))) $ await ! tt $ pick ! (λ kK. split3 ! $
+        move ! (14 ∷ []) $ use1 W (‵ (lie b (csL o) (L.the-type .to (d .line))) ⊛ raw (BackL 𝓤 H A W b o)) (apartL 𝓤 H A W b o (d .line)) $ split ! $ rewrite ! 0 (λ (xs : XsL). ‵ (lie b (csL o) xs)) (isL (d .line)) refl $ move ! (0 ∷ 2 ∷ 3 ∷ []) $
+        use3 W (later (some (λ (k : Keys (onL o)). ‵ (tokens (onL o) k (tokK kU kQ kK)) ⊛ ‵ (shared b (onL o) (heldL (d .line)) k (ownK kU kQ kK)) ⊛ ‵ (kept-shared b (onL o) (heldL (d .line)) k)))) (lends-shared b 𝓤 H A W (tokK kU kQ kK) (ownK kU kQ kK) (onL o) (heldL (d .line))) $ await ! tt $ pick ! (λ kL. split3 ! $
+        move ! (0 ∷ 1 ∷ []) $ use2 W (raw (Inner 𝓤 H A at-mem run .pre (to-inner kU kQ kK kL))) (goes kU kQ kK kL) $
+        calls-at ! fm (Inner 𝓤 H A at-mem run) known (to-inner kU kQ kK kL) (and-then ! (load ! (from ! (stop !)) (look ! 45 refl)) (and-then ! (load ! (from ! (stop !)) (look ! 43 refl)) (and-then ! (load ! (from ! (stop !)) (look ! 41 refl)) (and-then ! (load ! (from ! (stop !)) (look ! 39 refl)) (and-then ! (load ! (from ! (stop !)) (look ! 37 refl)) (and-then ! (load ! (from ! (stop !)) (look ! 35 refl)) (and-then ! (load ! (from ! (stop !)) (look ! 33 refl)) (and-then ! (load ! (from ! (stop !)) (look ! 31 refl)) (and-then ! (load ! (from ! (stop !)) (look ! 29 refl)) (and-then ! (load ! (from ! (stop !)) (look ! 27 refl)) (and-then ! (load ! (from ! (stop !)) (look ! 25 refl)) (and-then ! (load ! (from ! (stop !)) (look ! 23 refl)) (and-then ! (load ! (from ! (stop !)) (look ! 21 refl)) (and-then ! (load ! (from ! (stop !)) (look ! 19 refl)) (and-then ! (load ! (from ! (stop !)) (look ! 47 refl)) (no-more !)))))))))))))))) (λ v.
+        use1 W (later (some (λ (r : Bool). (‵ (tokL kU kQ kK kL) ⊛ ‵ (Boolean .own r (v ∷ []))) ⊛ raw (ensured 𝓤 H A inner.ended (inner.clauses 𝓤 H A at-mem run) (to-inner kU kQ kK kL .0 .0) (to-inner kU kQ kK kL .0 .3) tt r)))) (id⊢ 𝓤 _) $ await ! tt $ pick ! (λ r.
         split ! $ move ! (1 ∷ []) $ use1 W (some (λ (z : ZL). ‵ endL ⊛ raw (fact 𝓤 (Said d r)))) (id⊢ 𝓤 _) $ pick ! (λ z.
         split ! $ move ! (1 ∷ []) $ heard ! (Said d r) (λ said. move ! (1 ∷ []) $ split ! $ move ! (1 ∷ []) $ peeks ! Boolean (Is Boolean) (shows 𝓤 H A Boolean) r (v ∷ []) (λ isR.
-        land ! (from ! (stop !)) (init ! 42 refl (bool-lawful 𝓤 H A W .typed r _ isR .0)) $
+        land ! (from ! (stop !)) (init ! 53 refl (bool-lawful 𝓤 H A W .typed r _ isR .0)) $
         -- the columns come back, table by table from the first
-        move ! (1 ∷ 3 ∷ 2 ∷ []) $ use3 W (later (‵ (lie b (onL o) (heldL (d .line))) ⊛ ‵ (tokK kQ kK) ⊛ ‵ endK)) (backs-shared b 𝓤 H A W (tokK kQ kK) endK (onL o) (heldL (d .line)) kL) $ await ! tt $ split3 ! $
+        move ! (1 ∷ 3 ∷ 2 ∷ []) $ use3 W (later (‵ (lie b (onL o) (heldL (d .line))) ⊛ ‵ (tokK kU kQ kK) ⊛ ‵ endK)) (backs-shared b 𝓤 H A W (tokK kU kQ kK) endK (onL o) (heldL (d .line)) kL) $ await ! tt $ split3 ! $
         rewrite ! 0 (λ (xs : XsL). ‵ (lie b (csL o) xs)) (sym (isL (d .line))) refl $ move ! (0 ∷ 4 ∷ []) $ use2 W (‵ (AtL 𝓤 H A W b o (d .line))) (togetherL 𝓤 H A W b o (d .line)) $
-        move ! (1 ∷ 4 ∷ 2 ∷ []) $ use3 W (later (‵ (lie b (onK o) (chosenXs maskK (csK o) (heldK (d .tasks)))) ⊛ ‵ (tokQ kQ) ⊛ ‵ endQ)) (backs-shared b 𝓤 H A W (tokQ kQ) endQ (onK o) (chosenXs maskK (csK o) (heldK (d .tasks))) kK) $ await ! tt $ split3 ! $
+        move ! (1 ∷ 4 ∷ 2 ∷ []) $ use3 W (later (‵ (lie b (onK o) (chosenXs maskK (csK o) (heldK (d .tasks)))) ⊛ ‵ (tokQ kU kQ) ⊛ ‵ endQ)) (backs-shared b 𝓤 H A W (tokQ kU kQ) endQ (onK o) (chosenXs maskK (csK o) (heldK (d .tasks))) kK) $ await ! tt $ split3 ! $
         move ! (0 ∷ 5 ∷ []) $ use2 W (‵ (lie b (csK o) (heldK (d .tasks)))) (unparted b 𝓤 H A W maskK (csK o) (heldK (d .tasks))) $ rewrite ! 0 (λ (xs : XsK). ‵ (lie b (csK o) xs)) (sym (isK (d .tasks))) refl $ move ! (0 ∷ 5 ∷ []) $ use2 W (‵ (AtK 𝓤 H A W b o (d .tasks))) (togetherK 𝓤 H A W b o (d .tasks)) $
-        move ! (1 ∷ 5 ∷ 2 ∷ []) $ use3 W (later (‵ (lie b (onQ o) (chosenXs maskQ (csQ o) (heldQ (d .semaphores)))) ⊛ ‵ P₀ ⊛ ‵ L₀)) (backs-shared b 𝓤 H A W P₀ L₀ (onQ o) (chosenXs maskQ (csQ o) (heldQ (d .semaphores))) kQ) $ await ! tt $ split3 ! $
+        move ! (1 ∷ 5 ∷ 2 ∷ []) $ use3 W (later (‵ (lie b (onQ o) (chosenXs maskQ (csQ o) (heldQ (d .semaphores)))) ⊛ ‵ (tokU kU) ⊛ ‵ endU)) (backs-shared b 𝓤 H A W (tokU kU) endU (onQ o) (chosenXs maskQ (csQ o) (heldQ (d .semaphores))) kQ) $ await ! tt $ split3 ! $
         move ! (0 ∷ 6 ∷ []) $ use2 W (‵ (lie b (csQ o) (heldQ (d .semaphores)))) (unparted b 𝓤 H A W maskQ (csQ o) (heldQ (d .semaphores))) $ rewrite ! 0 (λ (xs : XsQ). ‵ (lie b (csQ o) xs)) (sym (isQ (d .semaphores))) refl $ move ! (0 ∷ 6 ∷ []) $ use2 W (‵ (AtQ 𝓤 H A W b o (d .semaphores))) (togetherQ 𝓤 H A W b o (d .semaphores)) $
+        move ! (1 ∷ 6 ∷ 2 ∷ []) $ use3 W (later (‵ (lie b (onU o) (chosenXs maskU (csU o) (heldU (d .queues)))) ⊛ ‵ P₀ ⊛ ‵ L₀)) (backs-shared b 𝓤 H A W P₀ L₀ (onU o) (chosenXs maskU (csU o) (heldU (d .queues))) kU) $ await ! tt $ split3 ! $
+        move ! (0 ∷ 7 ∷ []) $ use2 W (‵ (lie b (csU o) (heldU (d .queues)))) (unparted b 𝓤 H A W maskU (csU o) (heldU (d .queues))) $ rewrite ! 0 (λ (xs : XsU). ‵ (lie b (csU o) xs)) (sym (isU (d .queues))) refl $ move ! (0 ∷ 7 ∷ []) $ use2 W (‵ (AtU 𝓤 H A W b o (d .queues))) (togetherU 𝓤 H A W b o (d .queues)) $
         -- the state is put together, and the borrow is closed
-        move ! (6 ∷ []) $ use1 W (‵ (mem usize .lies (d .running) b (o + 1448))) (number-in 𝓤 H A W b (o + 1448) (d .running) run-fits) $ move ! (0 ∷ 7 ∷ []) $ fjoin ! $ move ! (7 ∷ 0 ∷ []) $ fjoin ! $ move ! (1 ∷ 0 ∷ []) $ fjoin ! $ move ! (3 ∷ 0 ∷ []) $ fjoin ! $ move ! (3 ∷ 0 ∷ []) $ fjoin ! $
+        move ! (7 ∷ []) $ use1 W (‵ (mem usize .lies (d .running) b (o + 1536))) (number-in 𝓤 H A W b (o + 1536) (d .running) run-fits) $ move ! (0 ∷ 8 ∷ []) $ fjoin ! $ move ! (1 ∷ 0 ∷ []) $ fjoin ! $ move ! (7 ∷ 0 ∷ []) $ fjoin ! $ move ! (3 ∷ 0 ∷ []) $ fjoin ! $ move ! (3 ∷ 0 ∷ []) $ fjoin ! $ move ! (3 ∷ 0 ∷ []) $ fjoin ! $
         move ! (0 ∷ 4 ∷ []) $ use2 W (‵ (mem R .lies d b o)) (together 𝓤 H A W b o d) $ move ! (0 ∷ 4 ∷ 5 ∷ 6 ∷ []) $ close-ref ! tt (mem R) d {b = b} {o = o} $
-        move ! (0 ∷ 1 ∷ 2 ∷ 3 ∷ 4 ∷ 5 ∷ []) $ returns ! (look ! 30 refl) $ forget ! 30 refl $ forget ! 28 refl $ forget ! 26 refl $ forget ! 24 refl $ forget ! 22 refl $ forget ! 20 refl $ forget ! 18 refl $ forget ! 16 refl $ forget ! 14 refl $ forget ! 12 refl $ forget ! 10 refl $ forget ! 8 refl $ forget ! 6 refl $
-        move ! (30 ∷ 31 ∷ []) $ free1 ! $ move ! (28 ∷ 29 ∷ []) $ free1 ! $ move ! (26 ∷ 27 ∷ []) $ free1 ! $ move ! (24 ∷ 25 ∷ []) $ free1 ! $ move ! (22 ∷ 23 ∷ []) $ free1 ! $ move ! (20 ∷ 21 ∷ []) $ free1 ! $ move ! (18 ∷ 19 ∷ []) $ free1 ! $ move ! (16 ∷ 17 ∷ []) $ free1 ! $ move ! (14 ∷ 15 ∷ []) $ free1 ! $ move ! (12 ∷ 13 ∷ []) $ free1 ! $ move ! (10 ∷ 11 ∷ []) $ free1 ! $ move ! (8 ∷ 9 ∷ []) $ free1 ! $ move ! (6 ∷ 7 ∷ []) $ free1 ! $ free0 ! $
-        by ! (exits r _ said)))))))))))))))))))))))
+        move ! (0 ∷ 1 ∷ 2 ∷ 3 ∷ 4 ∷ 5 ∷ []) $ returns ! (look ! 38 refl) $ forget ! 38 refl $ forget ! 36 refl $ forget ! 34 refl $ forget ! 32 refl $ forget ! 30 refl $ forget ! 28 refl $ forget ! 26 refl $ forget ! 24 refl $ forget ! 22 refl $ forget ! 20 refl $ forget ! 18 refl $ forget ! 16 refl $ forget ! 14 refl $ forget ! 12 refl $ forget ! 10 refl $ forget ! 8 refl $ forget ! 6 refl $
+        move ! (38 ∷ 39 ∷ []) $ free1 ! $ move ! (36 ∷ 37 ∷ []) $ free1 ! $ move ! (34 ∷ 35 ∷ []) $ free1 ! $ move ! (32 ∷ 33 ∷ []) $ free1 ! $ move ! (30 ∷ 31 ∷ []) $ free1 ! $ move ! (28 ∷ 29 ∷ []) $ free1 ! $ move ! (26 ∷ 27 ∷ []) $ free1 ! $ move ! (24 ∷ 25 ∷ []) $ free1 ! $ move ! (22 ∷ 23 ∷ []) $ free1 ! $ move ! (20 ∷ 21 ∷ []) $ free1 ! $ move ! (18 ∷ 19 ∷ []) $ free1 ! $ move ! (16 ∷ 17 ∷ []) $ free1 ! $ move ! (14 ∷ 15 ∷ []) $ free1 ! $ move ! (12 ∷ 13 ∷ []) $ free1 ! $ move ! (10 ∷ 11 ∷ []) $ free1 ! $ move ! (8 ∷ 9 ∷ []) $ free1 ! $ move ! (6 ∷ 7 ∷ []) $ free1 ! $ free0 ! $
+        by ! (exits r _ said))))))))))))))))))))))))))))
 
 module _ {M : Type 1} (𝓤 : URA M) (H : Heap 𝓤) (A : Atoms 𝓤) (W : Given 𝓤 H A) (mem : Memory → SProp 𝓤) (run : Routine → Fun 𝓤) where
   orders-kept-walks : (C : Calls 𝓤 H) (Λ : Loops 𝓤 H) → FmC 𝓤 H (W .laws) C → Triple 𝓤 (C #rules·orders_kept) (Inner 𝓤 H A mem run) → Walks 𝓤 H A outer.ended stayed (WpFn 𝓤 H C Λ code.function) (outer.clauses 𝓤 H A mem run)

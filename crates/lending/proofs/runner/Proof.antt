@@ -132,27 +132,27 @@ module _ {M : Type 1} (𝓤 : URA M) (H : Heap 𝓤) (A : Atoms 𝓤) (W : Given
         qed W ((‵ (flft κ q) ⊛ ‵ ftrue) ∷ ‵ (owns (MutRef (named 0) κ R ∷ []) a vals) ∷ []) ∵ enter ! C Λ code.function flatly _ $
         alloc1 ! (λ l0. alloc1 ! (λ l1. alloc1 ! (λ l2. alloc1 ! (λ l3. alloc0 ! $ params1 ! $ pass1 ! (init ! 4 refl (tt, tt)) $ pass0 ! $
         -- the borrow is opened, and the state is taken apart
-        move ! (9 ∷ []) $ fsplit ! $ fsplit3 ! $ drop ! $ move ! (11 ∷ []) $ split ! $ move ! (2 ∷ 3 ∷ 0 ∷ []) $ open-ref ! tt (mem R) {x = d} {b = b} {o = o} $ move ! (0 ∷ []) $ use1 W (‵ (lie b (columns msS 0 o) (S.the-type .to d)) ⊛ raw (Back 𝓤 H A W b o)) (apart 𝓤 H A W b o d) $ split ! $ fsplit ! $ move ! (1 ∷ []) $ fsplit ! $ move ! (1 ∷ []) $ fsplit ! $ move ! (1 ∷ []) $ fsplit ! $ move ! (1 ∷ []) $ fsplit ! $
-        use1 W (given (d .running < 2 ^ 64) (‵ (fat fullShare (tyInt w64) b (o + 1448) (vint w64 (d .running))))) (number-out 𝓤 H A W b (o + 1448) (d .running)) $ learn ! (λ run-fits.
-        assigns ! (of-opd ! (load ! (from ! (hop ! (look ! 16 refl) (fld ! refl (stop !)))) (look ! 0 refl))) (from ! (stop !)) (init ! 14 refl (tt, record { fits = run-fits })) $
+        move ! (9 ∷ []) $ fsplit ! $ fsplit3 ! $ drop ! $ move ! (11 ∷ []) $ split ! $ move ! (2 ∷ 3 ∷ 0 ∷ []) $ open-ref ! tt (mem R) {x = d} {b = b} {o = o} $ move ! (0 ∷ []) $ use1 W (‵ (lie b (columns msS 0 o) (S.the-type .to d)) ⊛ raw (Back 𝓤 H A W b o)) (apart 𝓤 H A W b o d) $ split ! $ fsplit ! $ move ! (1 ∷ []) $ fsplit ! $ move ! (1 ∷ []) $ fsplit ! $ move ! (1 ∷ []) $ fsplit ! $ move ! (1 ∷ []) $ fsplit ! $ move ! (1 ∷ []) $ fsplit ! $
+        use1 W (given (d .running < 2 ^ 64) (‵ (fat fullShare (tyInt w64) b (o + 1536) (vint w64 (d .running))))) (number-out 𝓤 H A W b (o + 1536) (d .running)) $ learn ! (λ run-fits.
+        assigns ! (of-opd ! (load ! (from ! (hop ! (look ! 17 refl) (fld ! refl (stop !)))) (look ! 0 refl))) (from ! (stop !)) (init ! 15 refl (tt, record { fits = run-fits })) $
         -- the columns' addresses
-        assigns ! (addr ! (from ! (hop ! (look ! 16 refl) (fld ! refl (fld ! refl (stop !)))))) (from ! (stop !)) (init ! 12 refl (tt, tt)) $
+        assigns ! (addr ! (from ! (hop ! (look ! 17 refl) (fld ! refl (fld ! refl (stop !)))))) (from ! (stop !)) (init ! 13 refl (tt, tt)) $
         -- the columns are lent, table by table from the last
-        move ! (11 ∷ []) $ owned ! usize (Is usize) (uint-makes 𝓤 H A W w64) (d .running) _ (refl, run-fits) $ fjoin ! $
-        move ! (5 ∷ []) $ use1 W (‵ (lie b (csK o) (K.the-type .to (d .tasks))) ⊛ raw (BackK 𝓤 H A W b o)) (apartK 𝓤 H A W b o (d .tasks)) $ split ! $ rewrite ! 0 (λ (xs : XsK). ‵ (lie b (csK o) xs)) (isK (d .tasks)) refl $
-        use1 W (‵ (lie b (onK o) (chosenXs maskK (csK o) (heldK (d .tasks)))) ⊛ ‵ (lie b (others maskK (csK o)) (othersXs maskK (csK o) (heldK (d .tasks))))) (parted b 𝓤 H A W maskK (csK o) (heldK (d .tasks))) $ split ! $ move ! (0 ∷ 13 ∷ 3 ∷ []) $
+        move ! (12 ∷ []) $ owned ! usize (Is usize) (uint-makes 𝓤 H A W w64) (d .running) _ (refl, run-fits) $ fjoin ! $
+        move ! (6 ∷ []) $ use1 W (‵ (lie b (csK o) (K.the-type .to (d .tasks))) ⊛ raw (BackK 𝓤 H A W b o)) (apartK 𝓤 H A W b o (d .tasks)) $ split ! $ rewrite ! 0 (λ (xs : XsK). ‵ (lie b (csK o) xs)) (isK (d .tasks)) refl $
+        use1 W (‵ (lie b (onK o) (chosenXs maskK (csK o) (heldK (d .tasks)))) ⊛ ‵ (lie b (others maskK (csK o)) (othersXs maskK (csK o) (heldK (d .tasks))))) (parted b 𝓤 H A W maskK (csK o) (heldK (d .tasks))) $ split ! $ move ! (0 ∷ 14 ∷ 3 ∷ []) $
         use3 W (later (some (λ (k : Keys (onK o)). ‵ (tokens (onK o) k P₀) ⊛ ‵ (shared b (onK o) (chosenXs maskK (csK o) (heldK (d .tasks))) k T₀) ⊛ ‵ (kept-shared b (onK o) (chosenXs maskK (csK o) (heldK (d .tasks))) k)))) (lends-shared b 𝓤 H A W P₀ T₀ (onK o) (chosenXs maskK (csK o) (heldK (d .tasks)))) $ await ! tt $ pick ! (λ kK. split3 ! $
         move ! (0 ∷ 1 ∷ []) $ use2 W (raw (Inner 𝓤 H A at-mem run .pre (to-inner kK))) (goes kK) $
-        calls-at ! fm (Inner 𝓤 H A at-mem run) known (to-inner kK) (and-then ! (load ! (from ! (stop !)) (look ! 13 refl)) (and-then ! (load ! (from ! (stop !)) (look ! 15 refl)) (no-more !))) (λ v.
+        calls-at ! fm (Inner 𝓤 H A at-mem run) known (to-inner kK) (and-then ! (load ! (from ! (stop !)) (look ! 14 refl)) (and-then ! (load ! (from ! (stop !)) (look ! 16 refl)) (no-more !))) (λ v.
         use1 W (later (some (λ (r : ℕ). (‵ (tokK kK) ⊛ ‵ (u32 .own r (v ∷ []))) ⊛ raw (ensured 𝓤 H A inner.ended (inner.clauses 𝓤 H A at-mem run) (to-inner kK .0 .0) (to-inner kK .0 .3) tt r)))) (id⊢ 𝓤 _) $ await ! tt $ pick ! (λ r.
         split ! $ move ! (1 ∷ []) $ use1 W (some (λ (z : ZK). ‵ endK ⊛ raw (fact 𝓤 (Said d r)))) (id⊢ 𝓤 _) $ pick ! (λ z.
         split ! $ move ! (1 ∷ []) $ heard ! (Said d r) (λ said. move ! (1 ∷ []) $ split ! $ move ! (1 ∷ []) $ peeks ! u32 (Is u32) (shows 𝓤 H A u32) r (v ∷ []) (λ isR.
-        land ! (from ! (stop !)) (init ! 21 refl (uint-lawful 𝓤 H A W w32 .typed r _ isR .0)) $
+        land ! (from ! (stop !)) (init ! 22 refl (uint-lawful 𝓤 H A W w32 .typed r _ isR .0)) $
         -- the columns come back, table by table from the first
         move ! (1 ∷ 3 ∷ 2 ∷ []) $ use3 W (later (‵ (lie b (onK o) (chosenXs maskK (csK o) (heldK (d .tasks)))) ⊛ ‵ P₀ ⊛ ‵ L₀)) (backs-shared b 𝓤 H A W P₀ L₀ (onK o) (chosenXs maskK (csK o) (heldK (d .tasks))) kK) $ await ! tt $ split3 ! $
         move ! (0 ∷ 4 ∷ []) $ use2 W (‵ (lie b (csK o) (heldK (d .tasks)))) (unparted b 𝓤 H A W maskK (csK o) (heldK (d .tasks))) $ rewrite ! 0 (λ (xs : XsK). ‵ (lie b (csK o) xs)) (sym (isK (d .tasks))) refl $ move ! (0 ∷ 4 ∷ []) $ use2 W (‵ (AtK 𝓤 H A W b o (d .tasks))) (togetherK 𝓤 H A W b o (d .tasks)) $
         -- the state is put together, and the borrow is closed
-        move ! (4 ∷ []) $ use1 W (‵ (mem usize .lies (d .running) b (o + 1448))) (number-in 𝓤 H A W b (o + 1448) (d .running) run-fits) $ move ! (0 ∷ 5 ∷ []) $ fjoin ! $ move ! (5 ∷ 0 ∷ []) $ fjoin ! $ move ! (5 ∷ 0 ∷ []) $ fjoin ! $ move ! (1 ∷ 0 ∷ []) $ fjoin ! $ move ! (4 ∷ 0 ∷ []) $ fjoin ! $
+        move ! (4 ∷ []) $ use1 W (‵ (mem usize .lies (d .running) b (o + 1536))) (number-in 𝓤 H A W b (o + 1536) (d .running) run-fits) $ move ! (0 ∷ 5 ∷ []) $ fjoin ! $ move ! (5 ∷ 0 ∷ []) $ fjoin ! $ move ! (5 ∷ 0 ∷ []) $ fjoin ! $ move ! (5 ∷ 0 ∷ []) $ fjoin ! $ move ! (1 ∷ 0 ∷ []) $ fjoin ! $ move ! (4 ∷ 0 ∷ []) $ fjoin ! $
         move ! (0 ∷ 4 ∷ []) $ use2 W (‵ (mem R .lies d b o)) (together 𝓤 H A W b o d) $ move ! (0 ∷ 4 ∷ 5 ∷ 6 ∷ []) $ close-ref ! tt (mem R) d {b = b} {o = o} $
         move ! (0 ∷ 1 ∷ 2 ∷ 3 ∷ 4 ∷ 5 ∷ []) $ returns ! (look ! 12 refl) $ forget ! 12 refl $ forget ! 10 refl $ forget ! 8 refl $ forget ! 6 refl $
         move ! (12 ∷ 13 ∷ []) $ free1 ! $ move ! (10 ∷ 11 ∷ []) $ free1 ! $ move ! (8 ∷ 9 ∷ []) $ free1 ! $ move ! (6 ∷ 7 ∷ []) $ free1 ! $ free0 ! $

@@ -123,28 +123,28 @@ module _ {M : Type 1} (𝓤 : URA M) (H : Heap 𝓤) (A : Atoms 𝓤) (W : Given
         qed W ((‵ (flft κ q) ⊛ ‵ ftrue) ∷ ‵ (owns (MutRef (named 0) κ R ∷ []) a vals) ∷ []) ∵ enter ! C Λ code.function flatly _ $
         alloc1 ! (λ l0. alloc1 ! (λ l1. alloc1 ! (λ l2. alloc1 ! (λ l3. alloc1 ! (λ l4. alloc1 ! (λ l5. alloc1 ! (λ l6. alloc0 ! $ params1 ! $ pass1 ! (init ! 10 refl (tt, tt)) $ pass0 ! $
         -- the borrow is opened, and the state is taken apart
-        move ! (15 ∷ []) $ fsplit ! $ fsplit3 ! $ drop ! $ move ! (17 ∷ []) $ split ! $ move ! (2 ∷ 3 ∷ 0 ∷ []) $ open-ref ! tt (mem R) {x = d} {b = b} {o = o} $ move ! (0 ∷ []) $ use1 W (‵ (lie b (columns msS 0 o) (S.the-type .to d)) ⊛ raw (Back 𝓤 H A W b o)) (apart 𝓤 H A W b o d) $ split ! $ fsplit ! $ move ! (1 ∷ []) $ fsplit ! $ move ! (1 ∷ []) $ fsplit ! $ move ! (1 ∷ []) $ fsplit ! $ move ! (1 ∷ []) $ fsplit ! $
+        move ! (15 ∷ []) $ fsplit ! $ fsplit3 ! $ drop ! $ move ! (17 ∷ []) $ split ! $ move ! (2 ∷ 3 ∷ 0 ∷ []) $ open-ref ! tt (mem R) {x = d} {b = b} {o = o} $ move ! (0 ∷ []) $ use1 W (‵ (lie b (columns msS 0 o) (S.the-type .to d)) ⊛ raw (Back 𝓤 H A W b o)) (apart 𝓤 H A W b o d) $ split ! $ fsplit ! $ move ! (1 ∷ []) $ fsplit ! $ move ! (1 ∷ []) $ fsplit ! $ move ! (1 ∷ []) $ fsplit ! $ move ! (1 ∷ []) $ fsplit ! $ move ! (1 ∷ []) $ fsplit ! $
         -- the columns' addresses
-        assigns ! (addr ! (from ! (hop ! (look ! 22 refl) (fld ! refl (fld ! refl (stop !)))))) (from ! (stop !)) (init ! 20 refl (tt, tt)) $
-        assigns ! (addr ! (from ! (hop ! (look ! 22 refl) (fld ! refl (fld ! refl (stop !)))))) (from ! (stop !)) (init ! 18 refl (tt, tt)) $
-        assigns ! (addr ! (from ! (hop ! (look ! 22 refl) (fld ! refl (fld ! refl (stop !)))))) (from ! (stop !)) (init ! 16 refl (tt, tt)) $
-        assigns ! (addr ! (from ! (hop ! (look ! 22 refl) (fld ! refl (fld ! refl (stop !)))))) (from ! (stop !)) (init ! 14 refl (tt, tt)) $
-        assigns ! (addr ! (from ! (hop ! (look ! 22 refl) (fld ! refl (fld ! refl (stop !)))))) (from ! (stop !)) (init ! 12 refl (tt, tt)) $
+        assigns ! (addr ! (from ! (hop ! (look ! 23 refl) (fld ! refl (fld ! refl (stop !)))))) (from ! (stop !)) (init ! 21 refl (tt, tt)) $
+        assigns ! (addr ! (from ! (hop ! (look ! 23 refl) (fld ! refl (fld ! refl (stop !)))))) (from ! (stop !)) (init ! 19 refl (tt, tt)) $
+        assigns ! (addr ! (from ! (hop ! (look ! 23 refl) (fld ! refl (fld ! refl (stop !)))))) (from ! (stop !)) (init ! 17 refl (tt, tt)) $
+        assigns ! (addr ! (from ! (hop ! (look ! 23 refl) (fld ! refl (fld ! refl (stop !)))))) (from ! (stop !)) (init ! 15 refl (tt, tt)) $
+        assigns ! (addr ! (from ! (hop ! (look ! 23 refl) (fld ! refl (fld ! refl (stop !)))))) (from ! (stop !)) (init ! 13 refl (tt, tt)) $
         -- the columns are lent, table by table from the last
-        move ! (11 ∷ []) $
-        move ! (4 ∷ []) $ use1 W (‵ (lie b (csQ o) (Q.the-type .to (d .semaphores))) ⊛ raw (BackQ 𝓤 H A W b o)) (apartQ 𝓤 H A W b o (d .semaphores)) $ split ! $ rewrite ! 0 (λ (xs : XsQ). ‵ (lie b (csQ o) xs)) (isQ (d .semaphores)) refl $ move ! (0 ∷ 12 ∷ 2 ∷ []) $
+        move ! (12 ∷ []) $
+        move ! (5 ∷ []) $ use1 W (‵ (lie b (csQ o) (Q.the-type .to (d .semaphores))) ⊛ raw (BackQ 𝓤 H A W b o)) (apartQ 𝓤 H A W b o (d .semaphores)) $ split ! $ rewrite ! 0 (λ (xs : XsQ). ‵ (lie b (csQ o) xs)) (isQ (d .semaphores)) refl $ move ! (0 ∷ 13 ∷ 2 ∷ []) $
         use3 W (later (some (λ (k : Keys (onQ o)). ‵ (tokens (onQ o) k P₀) ⊛ ‵ (shared b (onQ o) (heldQ (d .semaphores)) k T₀) ⊛ ‵ (kept-shared b (onQ o) (heldQ (d .semaphores)) k)))) (lends-shared b 𝓤 H A W P₀ T₀ (onQ o) (heldQ (d .semaphores))) $ await ! tt $ pick ! (λ kQ. split3 ! $
         move ! (0 ∷ 1 ∷ []) $ use2 W (raw (Inner 𝓤 H A at-mem run .pre (to-inner kQ))) (goes kQ) $
-        calls-at ! fm (Inner 𝓤 H A at-mem run) known (to-inner kQ) (and-then ! (load ! (from ! (stop !)) (look ! 20 refl)) (and-then ! (load ! (from ! (stop !)) (look ! 18 refl)) (and-then ! (load ! (from ! (stop !)) (look ! 16 refl)) (and-then ! (load ! (from ! (stop !)) (look ! 14 refl)) (and-then ! (load ! (from ! (stop !)) (look ! 12 refl)) (no-more !)))))) (λ v.
+        calls-at ! fm (Inner 𝓤 H A at-mem run) known (to-inner kQ) (and-then ! (load ! (from ! (stop !)) (look ! 21 refl)) (and-then ! (load ! (from ! (stop !)) (look ! 19 refl)) (and-then ! (load ! (from ! (stop !)) (look ! 17 refl)) (and-then ! (load ! (from ! (stop !)) (look ! 15 refl)) (and-then ! (load ! (from ! (stop !)) (look ! 13 refl)) (no-more !)))))) (λ v.
         use1 W (later (some (λ (r : Bool). (‵ (tokQ kQ) ⊛ ‵ (Boolean .own r (v ∷ []))) ⊛ raw (ensured 𝓤 H A inner.ended (inner.clauses 𝓤 H A at-mem run) (to-inner kQ .0 .0) (to-inner kQ .0 .3) tt r)))) (id⊢ 𝓤 _) $ await ! tt $ pick ! (λ r.
         split ! $ move ! (1 ∷ []) $ use1 W (some (λ (z : ZQ). ‵ endQ ⊛ raw (fact 𝓤 (Said d r)))) (id⊢ 𝓤 _) $ pick ! (λ z.
         split ! $ move ! (1 ∷ []) $ heard ! (Said d r) (λ said. move ! (1 ∷ []) $ split ! $ move ! (1 ∷ []) $ peeks ! Boolean (Is Boolean) (shows 𝓤 H A Boolean) r (v ∷ []) (λ isR.
-        land ! (from ! (stop !)) (init ! 26 refl (bool-lawful 𝓤 H A W .typed r _ isR .0)) $
+        land ! (from ! (stop !)) (init ! 27 refl (bool-lawful 𝓤 H A W .typed r _ isR .0)) $
         -- the columns come back, table by table from the first
         move ! (1 ∷ 3 ∷ 2 ∷ []) $ use3 W (later (‵ (lie b (onQ o) (heldQ (d .semaphores))) ⊛ ‵ P₀ ⊛ ‵ L₀)) (backs-shared b 𝓤 H A W P₀ L₀ (onQ o) (heldQ (d .semaphores)) kQ) $ await ! tt $ split3 ! $
         rewrite ! 0 (λ (xs : XsQ). ‵ (lie b (csQ o) xs)) (sym (isQ (d .semaphores))) refl $ move ! (0 ∷ 4 ∷ []) $ use2 W (‵ (AtQ 𝓤 H A W b o (d .semaphores))) (togetherQ 𝓤 H A W b o (d .semaphores)) $
         -- the state is put together, and the borrow is closed
-        move ! (4 ∷ 5 ∷ []) $ fjoin ! $ move ! (5 ∷ 0 ∷ []) $ fjoin ! $ move ! (1 ∷ 0 ∷ []) $ fjoin ! $ move ! (4 ∷ 0 ∷ []) $ fjoin ! $ move ! (4 ∷ 0 ∷ []) $ fjoin ! $
+        move ! (4 ∷ 5 ∷ []) $ fjoin ! $ move ! (5 ∷ 0 ∷ []) $ fjoin ! $ move ! (5 ∷ 0 ∷ []) $ fjoin ! $ move ! (1 ∷ 0 ∷ []) $ fjoin ! $ move ! (4 ∷ 0 ∷ []) $ fjoin ! $ move ! (4 ∷ 0 ∷ []) $ fjoin ! $
         move ! (0 ∷ 4 ∷ []) $ use2 W (‵ (mem R .lies d b o)) (together 𝓤 H A W b o d) $ move ! (0 ∷ 4 ∷ 5 ∷ 6 ∷ []) $ close-ref ! tt (mem R) d {b = b} {o = o} $
         move ! (0 ∷ 1 ∷ 2 ∷ 3 ∷ 4 ∷ 5 ∷ []) $ returns ! (look ! 18 refl) $ forget ! 18 refl $ forget ! 16 refl $ forget ! 14 refl $ forget ! 12 refl $ forget ! 10 refl $ forget ! 8 refl $ forget ! 6 refl $
         move ! (18 ∷ 19 ∷ []) $ free1 ! $ move ! (16 ∷ 17 ∷ []) $ free1 ! $ move ! (14 ∷ 15 ∷ []) $ free1 ! $ move ! (12 ∷ 13 ∷ []) $ free1 ! $ move ! (10 ∷ 11 ∷ []) $ free1 ! $ move ! (8 ∷ 9 ∷ []) $ free1 ! $ move ! (6 ∷ 7 ∷ []) $ free1 ! $ free0 ! $

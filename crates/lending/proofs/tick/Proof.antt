@@ -207,42 +207,42 @@ module _ {M : Type 1} (𝓤 : URA M) (H : Heap 𝓤) (A : Atoms 𝓤) (W : Given
         qed W ((‵ (flft κ q) ⊛ ‵ (flft κ′ q′) ⊛ ‵ ftrue) ∷ ‵ (owns (MutRef (named 0) κ R ∷ MutRef (named 1) κ′ WakesT ∷ Sevens) a vals) ∷ []) ∵ enter ! C Λ code.function flatly _ $
         alloc1 ! (λ l0. alloc1 ! (λ l1. alloc1 ! (λ l2. alloc1 ! (λ l3. alloc1 ! (λ l4. alloc1 ! (λ l5. alloc1 ! (λ l6. alloc1 ! (λ l7. alloc1 ! (λ l8. alloc1 ! (λ l9. alloc1 ! (λ l10. alloc1 ! (λ l11. alloc1 ! (λ l12. alloc1 ! (λ l13. alloc1 ! (λ l14. alloc1 ! (λ l15. alloc1 ! (λ l16. alloc1 ! (λ l17. alloc1 ! (λ l18. alloc1 ! (λ l19. alloc1 ! (λ l20. alloc0 ! $ params1 ! $ pass1 ! (init ! 38 refl (tt, tt)) $ pass1 ! (init ! 36 refl (tt, tt)) $ pass1 ! (init ! 34 refl (tt, record { fits = fits .0 .1 })) $ pass1 ! (init ! 32 refl (tt, record { fits = fits .1 .0 .1 })) $ pass1 ! (init ! 30 refl (tt, record { fits = fits .1 .1 .0 .1 })) $ pass1 ! (init ! 28 refl (tt, record { fits = fits .1 .1 .1 .0 .1 })) $ pass1 ! (init ! 26 refl (tt, record { fits = fits .1 .1 .1 .1 .0 .1 })) $ pass1 ! (init ! 24 refl (tt, record { fits = fits .1 .1 .1 .1 .1 .0 .1 })) $ pass1 ! (init ! 22 refl (tt, record { fits = fits .1 .1 .1 .1 .1 .1 .0 .1 })) $ pass0 ! $
         -- the borrow is opened, and the state is taken apart
-        move ! (43 ∷ []) $ fsplit ! $ fsplit3 ! $ drop ! $ move ! (45 ∷ []) $ split ! $ move ! (2 ∷ 3 ∷ 0 ∷ []) $ open-ref ! tt (mem R) {x = d} {b = b} {o = o} $ move ! (4 ∷ []) $ split ! $ fjoin ! $ move ! (5 ∷ []) $ fsplit ! $ move ! (3 ∷ []) $ use1 W (‵ (lie b (columns msS 0 o) (S.the-type .to d)) ⊛ raw (Back 𝓤 H A W b o)) (apart 𝓤 H A W b o d) $ split ! $ fsplit ! $ move ! (1 ∷ []) $ fsplit ! $ move ! (1 ∷ []) $ fsplit ! $ move ! (1 ∷ []) $ fsplit ! $ move ! (1 ∷ []) $ fsplit ! $
-        use1 W (given (d .running < 2 ^ 64) (‵ (fat fullShare (tyInt w64) b (o + 1448) (vint w64 (d .running))))) (number-out 𝓤 H A W b (o + 1448) (d .running)) $ learn ! (λ run-fits.
-        assigns ! (of-opd ! (load ! (from ! (hop ! (look ! 51 refl) (fld ! refl (stop !)))) (look ! 0 refl))) (from ! (stop !)) (init ! 33 refl (tt, record { fits = run-fits })) $
-        assigns ! (agg ! (and-then ! (load ! (from ! (stop !)) (look ! 47 refl)) (and-then ! (load ! (from ! (stop !)) (look ! 45 refl)) (and-then ! (load ! (from ! (stop !)) (look ! 43 refl)) (and-then ! (load ! (from ! (stop !)) (look ! 41 refl)) (and-then ! (load ! (from ! (stop !)) (look ! 39 refl)) (and-then ! (load ! (from ! (stop !)) (look ! 37 refl)) (and-then ! (load ! (from ! (stop !)) (look ! 35 refl)) (no-more !))))))))) (from ! (stop !)) (init ! 31 refl (LL.lawful E.the-type E′.the-laws 𝓤 H A W .typed (asked x) _ is-asked .0)) $
+        move ! (43 ∷ []) $ fsplit ! $ fsplit3 ! $ drop ! $ move ! (45 ∷ []) $ split ! $ move ! (2 ∷ 3 ∷ 0 ∷ []) $ open-ref ! tt (mem R) {x = d} {b = b} {o = o} $ move ! (4 ∷ []) $ split ! $ fjoin ! $ move ! (5 ∷ []) $ fsplit ! $ move ! (3 ∷ []) $ use1 W (‵ (lie b (columns msS 0 o) (S.the-type .to d)) ⊛ raw (Back 𝓤 H A W b o)) (apart 𝓤 H A W b o d) $ split ! $ fsplit ! $ move ! (1 ∷ []) $ fsplit ! $ move ! (1 ∷ []) $ fsplit ! $ move ! (1 ∷ []) $ fsplit ! $ move ! (1 ∷ []) $ fsplit ! $ move ! (1 ∷ []) $ fsplit ! $
+        use1 W (given (d .running < 2 ^ 64) (‵ (fat fullShare (tyInt w64) b (o + 1536) (vint w64 (d .running))))) (number-out 𝓤 H A W b (o + 1536) (d .running)) $ learn ! (λ run-fits.
+        assigns ! (of-opd ! (load ! (from ! (hop ! (look ! 52 refl) (fld ! refl (stop !)))) (look ! 0 refl))) (from ! (stop !)) (init ! 34 refl (tt, record { fits = run-fits })) $
+        assigns ! (agg ! (and-then ! (load ! (from ! (stop !)) (look ! 48 refl)) (and-then ! (load ! (from ! (stop !)) (look ! 46 refl)) (and-then ! (load ! (from ! (stop !)) (look ! 44 refl)) (and-then ! (load ! (from ! (stop !)) (look ! 42 refl)) (and-then ! (load ! (from ! (stop !)) (look ! 40 refl)) (and-then ! (load ! (from ! (stop !)) (look ! 38 refl)) (and-then ! (load ! (from ! (stop !)) (look ! 36 refl)) (no-more !))))))))) (from ! (stop !)) (init ! 32 refl (LL.lawful E.the-type E′.the-laws 𝓤 H A W .typed (asked x) _ is-asked .0)) $
         -- the columns' addresses
-        assigns ! (addr ! (from ! (hop ! (look ! 51 refl) (fld ! refl (fld ! refl (stop !)))))) (from ! (stop !)) (init ! 27 refl (tt, tt)) $
-        assigns ! (addr ! (from ! (hop ! (look ! 51 refl) (fld ! refl (fld ! refl (stop !)))))) (from ! (stop !)) (init ! 25 refl (tt, tt)) $
-        assigns ! (addr ! (from ! (hop ! (look ! 51 refl) (fld ! refl (fld ! refl (stop !)))))) (from ! (stop !)) (init ! 23 refl (tt, tt)) $
-        assigns ! (addr ! (from ! (hop ! (look ! 51 refl) (fld ! refl (fld ! refl (stop !)))))) (from ! (stop !)) (init ! 21 refl (tt, tt)) $
-        assigns ! (addr ! (from ! (hop ! (look ! 51 refl) (fld ! refl (fld ! refl (stop !)))))) (from ! (stop !)) (init ! 19 refl (tt, tt)) $
-        assigns ! (addr ! (from ! (hop ! (look ! 51 refl) (fld ! refl (fld ! refl (stop !)))))) (from ! (stop !)) (init ! 17 refl (tt, tt)) $
-        assigns ! (addr ! (from ! (hop ! (look ! 51 refl) (fld ! refl (fld ! refl (stop !)))))) (from ! (stop !)) (init ! 15 refl (tt, tt)) $
-        assigns ! (addr ! (from ! (hop ! (look ! 49 refl) (stop !)))) (from ! (stop !)) (init ! 13 refl (tt, tt)) $
+        assigns ! (addr ! (from ! (hop ! (look ! 52 refl) (fld ! refl (fld ! refl (stop !)))))) (from ! (stop !)) (init ! 28 refl (tt, tt)) $
+        assigns ! (addr ! (from ! (hop ! (look ! 52 refl) (fld ! refl (fld ! refl (stop !)))))) (from ! (stop !)) (init ! 26 refl (tt, tt)) $
+        assigns ! (addr ! (from ! (hop ! (look ! 52 refl) (fld ! refl (fld ! refl (stop !)))))) (from ! (stop !)) (init ! 24 refl (tt, tt)) $
+        assigns ! (addr ! (from ! (hop ! (look ! 52 refl) (fld ! refl (fld ! refl (stop !)))))) (from ! (stop !)) (init ! 22 refl (tt, tt)) $
+        assigns ! (addr ! (from ! (hop ! (look ! 52 refl) (fld ! refl (fld ! refl (stop !)))))) (from ! (stop !)) (init ! 20 refl (tt, tt)) $
+        assigns ! (addr ! (from ! (hop ! (look ! 52 refl) (fld ! refl (fld ! refl (stop !)))))) (from ! (stop !)) (init ! 18 refl (tt, tt)) $
+        assigns ! (addr ! (from ! (hop ! (look ! 52 refl) (fld ! refl (fld ! refl (stop !)))))) (from ! (stop !)) (init ! 16 refl (tt, tt)) $
+        assigns ! (addr ! (from ! (hop ! (look ! 50 refl) (stop !)))) (from ! (stop !)) (init ! 14 refl (tt, tt)) $
         -- the columns are lent, table by table from the last
-        move ! (8 ∷ []) $ drop ! $ nothing ! $ owned ! E.the-row (Is E.the-row) (LL.makes E.the-type E′.the-plain 𝓤 H A) (asked x) _ is-asked $ fjoin ! $ owned ! usize (Is usize) (uint-makes 𝓤 H A W w64) (d .running) _ (refl, run-fits) $ move ! (0 ∷ 1 ∷ []) $ fjoin ! $ move ! (8 ∷ 0 ∷ []) $ fjoin ! $
-        move ! (5 ∷ []) $ use1 W (‵ (lie b (csK o) (K.the-type .to (d .tasks))) ⊛ raw (BackK 𝓤 H A W b o)) (apartK 𝓤 H A W b o (d .tasks)) $ split ! $ rewrite ! 0 (λ (xs : XsK). ‵ (lie b (csK o) xs)) (isK (d .tasks)) refl $
-        use1 W (‵ (lie b (onK o) (chosenXs maskK (csK o) (heldK (d .tasks)))) ⊛ ‵ (lie b (others maskK (csK o)) (othersXs maskK (csK o) (heldK (d .tasks))))) (parted b 𝓤 H A W maskK (csK o) (heldK (d .tasks))) $ split ! $ move ! (0 ∷ 10 ∷ 3 ∷ []) $
+        move ! (9 ∷ []) $ drop ! $ nothing ! $ owned ! E.the-row (Is E.the-row) (LL.makes E.the-type E′.the-plain 𝓤 H A) (asked x) _ is-asked $ fjoin ! $ owned ! usize (Is usize) (uint-makes 𝓤 H A W w64) (d .running) _ (refl, run-fits) $ move ! (0 ∷ 1 ∷ []) $ fjoin ! $ move ! (9 ∷ 0 ∷ []) $ fjoin ! $
+        move ! (6 ∷ []) $ use1 W (‵ (lie b (csK o) (K.the-type .to (d .tasks))) ⊛ raw (BackK 𝓤 H A W b o)) (apartK 𝓤 H A W b o (d .tasks)) $ split ! $ rewrite ! 0 (λ (xs : XsK). ‵ (lie b (csK o) xs)) (isK (d .tasks)) refl $
+        use1 W (‵ (lie b (onK o) (chosenXs maskK (csK o) (heldK (d .tasks)))) ⊛ ‵ (lie b (others maskK (csK o)) (othersXs maskK (csK o) (heldK (d .tasks))))) (parted b 𝓤 H A W maskK (csK o) (heldK (d .tasks))) $ split ! $ move ! (0 ∷ 11 ∷ 3 ∷ []) $
         use3 W (later (some (λ (k : Keys (onK o)). ‵ (tokens (onK o) k P₀) ⊛ ‵ (shared b (onK o) (chosenXs maskK (csK o) (heldK (d .tasks))) k T₀) ⊛ ‵ (kept-shared b (onK o) (chosenXs maskK (csK o) (heldK (d .tasks))) k)))) (lends-shared b 𝓤 H A W P₀ T₀ (onK o) (chosenXs maskK (csK o) (heldK (d .tasks)))) $ await ! tt $ pick ! (λ kK. split3 ! $
-        move ! (9 ∷ []) $ use1 W (‵ (lie b (csL o) (L.the-type .to (d .line))) ⊛ raw (BackL 𝓤 H A W b o)) (apartL 𝓤 H A W b o (d .line)) $ split ! $ rewrite ! 0 (λ (xs : XsL). ‵ (lie b (csL o) xs)) (isL (d .line)) refl $ move ! (0 ∷ 2 ∷ 3 ∷ []) $
+        move ! (10 ∷ []) $ use1 W (‵ (lie b (csL o) (L.the-type .to (d .line))) ⊛ raw (BackL 𝓤 H A W b o)) (apartL 𝓤 H A W b o (d .line)) $ split ! $ rewrite ! 0 (λ (xs : XsL). ‵ (lie b (csL o) xs)) (isL (d .line)) refl $ move ! (0 ∷ 2 ∷ 3 ∷ []) $
         use3 W (later (some (λ (k : Keys (onL o)). ‵ (tokens (onL o) k (tokK kK)) ⊛ ‵ (refs b (onL o) (heldL (d .line)) k (ownK kK)) ⊛ ‵ (kept b (onL o) k)))) (lends b 𝓤 H A W (tokK kK) (ownK kK) (onL o) (heldL (d .line))) $ await ! tt $ pick ! (λ kL. split3 ! $
         use2 W (raw (Inner 𝓤 H A at-mem run .pre (to-inner kK kL))) (goes kK kL) $
-        calls-at ! fm (Inner 𝓤 H A at-mem run) known (to-inner kK kL) (and-then ! (load ! (from ! (stop !)) (look ! 28 refl)) (and-then ! (load ! (from ! (stop !)) (look ! 26 refl)) (and-then ! (load ! (from ! (stop !)) (look ! 24 refl)) (and-then ! (load ! (from ! (stop !)) (look ! 22 refl)) (and-then ! (load ! (from ! (stop !)) (look ! 20 refl)) (and-then ! (load ! (from ! (stop !)) (look ! 18 refl)) (and-then ! (load ! (from ! (stop !)) (look ! 16 refl)) (and-then ! (load ! (from ! (stop !)) (look ! 14 refl)) (and-then ! (load ! (from ! (stop !)) (look ! 34 refl)) (and-then ! (load ! (from ! (stop !)) (look ! 32 refl)) (no-more !))))))))))) (λ v.
+        calls-at ! fm (Inner 𝓤 H A at-mem run) known (to-inner kK kL) (and-then ! (load ! (from ! (stop !)) (look ! 29 refl)) (and-then ! (load ! (from ! (stop !)) (look ! 27 refl)) (and-then ! (load ! (from ! (stop !)) (look ! 25 refl)) (and-then ! (load ! (from ! (stop !)) (look ! 23 refl)) (and-then ! (load ! (from ! (stop !)) (look ! 21 refl)) (and-then ! (load ! (from ! (stop !)) (look ! 19 refl)) (and-then ! (load ! (from ! (stop !)) (look ! 17 refl)) (and-then ! (load ! (from ! (stop !)) (look ! 15 refl)) (and-then ! (load ! (from ! (stop !)) (look ! 35 refl)) (and-then ! (load ! (from ! (stop !)) (look ! 33 refl)) (no-more !))))))))))) (λ v.
         use1 W (later (some (λ (r : Outcome). (‵ (tokL kK kL) ⊛ ‵ (O.the-row .own r (v ∷ []))) ⊛ raw (ensured 𝓤 H A inner.ended (inner.clauses 𝓤 H A at-mem run) (to-inner kK kL .0 .0) (to-inner kK kL .0 .3) tt r)))) (id⊢ 𝓤 _) $ await ! tt $ pick ! (λ r.
         split ! $ move ! (1 ∷ []) $ use1 W (some (λ (z : ZL). ‵ (endL kK kL (last z)) ⊛ raw (fact 𝓤 (Said (last z) r)))) (id⊢ 𝓤 _) $ pick ! (λ z.
         split ! $ move ! (1 ∷ []) $ heard ! (Said (last z) r) (λ is. move ! (1 ∷ []) $ split ! $ move ! (1 ∷ []) $ peeks ! O.the-row (Is O.the-row) (shows 𝓤 H A O.the-row) r (v ∷ []) (λ isO.
-        land ! (from ! (stop !)) (init ! 32 refl (LL.lawful O.the-type O′.the-laws 𝓤 H A W .typed r _ isO .0)) $
-        rewrite ! 32 (λ (u : Val). ‵ (fat fullShare O′.mir l12 0 u)) (ap only (LL.tells O.the-type O′.the-laws r _ isO)) refl $ rewrite ! 0 (λ (us : List Val). ‵ (O.the-row .own r us)) (LL.tells O.the-type O′.the-laws r _ isO) refl $
+        land ! (from ! (stop !)) (init ! 33 refl (LL.lawful O.the-type O′.the-laws 𝓤 H A W .typed r _ isO .0)) $
+        rewrite ! 33 (λ (u : Val). ‵ (fat fullShare O′.mir l12 0 u)) (ap only (LL.tells O.the-type O′.the-laws r _ isO)) refl $ rewrite ! 0 (λ (us : List Val). ‵ (O.the-row .own r us)) (LL.tells O.the-type O′.the-laws r _ isO) refl $
         -- the columns come back, table by table from the first
         move ! (1 ∷ 3 ∷ 2 ∷ []) $ use3 W (later (‵ (lie b (onL o) (last z .0)) ⊛ ‵ (tokK kK) ⊛ ‵ (endK kK (last z)))) (backs b 𝓤 H A W (tokK kK) (endK kK (last z)) (onL o) (last z .0) kL) $ await ! tt $ split3 ! $
         rewrite ! 0 (λ (xs : XsL). ‵ (lie b (csL o) xs)) (sym (isL (madeL (last z .0)))) refl $ move ! (0 ∷ 4 ∷ []) $ use2 W (‵ (AtL 𝓤 H A W b o (madeL (last z .0)))) (togetherL 𝓤 H A W b o (madeL (last z .0))) $
         move ! (1 ∷ 4 ∷ 2 ∷ []) $ use3 W (later (‵ (lie b (onK o) (chosenXs maskK (csK o) (heldK (d .tasks)))) ⊛ ‵ P₀ ⊛ ‵ (L₀ (last z)))) (backs-shared b 𝓤 H A W P₀ (L₀ (last z)) (onK o) (chosenXs maskK (csK o) (heldK (d .tasks))) kK) $ await ! tt $ split3 ! $
         move ! (0 ∷ 5 ∷ []) $ use2 W (‵ (lie b (csK o) (heldK (d .tasks)))) (unparted b 𝓤 H A W maskK (csK o) (heldK (d .tasks))) $ rewrite ! 0 (λ (xs : XsK). ‵ (lie b (csK o) xs)) (sym (isK (d .tasks))) refl $ move ! (0 ∷ 5 ∷ []) $ use2 W (‵ (AtK 𝓤 H A W b o (d .tasks))) (togetherK 𝓤 H A W b o (d .tasks)) $
-        assigns ! (of-opd ! (load ! (from ! (fld ! refl (stop !))) (look-in ! 29 (sub ! 5 refl (whole !))))) (from ! (hop ! (look ! 51 refl) (fld ! refl (stop !)))) (store ! 5 refl (uint-lawful 𝓤 H A W w64 .typed (r .runs) (vint w64 (r .runs) ∷ []) (refl, (LL.owed O.the-type O′.the-laws r _ isO .1 .1 .1 .1 .1 .0 .1)) .0)) $
-        assigns ! (of-opd ! (load ! (from ! (stop !)) (look ! 29 refl))) (from ! (stop !)) (init ! 53 refl (LL.lawful O.the-type O′.the-laws 𝓤 H A W .typed r _ (LL.owes O.the-type O′.the-laws r (LL.owed O.the-type O′.the-laws r _ isO)) .0)) $
+        assigns ! (of-opd ! (load ! (from ! (fld ! refl (stop !))) (look-in ! 30 (sub ! 5 refl (whole !))))) (from ! (hop ! (look ! 52 refl) (fld ! refl (stop !)))) (store ! 5 refl (uint-lawful 𝓤 H A W w64 .typed (r .runs) (vint w64 (r .runs) ∷ []) (refl, (LL.owed O.the-type O′.the-laws r _ isO .1 .1 .1 .1 .1 .0 .1)) .0)) $
+        assigns ! (of-opd ! (load ! (from ! (stop !)) (look ! 30 refl))) (from ! (stop !)) (init ! 54 refl (LL.lawful O.the-type O′.the-laws 𝓤 H A W .typed r _ (LL.owes O.the-type O′.the-laws r (LL.owed O.the-type O′.the-laws r _ isO)) .0)) $
         -- the state is put together, and the borrow is closed
-        move ! (5 ∷ []) $ use1 W (‵ (mem usize .lies (r .runs) b (o + 1448))) (number-in 𝓤 H A W b (o + 1448) (r .runs) (LL.owed O.the-type O′.the-laws r _ isO .1 .1 .1 .1 .1 .0 .1)) $ move ! (0 ∷ 6 ∷ []) $ fjoin ! $ move ! (6 ∷ 0 ∷ []) $ fjoin ! $ move ! (6 ∷ 0 ∷ []) $ fjoin ! $ move ! (1 ∷ 0 ∷ []) $ fjoin ! $ move ! (3 ∷ 0 ∷ []) $ fjoin ! $
+        move ! (5 ∷ []) $ use1 W (‵ (mem usize .lies (r .runs) b (o + 1536))) (number-in 𝓤 H A W b (o + 1536) (r .runs) (LL.owed O.the-type O′.the-laws r _ isO .1 .1 .1 .1 .1 .0 .1)) $ move ! (0 ∷ 6 ∷ []) $ fjoin ! $ move ! (6 ∷ 0 ∷ []) $ fjoin ! $ move ! (6 ∷ 0 ∷ []) $ fjoin ! $ move ! (6 ∷ 0 ∷ []) $ fjoin ! $ move ! (1 ∷ 0 ∷ []) $ fjoin ! $ move ! (3 ∷ 0 ∷ []) $ fjoin ! $
         move ! (0 ∷ 4 ∷ []) $ use2 W (‵ (mem R .lies (state d d (last z) (r .runs)) b o)) (together 𝓤 H A W b o (state d d (last z) (r .runs))) $ move ! (0 ∷ 4 ∷ 5 ∷ 6 ∷ []) $ close-ref ! tt (mem R) (state d d (last z) (r .runs)) {b = b} {o = o} $
         move ! (0 ∷ 1 ∷ 2 ∷ 3 ∷ 4 ∷ 5 ∷ []) $ returns ! (look ! 46 refl) $ forget ! 46 refl $ forget ! 44 refl $ forget ! 42 refl $ forget ! 40 refl $ forget ! 38 refl $ forget ! 36 refl $ forget ! 34 refl $ forget ! 32 refl $ forget ! 30 refl $ forget ! 28 refl $ forget ! 26 refl $ forget ! 24 refl $ forget ! 22 refl $ forget ! 20 refl $ forget ! 18 refl $ forget ! 16 refl $ forget ! 14 refl $ forget ! 12 refl $ forget ! 10 refl $ forget ! 8 refl $ forget ! 6 refl $
         move ! (46 ∷ 47 ∷ []) $ free1 ! $ move ! (44 ∷ 45 ∷ []) $ free1 ! $ move ! (42 ∷ 43 ∷ []) $ free1 ! $ move ! (40 ∷ 41 ∷ []) $ free1 ! $ move ! (38 ∷ 39 ∷ []) $ free1 ! $ move ! (36 ∷ 37 ∷ []) $ free1 ! $ move ! (34 ∷ 35 ∷ []) $ free1 ! $ move ! (32 ∷ 33 ∷ []) $ free1 ! $ move ! (30 ∷ 31 ∷ []) $ free1 ! $ move ! (28 ∷ 29 ∷ []) $ free1 ! $ move ! (26 ∷ 27 ∷ []) $ free1 ! $ move ! (24 ∷ 25 ∷ []) $ free1 ! $ move ! (22 ∷ 23 ∷ []) $ free1 ! $ move ! (20 ∷ 21 ∷ []) $ free1 ! $ move ! (18 ∷ 19 ∷ []) $ free1 ! $ move ! (16 ∷ 17 ∷ []) $ free1 ! $ move ! (14 ∷ 15 ∷ []) $ free1 ! $ move ! (12 ∷ 13 ∷ []) $ free1 ! $ move ! (10 ∷ 11 ∷ []) $ free1 ! $ move ! (8 ∷ 9 ∷ []) $ free1 ! $ move ! (6 ∷ 7 ∷ []) $ free1 ! $ free0 ! $

@@ -17,13 +17,13 @@ of-queue-requires c κs = search needs
 returns : tie.Need-returns
 unfolding joinedRight
 returns c =
-    pick-yes _ _ _ (rw (← c .before .before .before .before .waits-on .ensures) (c .before .before .before .if1 .taken))
+    pick-yes _ _ _ (rw (← c .before .before .before .before .before .waits-on .ensures) (c .before .before .before .before .if1 .taken))
     (pick-yes _ _ _ (sym (c .before .of-queue .ensures) ∙ c .if2 .taken) refl)
 
 sub-joined-on : tie.Need-sub-joined-on
 sub-joined-on c =
-    behind-first (c .before .before .before .before .before .waits-on .result) (c .before .before .before .before .before .before .args .x)
-    (c .before .before .before .before .if1 .taken)
+    behind-first (c .before .before .before .before .before .before .waits-on .result) (c .before .before .before .before .before .before .before .args .x)
+    (c .before .before .before .before .before .if1 .taken)
 
 joined-on-requires : tie.Need-joined-on-requires
 joined-on-requires c κs = search needs
@@ -31,7 +31,7 @@ joined-on-requires c κs = search needs
 returns-2 : tie.Need-returns-2
 unfolding joinedRight
 returns-2 c =
-    pick-yes _ _ _ (rw (← c .before .before .before .before .before .before .waits-on .ensures) (c .before .before .before .before .before .if1 .taken))
+    pick-yes _ _ _ (rw (← c .before .before .before .before .before .before .before .waits-on .ensures) (c .before .before .before .before .before .before .if1 .taken))
     (pick-no _ _ _ (sym (c .before .before .before .of-queue .ensures) ∙ c .before .before .if2 .left) (rw (c .joined-on .ensures)))
 
 returns-3 : tie.Need-returns-3

@@ -1,36 +1,41 @@
--- `rules::of_queue`: the first row for seats below 128, and none past the last.
+-- `rules::of_queue`: the first object for seats below 128.
 -- Assumes nothing.
-use Prim.Native.Nat.{ℕ, _/_, _-_}
-use mathlib.Core.Path.{ap}
+use Prim.Native.Nat.{ℕ}
+use native.Mathlib.Omega.{arith}
+use mathlib.Core.Path.{ap, _∙_}
 use mathlib.Core.Bool.{false}
-use lib.ListN.{getD}
 use borrow.Author.Needs.{needs}
-use Rattle.laws.proofs.Arrays.{past}
+use Rattle.scope.specs.Objects.{ofObject}
 use Rattle.rules.proofs.of_queue.Statement.{statement}
 use Rattle.rules.proofs.of_queue.Tie as tie
 
-array-read-result : tie.Need-array-read-result
-array-read-result c = search needs
+of-object-requires : tie.Need-of-object-requires
+of-object-requires c κs = search needs
 
 returns : tie.Need-returns
-returns c = ap (λ (j : ℕ). getD (c .before .args .t1) j false) (search needs)
+returns c =
+    let a = c .before .before .args in
+    c .of-object .ensures ∙ ap (λ (j : ℕ). ofObject (a .sems) (a .queues) false j) (omega (arith, c .before .if1 .taken))
 
-sub-i : tie.Need-sub-i
-sub-i c = search needs
+sub-of-object : tie.Need-sub-of-object
+sub-of-object c = search needs
 
-cast-i : tie.Need-cast-i
-cast-i c = search needs
+cast-of-object : tie.Need-cast-of-object
+cast-of-object c = search needs
 
-array-read-result-2 : tie.Need-array-read-result-2
-array-read-result-2 c = search needs
+of-object-requires-2 : tie.Need-of-object-requires-2
+of-object-requires-2 c κs = search needs
 
 returns-2 : tie.Need-returns-2
 returns-2 c = search needs
 
-returns-3 : tie.Need-returns-3
-returns-3 c = past 16 (c .before .before .args .t1) (c .before .before .args .x / 64 - 1) false (search needs) (search needs)
-
 pub of-queue-spec : {M : Type 1} → statement M
 of-queue-spec =
     tie.close
-    (tie.spec array-read-result returns sub-i cast-i array-read-result-2 returns-2 returns-3)
+    (tie.spec
+    of-object-requires
+    returns
+    sub-of-object
+    cast-of-object
+    of-object-requires-2
+    returns-2)

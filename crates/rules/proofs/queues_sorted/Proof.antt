@@ -4,17 +4,18 @@ use Prim.Native.Nat.{_-_}
 use mathlib.Core.Bool.{false}
 use borrow.Author.Needs.{needs}
 use lib.ListN.{getD}
+use Rattle.scope.specs.Objects.{ofObject}
 use Rattle.scope.specs.Rules.{queuesSorted, joinedRight}
 use Rattle.rules.proofs.Laws.{Testing, testing-start, testing-more, testing-done}
 use Rattle.rules.proofs.queues_sorted.Statement.{statement}
 use Rattle.rules.proofs.queues_sorted.Tie as tie
 
 abbrev Inv-loop : tie.InvT-loop
-Inv-loop seat joined fifo ok₀ t₀ ok t =
-    Testing 32 (λ j. joinedRight seat joined (λ i. getD fifo i false) (getD seat j 0) (getD joined j 0)) ok t
+Inv-loop seat joined fifo queues ok₀ t₀ ok t =
+    Testing 32 (λ j. joinedRight seat joined (ofObject fifo queues false) (getD seat j 0) (getD joined j 0)) ok t
 
 abbrev μ-loop : tie.MeasureT-loop
-μ-loop seat joined fifo ok₀ t₀ ok t = 32 - t
+μ-loop seat joined fifo queues ok₀ t₀ ok t = 32 - t
 
 loop-holds : tie.Need-loop-holds Inv-loop μ-loop
 loop-holds c = testing-start _ _

@@ -13,7 +13,7 @@ runner-requires c κs = search needs
 
 returns : tie.Need-returns
 unfolding runningRight
-returns c = λ left joined k m p. rw (c .runner .ensures)
+returns c = λ left joined k m p u. rw (c .runner .ensures)
 
 pub running-right-spec : {M : Type 1} → statement M
 running-right-spec = tie.close (tie.spec element-copy-out-runner runner-requires returns)

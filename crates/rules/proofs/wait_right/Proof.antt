@@ -20,7 +20,7 @@ is-time-out-requires c κs = search needs
 returns : tie.Need-returns
 unfolding waitRight
 returns c =
-    pick-yes _ _ _ (sym (c .before .before .before .before .waits-on .ensures) ∙ c .before .before .before .if1 .taken)
+    pick-yes _ _ _ (sym (c .before .before .before .before .before .waits-on .ensures) ∙ c .before .before .before .before .if1 .taken)
     (simp and-assoc (rw (c .before .of-queue .ensures, c .is-time-out .ensures)))
 
 returns-2 : tie.Need-returns-2

@@ -4,16 +4,17 @@ use Prim.Native.Nat.{_-_}
 use mathlib.Core.Bool.{false}
 use borrow.Author.Needs.{needs}
 use lib.ListN.{getD}
+use Rattle.scope.specs.Objects.{ofObject}
 use Rattle.scope.specs.Rules.{waitsRight, waitRight}
 use Rattle.rules.proofs.Laws.{Testing, testing-start, testing-more, testing-done}
 use Rattle.rules.proofs.waits_right.Statement.{statement}
 use Rattle.rules.proofs.waits_right.Tie as tie
 
 abbrev Inv-loop : tie.InvT-loop
-Inv-loop left seat joined live ok₀ t₀ ok t = Testing 32 (λ j. waitRight (λ i. getD live i false) (getD seat j 0) (getD left j 0) (getD joined j 0)) ok t
+Inv-loop left seat joined live queues ok₀ t₀ ok t = Testing 32 (λ j. waitRight (ofObject live queues false) (getD seat j 0) (getD left j 0) (getD joined j 0)) ok t
 
 abbrev μ-loop : tie.MeasureT-loop
-μ-loop left seat joined live ok₀ t₀ ok t = 32 - t
+μ-loop left seat joined live queues ok₀ t₀ ok t = 32 - t
 
 loop-holds : tie.Need-loop-holds Inv-loop μ-loop
 loop-holds c = testing-start _ _

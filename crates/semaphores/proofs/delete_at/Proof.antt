@@ -38,7 +38,7 @@ woke-requires c κs = search needs
 
 returns : tie.Need-returns
 unfolding semDeleteAt
-returns c = λ s serial running. woke-moved _ _ _ _ _ _ _ _ _ _ _ (c .woke .ensures) (c .before .runner .ensures) (rw (← c .before .before .before .before .before .before .before .before .before .before .pre .1) (c .before .before .before .before .wake-all .ensures (s .tasks)))
+returns c = λ s serial running. woke-moved _ _ _ _ _ _ _ _ _ _ _ _ (c .woke .ensures) (c .before .runner .ensures) (rw (← c .before .before .before .before .before .before .before .before .before .before .pre .1) (c .before .before .before .before .wake-all .ensures (s .tasks)))
 
 pub delete-at-spec : {M : Type 1} → statement M
 delete-at-spec =

@@ -27,7 +27,7 @@ woke-requires c κs = search needs
 
 returns : tie.Need-returns
 unfolding semReleaseAt
-returns c = λ s name serial live fifo. rw (← c .before .before .before .before .before .before .before .before .before .before .before .first-waiter .ensures) (pick-no _ _ _ (first-fails _ _ (not-of-true _ (lt-ltb _ _ (c .before .before .before .before .before .before .before .before .before .before .if1 .taken)))) (pick-yes _ _ _ (lt-ltb _ _ (c .before .before .before .before .before .before .before .before .before .before .if1 .taken)) (woke-moved _ _ _ _ _ _ _ _ _ _ _ (c .woke .ensures) (c .before .runner .ensures) (rw (← c .before .before .before .before .before .before .before .before .before .before .before .before .before .pre .1) (c .before .before .before .before .wake-next .ensures (s .tasks))))))
+returns c = λ s name serial live fifo. rw (← c .before .before .before .before .before .before .before .before .before .before .before .first-waiter .ensures) (pick-no _ _ _ (first-fails _ _ (not-of-true _ (lt-ltb _ _ (c .before .before .before .before .before .before .before .before .before .before .if1 .taken)))) (pick-yes _ _ _ (lt-ltb _ _ (c .before .before .before .before .before .before .before .before .before .before .if1 .taken)) (woke-moved _ _ _ _ _ _ _ _ _ _ _ _ (c .woke .ensures) (c .before .runner .ensures) (rw (← c .before .before .before .before .before .before .before .before .before .before .before .before .before .pre .1) (c .before .before .before .before .wake-next .ensures (s .tasks))))))
 
 mul-free : tie.Need-mul-free
 mul-free c = search needs

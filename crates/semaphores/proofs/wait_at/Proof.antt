@@ -35,7 +35,7 @@ plain-requires-2 c κs = search needs
 
 returns-2 : tie.Need-returns-2
 unfolding semWaitAt
-returns-2 c = λ s serial units live. pick-no _ _ _ (lt-leb _ _ (c .before .before .before .before .before .before .before .before .before .before .before .if1 .left)) (plain-moved _ _ _ _ _ _ _ _ _ (c .plain2 .ensures) (c .before .runner .ensures) (c .before .before .before .before .wait .ensures))
+returns-2 c = λ s serial units live. pick-no _ _ _ (lt-leb _ _ (c .before .before .before .before .before .before .before .before .before .before .before .if1 .left)) (plain-moved _ _ _ _ _ _ _ _ _ _ (c .plain2 .ensures) (c .before .runner .ensures) (c .before .before .before .before .wait .ensures))
 
 pub wait-at-spec : {M : Type 1} → statement M
 wait-at-spec =

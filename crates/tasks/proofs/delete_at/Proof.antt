@@ -47,7 +47,7 @@ plain-requires c κs = search needs
 
 returns : tie.Need-returns
 unfolding taskDeleteAt
-returns c = λ s serial running. plain-moved _ _ _ _ _ _ _ _ _ (c .plain .ensures) (c .before .runner .ensures) (rw (c .before .before .before .before .take-out .ensures .0, c .before .before .before .before .take-out .ensures .1))
+returns c = λ s serial running. plain-moved _ _ _ _ _ _ _ _ _ _ (c .plain .ensures) (c .before .runner .ensures) (rw (c .before .before .before .before .take-out .ensures .0, c .before .before .before .before .take-out .ensures .1))
 
 pub delete-at-spec : {M : Type 1} → statement M
 delete-at-spec =

@@ -60,7 +60,7 @@ gives-requires c κs = search needs
 
 returns-2 : tie.Need-returns-2
 unfolding taskSetPriorityAt
-returns-2 c = λ s serial live. pick-no _ _ _ (le-ltb _ _ (c .before .before .before .before .before .before .before .before .before .before .before .before .before .before .before .before .before .if1 .left)) (pick-yes _ _ _ (sym (c .before .before .before .before .before .before .before .before .before .before .before .before .is-ready .ensures) ∙ c .before .before .before .before .before .before .before .before .before .before .before .if2 .taken) (gives-moved _ _ _ _ _ _ _ _ _ (rw (c .before .before .before .before .wide .ensures) at (c .gives .ensures)) (c .before .runner .ensures) (rw (c .before .before .before .before .before .put-in .ensures .0, c .before .before .before .before .before .put-in .ensures .1, c .before .before .before .before .before .before .before .before .take-out .ensures .0, c .before .before .before .before .before .before .before .before .take-out .ensures .1))))
+returns-2 c = λ s serial live. pick-no _ _ _ (le-ltb _ _ (c .before .before .before .before .before .before .before .before .before .before .before .before .before .before .before .before .before .if1 .left)) (pick-yes _ _ _ (sym (c .before .before .before .before .before .before .before .before .before .before .before .before .is-ready .ensures) ∙ c .before .before .before .before .before .before .before .before .before .before .before .if2 .taken) (gives-moved _ _ _ _ _ _ _ _ _ _ (rw (c .before .before .before .before .wide .ensures) at (c .gives .ensures)) (c .before .runner .ensures) (rw (c .before .before .before .before .before .put-in .ensures .0, c .before .before .before .before .before .put-in .ensures .1, c .before .before .before .before .before .before .before .before .take-out .ensures .0, c .before .before .before .before .before .before .before .before .take-out .ensures .1))))
 
 wide-requires-2 : tie.Need-wide-requires-2
 wide-requires-2 c κs = search needs

@@ -37,7 +37,7 @@ plain-requires-2 c κs = search needs
 
 returns-2 : tie.Need-returns-2
 unfolding taskStartAt
-returns-2 c = λ s serial live. pick-no _ _ _ (c .before .before .before .before .before .before .before .before .if1 .left) (plain-moved _ _ _ _ _ _ _ _ _ (c .plain2 .ensures) (c .before .runner .ensures) (rw (c .before .before .before .before .put-in .ensures .0, c .before .before .before .before .put-in .ensures .1)))
+returns-2 c = λ s serial live. pick-no _ _ _ (c .before .before .before .before .before .before .before .before .if1 .left) (plain-moved _ _ _ _ _ _ _ _ _ _ (c .plain2 .ensures) (c .before .runner .ensures) (rw (c .before .before .before .before .put-in .ensures .0, c .before .before .before .before .put-in .ensures .1)))
 
 pub start-at-spec : {M : Type 1} → statement M
 start-at-spec =

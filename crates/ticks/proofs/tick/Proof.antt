@@ -23,7 +23,7 @@ woke-requires c κs = search needs
 
 returns : tie.Need-returns
 unfolding tick
-returns c = λ s running. woke-moved _ _ _ _ _ _ _ _ _ _ _ (c .woke .ensures) (c .before .runner .ensures) (rw (← c .before .before .before .before .before .before .before .before .before .before .times-left .ensures) (c .before .before .before .before .wake-due .ensures (s .tasks)))
+returns c = λ s running. woke-moved _ _ _ _ _ _ _ _ _ _ _ _ (c .woke .ensures) (c .before .runner .ensures) (rw (← c .before .before .before .before .before .before .before .before .before .before .times-left .ensures) (c .before .before .before .before .wake-due .ensures (s .tasks)))
 
 pub tick-spec : {M : Type 1} → statement M
 tick-spec =
