@@ -2,7 +2,7 @@
 -- Assumes nothing.
 use lib.Dec.{T}
 use lib.Count.{leadingZeros}
-use Rattle.scope.specs.Choice.{pick, least, every, number, bits, greater, topOf}
+use Rattle.scope.specs.Choice.{pick, least, every, number, bits}
 use Rattle.scope.specs.Identifiers.{found, usable, lowestUsable, named, byName}
 use Rattle.scope.specs.Seats.{waitsOn, onSeat, standsIn, standing, lower, leaves, raise, laterOf, aheadOf, joins, holdsTask, ringMask, maskFilled, maskEmptied, maskLeft, ringsLeft, ringsReady, runnerOf}
 use Rattle.scope.specs.Views.{readyWith, less, runningTask}
@@ -24,5 +24,5 @@ use Rattle.scope.specs.Listing.{decimal, signed, wakeFields, lineOf, linesFrom,
 use Rattle.cases.specs.Cases.{cases, allPass}
 
 pub every-case : T (allPass cases)
-unfolding pick least every number bits greater topOf leadingZeros found usable lowestUsable named byName waitsOn onSeat standsIn standing lower leaves raise laterOf aheadOf joins holdsTask ringMask maskFilled maskEmptied maskLeft ringsLeft ringsReady runnerOf readyWith less runningTask answer plain gives badState wakesWith onFound isArea isSize buffersOf shareByte isOut isFree freeOf bufferAddress bufferAt rowOf withRow onPlace firstLeaves joinsLast newRow taskFound taskCreateAt taskCreate taskDeleteAt taskIdentAt taskIdent taskStartAt taskSuspendAt taskResumeAt taskSetPriorityAt bitOf semCreateAt semCreate wokenSeats wokenRings wake wakeNext wakeAll semDeleteAt semIdentAt semIdent isTimeOut queueKey waits semWaitAt semClaimAt semReleaseAt semInfoAt overlaps overlapped poolCreateAt poolCreate poolDeleteAt poolIdentAt poolIdent poolGetBuffer poolGetBuffAt poolRetBuffer poolRetBuffAt poolInfoAt timeLeft timesLeft isDue wakeDue tick seatRight seatsRight ringsRight readyRight readyOrderRight ofObject objects waitRight waitsRight joinedRight queuesSorted countRight countsRight holdsRight heldRight startRight startsRight taskRight tasksRight semRight semsRight queueRight queuesRight admitted poolRight poolsRight placeRight orderRight ordersRight pairShares poolsApart runningRight keeps sound freshState mayCall callerRefusal answered stepped number32 isScript stepAt decimal signed wakeFields lineOf linesFrom refusedLine listing
+unfolding pick least every number bits leadingZeros found usable lowestUsable named byName waitsOn onSeat standsIn standing lower leaves raise laterOf aheadOf joins holdsTask ringMask maskFilled maskEmptied maskLeft ringsLeft ringsReady runnerOf readyWith less runningTask answer plain gives badState wakesWith onFound isArea isSize buffersOf shareByte isOut isFree freeOf bufferAddress bufferAt rowOf withRow onPlace firstLeaves joinsLast newRow taskFound taskCreateAt taskCreate taskDeleteAt taskIdentAt taskIdent taskStartAt taskSuspendAt taskResumeAt taskSetPriorityAt bitOf semCreateAt semCreate wokenSeats wokenRings wake wakeNext wakeAll semDeleteAt semIdentAt semIdent isTimeOut queueKey waits semWaitAt semClaimAt semReleaseAt semInfoAt overlaps overlapped poolCreateAt poolCreate poolDeleteAt poolIdentAt poolIdent poolGetBuffer poolGetBuffAt poolRetBuffer poolRetBuffAt poolInfoAt timeLeft timesLeft isDue wakeDue tick seatRight seatsRight ringsRight readyRight readyOrderRight ofObject objects waitRight waitsRight joinedRight queuesSorted countRight countsRight holdsRight heldRight startRight startsRight taskRight tasksRight semRight semsRight queueRight queuesRight admitted poolRight poolsRight placeRight orderRight ordersRight pairShares poolsApart runningRight keeps sound freshState mayCall callerRefusal answered stepped number32 isScript stepAt decimal signed wakeFields lineOf linesFrom refusedLine listing
 every-case = tt

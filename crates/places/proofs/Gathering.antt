@@ -12,7 +12,7 @@ use mathlib.Core.List.{List}
 use lib.ListN.{length, getD, List·getD-eq-default}
 use lib.Dec.{ltb, leb, eqb}
 use lib.Bits.{bitOr, or-lt}
-use lib.Pow.{pow-pos, pow-lt, pow-mono, ones-lt}
+use lib.Pow.{pow-lt, pow-mono, ones-lt}
 use borrow.Author.Tests.{lt-ltb, le-ltb, ltb-true, ltb-false, le-leb, leb-true, eq-eqb, ne-eqb, eqb-true}
 use Rattle.scope.specs.Choice.{pick, every, number, hasBit, bits}
 use Rattle.scope.specs.Areas.{isFree, freeOf}

@@ -6,7 +6,7 @@ use native.Mathlib.Omega.{arith}
 use native.Mathlib.Nat.{mod-one, mod-lt, mod-eq-of-lt, zero-div}
 use mathlib.Core.Path.{_≡_, refl, sym, ap, _∙_}
 use mathlib.Core.Logic.{⊎-elim}
-use mathlib.Core.Bool.{Bool, true, false, _||_}
+use mathlib.Core.Bool.{true, false, _||_}
 use lib.Dec.{eqb}
 use lib.Bits.{bitOr, or-shr, or-mod, or-zero-l, or-zero-r, or-self}
 use lib.Pow.{pow-pos, high, ones-lt, ones-split}
@@ -15,7 +15,7 @@ use borrow.Author.Tests.{eq-eqb}
 use Rattle.scope.specs.Choice.{pick, hasBit, bits}
 use Rattle.scope.specs.Areas.{isOut, isFree}
 use Rattle.scope.proofs.Marks.{take-same, take-other}
-use Rattle.laws.proofs.Branches.{picked-yes, picked-no, true-or-false}
+use Rattle.laws.proofs.Branches.{picked-yes, picked-no}
 use Rattle.laws.proofs.Bits.{bits-at, bits-past, bits-same}
 use Rattle.areas.proofs.Ones.{zero-or-one, digit-out, digit-free, digit-more}
 

@@ -1,6 +1,6 @@
 -- `free_of` meets its contract: the buffers out, counted as ones, and the free ones are all. Assumes nothing.
 use native.Mathlib.Omega.{arith}
-use mathlib.Core.Path.{_≡_, sym, _∙_}
+use mathlib.Core.Path.{_≡_, _∙_}
 use borrow.Author.Needs.{needs}
 use Rattle.scope.specs.Choice.{number}
 use Rattle.scope.specs.Areas.{freeOf}

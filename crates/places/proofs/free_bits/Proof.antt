@@ -1,7 +1,7 @@
 -- `places::free_bits`: of n marks, all but those that are set.
 -- Assumes nothing.
 use native.Mathlib.Omega.{arith}
-use mathlib.Core.Path.{ap, _∙_}
+use mathlib.Core.Path.{_∙_}
 use lib.Bits.{and-mask, and-le-r}
 use borrow.Author.Needs.{needs}
 use Rattle.places.proofs.Words.{free-and-out}
