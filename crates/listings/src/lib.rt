@@ -39,6 +39,7 @@ fn copy(out: &mut [u8], at: usize, part: &[u8], n: usize)
 }
 
 // What becomes of a part behind n bytes: it is counted, and where the listing is kept it is copied behind those before it.
+// (782 bytes for each of 2,341 records are 1,830,662: no listing has more.)
 fn add_part(out: &mut [u8], n: usize, part: &[u8], written: usize, keep: bool) -> usize
     requires { ⌜ (n + written ≤ 1830662) × (written ≤ length (now part)) × (keep ≡ true → n + written ≤ length (now out)) ⌝ }
     ensures { λ r. ⌜ (r ≡ n + written) × (now (out .exit) ≡ pick keep (paste (now (out .entry)) n (now (part .entry)) written) (now (out .entry))) ⌝ }
