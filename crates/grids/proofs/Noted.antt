@@ -28,7 +28,7 @@ use Rattle.scope.specs.Answers.{answer, plain, badState, wakesWith}
 use Rattle.scope.specs.Waiting.{wakeNext}
 use Rattle.scope.specs.Semaphores.{semFound, semDeleteAt}
 use Rattle.scope.specs.Ticks.{tick}
-use Rattle.scope.specs.Calls.{callAt, mayCall}
+use Rattle.scope.specs.Calls.{knownCalls, callAt, mayCall}
 use Rattle.scope.specs.Rules.{sound}
 use Rattle.scope.specs.Step.{callerRefusal, answered, stepped}
 use Rattle.scope.proofs.Rows.{by-choice}
@@ -86,7 +86,7 @@ refusal-runs : (mark running : ℕ) → callerRefusal 11 mark running ≡ OK →
 unfolding callerRefusal mayCall
 refusal-runs mark running =
     let P : ℕ → Type 0 = λ v. v ≡ OK → running < 32 in
-    by-choice P (leb 20 11) (λ e z. absurd (omega (arith, z)))
+    by-choice P (leb knownCalls 11) (λ e z. absurd (omega (arith, z)))
     (λ e. by-choice P (ltb 1 mark) (λ f z. absurd (omega (arith, z)))
     (λ f. by-choice P (eqb mark 0)
     (λ g. by-choice P (mayCall 11 0) (λ h. by-choice P (ltb running 32) (λ i z. ltb-true running 32 i) (λ i z. absurd (omega (arith, z)))) (λ h z. absurd (omega (arith, z))))
