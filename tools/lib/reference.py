@@ -31,9 +31,9 @@ table (`crates/grid`).
 SCRIPT = """
 ## Identifiers and rooms
 
-An identifier is serial x 64 + slot; slots count from 0, serials from 1 to 65,535, and a creation takes the lowest free slot. At
-first there is one task, 64, started, name 0. There is room for %s, 64 buffers a
-pool; priorities are 0 to 15, 15 the most urgent.
+An identifier is serial x 64 + slot; slots count from 0, serials from 1 to 65,535, and a creation takes the lowest slot that is
+free and has a serial left. At first there is one task, 64, started, name 0. There is room for %s, 64
+buffers a pool; priorities are 0 to 15, 15 the most urgent.
 
 ## The script's bytes
 
