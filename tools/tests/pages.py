@@ -1,5 +1,6 @@
 """README.md and the other pages: what they quote and name is there."""
 
+import glob
 import os
 import re
 
@@ -11,6 +12,8 @@ PLACES = "crates|tools|docs|examples|stored|second|bench|include|play|\\.ci"
 PATH = re.compile(r"`(?:\./)?((?:%s)(?:/[\w.-]+)*/?)[` ]" % PLACES)
 QUOTE = re.compile(r"^From `([^`]+)`[^\n]*:\n\n((?:    .*\n)+)", re.M)
 PATTERN = re.compile(r"NAME|LABEL|landings")     # names for what is to come
+EDIT = re.compile(r"`([a-z_]+)/([a-z0-9_]+)`")
+DEFINITION = re.compile(r"`([A-Z]\w+)\.(?!antt`)([\w-]+)`(?! \(`crates/\w+/src)")
 
 
 def page(name):
@@ -36,6 +39,27 @@ def test_quotes(bench):
         missing = [line.strip() for line in lines.split("\n")
                    if line.strip() not in known]
         bench.equal("what %s quotes from %s" % (name, path), missing, [])
+
+
+def test_edits(bench):
+    """A must-fail edit that a page names is there."""
+    for name in ("docs/PROVED.md", "docs/CHECKS.md", "docs/SENTENCES.md"):
+        absent = [crate + "/" + label for crate, label in EDIT.findall(page(name))
+                  if os.path.isdir(os.path.join(ROOT, "crates", crate))
+                  and not os.path.exists(os.path.join(
+                      ROOT, "crates", crate, "must-fail", label + ".edit"))]
+        bench.equal("%s names edits that are there" % name, absent, [])
+
+
+def test_definitions(bench):
+    """A definition that a sentence points to stands in the file named."""
+    absent = []
+    for file, name in DEFINITION.findall(page("docs/SENTENCES.md")):
+        found = glob.glob(os.path.join(ROOT, "crates", "*", "specs", file + ".antt"))
+        start = re.compile(r"^\s*(?:abbrev |unfoldable |pub |record )+%s\s" % re.escape(name), re.M)
+        if not any(start.search(read(path).decode()) for path in found):
+            absent.append(file + "." + name)
+    bench.equal("docs/SENTENCES.md names what is there", absent, [])
 
 
 def test_first_listing(bench):
