@@ -1,9 +1,11 @@
-# Prints crate `chapters`: src/lib.rt, where each chapter's calls are chosen by number and lent their columns, and the proofs of its
-# `_call` and `_part` functions. What a call takes is read from its own source. How far back a fact stands goes by how many columns are lent on.
+# Prints crate `chapters`, what all chapters share, and a crate for each chapter: src/lib.rt, where its calls are chosen by number and lent
+# their columns, and the proofs of its `_call` and `_part` functions; the walk that lends the columns of the state is lending.py's. What a
+# call takes is read from its own source. How far back a fact stands goes by how many columns are lent on.
 import os
 import re
 
-from table import CALLS, CHAPTERS, LAST, NUMS, array, cols, head, local, required
+from lending import lends
+from table import CALLS, CHAPTERS, LAST, NUMS, array, cols, head, home, local, required
 
 ROOT = os.path.dirname(os.path.dirname(os.path.dirname(os.path.abspath(__file__))))
 WIDE = 150
@@ -59,7 +61,8 @@ class Call:
 # a chapter: its calls, and how its functions take what is asked
 class Chapter:
     def __init__(self, name, lent, segs, req):
-        self.name, self.lent, self.segs = name, lent, segs
+        self.name, self.lent, self.segs, self.req = name, lent, segs, req
+        self.crate = home(name)
         self.columns = [(local(c, shr), shr, array(g, c)) for g, c, shr in cols(segs)]
         self.calls = [Call(name, segs, k) for k in CALLS[name][2]]
         self.one = len(self.calls) == 1
@@ -86,24 +89,17 @@ class Chapter:
 
 
 # ---- the source
-HEAD = '''// The chapters of the call table: each is lent the columns that its calls read or change, and answers any call of its own, by
-// whoever. (scope's specs/Step.antt and Calls.antt.) Printed by tools/generate/run: what a call takes is read from its own source.
-use answers::Outcome;
+HEAD = '''// What the chapters of the call table share: what is asked of a step, and the caller's test, which each has in front of its calls.
+// (scope's specs/Step.antt.) Printed by tools/generate/run.
 ghost use mathlib.Core.Path.{_≡_};
-ghost use Prim.Native.Nat.{ℕ, _<_, _≤_};
-ghost use Rattle.scope.specs.Calls.{knownCalls, callAt};
-ghost use Rattle.scope.specs.Step.{callerRefusal, answered};
-ghost use Rattle.scope.specs.declared.State.{State};
-ghost use Rattle.scope.specs.Answers.{noWakes};
-ghost use Rattle.answers.specs.Outcomes.{answerOf};
-ghost use Rattle.answers.specs.Columns.{%s};
+ghost use Rattle.scope.specs.Step.{callerRefusal};
 
 // What is asked of a step: "call, caller mark, five arguments".
 pub struct Asked {
 %s}
 
 // 25, 24, 2, in that order, by the call table; 0 where none of them is given.
-fn caller_refusal(call: u32, mark: u32, running: usize) -> u32
+pub fn caller_refusal(call: u32, mark: u32, running: usize) -> u32
     ensures { λ r. ⌜ r ≡ callerRefusal call mark running ⌝ }
 {
     if %d <= call {
@@ -127,6 +123,23 @@ fn caller_refusal(call: u32, mark: u32, running: usize) -> u32
     scope::ILLEGAL_USE
 }
 '''
+CHAPTER = '''// %s, a chapter of the call table. %s
+// `%s_part` has the caller's test in front; `%s` lends the columns of the state, all at once, and what is left in them is the state's.
+// (scope's specs/Step.antt and Calls.antt.) Printed by tools/generate/run: what a call takes is read from its own source.
+use answers::Outcome;
+use chapters::Asked;
+use scope::State;
+'''
+# what the promises may name
+GHOST = {
+    'mathlib.Core.Path': '_≡_',
+    'Prim.Native.Nat': 'ℕ _<_ _≤_',
+    'Rattle.scope.specs.Calls': 'knownCalls callAt',
+    'Rattle.scope.specs.Step': 'answered',
+    'Rattle.scope.specs.declared.State': 'State',
+    'Rattle.scope.specs.Answers': 'noWakes',
+    'Rattle.answers.specs.Outcomes': 'answerOf',
+}
 
 
 def filled(words, indent):
@@ -181,9 +194,9 @@ def part_source(ch):
     after = ch.state('entry')
     after[0] = '≡ answered ' + after[0]
     after.append(' '.join(f'(x .{x})' for x in NUMS) + ')')
-    o = f"\n// {head(ch.name)}{TASKS if ch.some else ''}.\npub fn {ch.name}_part(\n{ch.params(True)}    x: Asked,\n) -> Outcome\n"
+    o = f"\n// {head(ch.name)}{TASKS if ch.some else ''}.\nfn {ch.name}_part(\n{ch.params(True)}    x: Asked,\n) -> Outcome\n"
     o += f'    requires {{ ⌜ {required(ch.name, "x .call")} ⌝ }}\n' + promise(before, '(now (wakes .exit))', after)
-    o += '\n{\n    *wakes = [0; 32];\n    let refusal = caller_refusal(x.call, x.mark, running);\n    if refusal != scope::OK {\n        return answers::plain(refusal, running);\n    }\n'
+    o += '\n{\n    *wakes = [0; 32];\n    let refusal = chapters::caller_refusal(x.call, x.mark, running);\n    if refusal != scope::OK {\n        return answers::plain(refusal, running);\n    }\n'
     if ch.one:
         c = ch.calls[0]
         return o + '    ' + called(f'{c.crate}::{c.fn}', [f'x.{a}' if a in LETTERS else a for a in c.args], ' ' * 4) + '\n}\n'
@@ -191,10 +204,17 @@ def part_source(ch):
     return o + '    ' + called(f'{ch.name}_call', args, ' ' * 4) + '\n}\n'
 
 
-def source(chapters):
-    lents = list(dict.fromkeys(ch.lent for ch in chapters))
-    o = HEAD % (', '.join(lents), ''.join(f'    pub {x}: u32,\n' for x in NUMS), CALLS[LAST][2][-1] + 1)
-    return o + ''.join(call_source(ch) for ch in chapters if not ch.one) + ''.join(part_source(ch) for ch in chapters)
+def source(ch):
+    o = ('' if ch.one else call_source(ch)) + part_source(ch) + lends(ch.name, ch.lent, ch.segs, ch.req)
+    what, chosen = f'The {CALLS[ch.name][0]}s', f'`{ch.name}_call` is lent the columns that they read or change, and chooses by number.'
+    if ch.one:
+        what, chosen = head(ch.name), 'It is lent the columns that it reads or changes.'
+    top = CHAPTER % (what, chosen, ch.name, ch.name)
+    said = set(re.findall(r'[^\s(){}.]+', ' '.join(re.findall('⌜(.*?)⌝', o, re.S))))
+    for module, names in (GHOST | {'Rattle.answers.specs.Columns': ch.lent}).items():
+        named = [n for n in names.split() if n.strip('_') in said]
+        top += f'ghost use {module}.{{{", ".join(named)}}};\n' if named else ''
+    return top + o
 
 
 # ---- the proofs
@@ -227,7 +247,7 @@ def call_proof(ch):
             x = ' .x' if ch.asked else ''
             said = f'let h : {back(far + 1)} .args{x} .call ≡ {c.number} = only {c.number} _ {above} (omega arith) in rw h ({got})'
         returns += f'\n{title} : tie.Need-{title}\n{title} c = {bound}{said}\n'
-    return f'''-- `chapters::{name}_call`: each call of the chapter by its number; the last is what is left when it is none of those before.
+    return f'''-- `{ch.crate}::{name}_call`: each call of the chapter by its number; the last is what is left when it is none of those before.
 -- Assumes nothing. Printed by tools/generate/run.
 use native.Mathlib.Omega.{{arith}}
 use mathlib.Core.Path.{{_≡_}}
@@ -235,9 +255,9 @@ use borrow.Author.Needs.{{needs}}
 use denote.Ref.{{now}}
 use Rattle.answers.proofs.Outcomes.{{none-woken}}
 use Rattle.answers.specs.Columns.{{{ch.lent}}}
 use Rattle.chapters.proofs.Laws.{{past, only}}
-use Rattle.chapters.proofs.{name}_call.Statement.{{statement}}
-use Rattle.chapters.proofs.{name}_call.Tie as tie
+use Rattle.{ch.crate}.proofs.{name}_call.Statement.{{statement}}
+use Rattle.{ch.crate}.proofs.{name}_call.Tie as tie
 use Rattle.scope.specs.declared.State.{{State}}
 
 -- the state before, out of all the columns lent
@@ -267,16 +287,16 @@ def part_proof(ch):
         meets = f'(search needs, known-call _ _ _ (sym ({back(far - 3)} .caller-refusal .ensures) ∙ {back(far - 4)} .if1 .left))'
     if ch.wakes and not ch.one:
         meets = f'({meets}, refl)'
-    return f'''-- `chapters::{name}_part`: the caller's test first, then the call.
+    return f'''-- `{ch.crate}::{name}_part`: the caller's test first, then the call.
 -- Assumes nothing. Printed by tools/generate/run.
 use mathlib.Core.Path.{{refl{', sym, _∙_' if ch.last else ''}}}
 use borrow.Author.Needs.{{needs}}
 use denote.Ref.{{now}}
 use Rattle.answers.proofs.Outcomes.{{plain-of}}
 use Rattle.answers.specs.Columns.{{{ch.lent}}}
 use Rattle.chapters.proofs.Laws.{{answered-refused, answered-does, known-call}}
-use Rattle.chapters.proofs.{name}_part.Statement.{{statement}}
-use Rattle.chapters.proofs.{name}_part.Tie as tie
+use Rattle.{ch.crate}.proofs.{name}_part.Statement.{{statement}}
+use Rattle.{ch.crate}.proofs.{name}_part.Tie as tie
 use Rattle.scope.specs.declared.State.{{State}}
 
 -- the state before, out of the columns lent and a state's
@@ -304,10 +324,11 @@ pub {name}-part-spec : {{M : Type 1}} → statement M
 
 
 def files():
-    chapters = [Chapter(*c) for c in CHAPTERS]
-    r = {'src/lib.rt': source(chapters)}
-    for ch in chapters:
-        r[f'proofs/{ch.name}_part/Proof.antt'] = part_proof(ch)
+    r = {'crates/chapters/src/lib.rt': HEAD % (''.join(f'    pub {x}: u32,\n' for x in NUMS), CALLS[LAST][2][-1] + 1)}
+    for ch in [Chapter(*c) for c in CHAPTERS]:
+        at = f'crates/{ch.crate}'
+        r[f'{at}/src/lib.rt'] = source(ch)
+        r[f'{at}/proofs/{ch.name}_part/Proof.antt'] = part_proof(ch)
         if not ch.one:
-            r[f'proofs/{ch.name}_call/Proof.antt'] = call_proof(ch)
-    return {f'crates/chapters/{path}': text for path, text in r.items()}
+            r[f'{at}/proofs/{ch.name}_call/Proof.antt'] = call_proof(ch)
+    return r

@@ -1,5 +1,5 @@
 # Prints the walks of crate `kernel`: `perform`, which chooses the chapter, `is_sound`, which asks the rules, and `step`, which asks it first.
-from table import CALLS, CHAPTERS, NUMS
+from table import CALLS, CHAPTERS, NUMS, home
 from walk import Walk, chain, path, reader_ghost, reader_walk
 
 CRATE = 'kernel'
@@ -33,10 +33,10 @@ def choice():
     names = [c[0] for c in CHAPTERS]
     N = 11 + 2 * len(names)
     W = Walk(); w = W.w
-    uses = ''.join(f'''use Rattle.{BELOW}.proofs.{n} as {n}
-use Rattle.{BELOW}.proofs.{n}.Symbol as {n}-def
-use Rattle.{BELOW}.proofs.{n}.Symbol.{{name as #{BELOW}·{n}}}
-use Rattle.{BELOW}.proofs.{n}.Met as {n}-thm
+    uses = ''.join(f'''use Rattle.{home(n)}.proofs.{n} as {n}
+use Rattle.{home(n)}.proofs.{n}.Symbol as {n}-def
+use Rattle.{home(n)}.proofs.{n}.Symbol.{{name as #{home(n)}·{n}}}
+use Rattle.{home(n)}.proofs.{n}.Met as {n}-thm
 ''' for n in names)
     G = ''.join(f'''abbrev G{n} : {{M : Type 1}} (𝓤 : URA M) (H : Heap 𝓤) (A : Atoms 𝓤) (mem : Memory → SProp 𝓤) (run : Routine → Fun 𝓤) → Contract 𝓤
 G{n} 𝓤 H A mem run = tripleOf 𝓤 H A {n}.signature ({n}.spec 𝓤 H A mem run)
@@ -174,7 +174,7 @@ sTy = pointee (S.the-row .written)
 
 ''')
     g = '(((κ, (κ′, tt)), (q, (q′, tt)), tt, a, vals), tt)'
-    w('  module _ (C : Calls 𝓤 H) (Λ : Loops 𝓤 H) (fm : FmC 𝓤 H (W .laws) C)' + ''.join(f' (known-{n} : Triple 𝓤 (C #{BELOW}·{n}) (G{n} 𝓤 H A at-mem run))' for n in names) + ' where\n')
+    w('  module _ (C : Calls 𝓤 H) (Λ : Loops 𝓤 H) (fm : FmC 𝓤 H (W .laws) C)' + ''.join(f' (known-{n} : Triple 𝓤 (C #{home(n)}·{n}) (G{n} 𝓤 H A at-mem run))' for n in names) + ' where\n')
     w(f'''    abbrev En : {' → '.join(['ℕ'] * N)} → Env 𝓤 H
     En {' '.join(f'l{i}' for i in range(N))} = (oTy, l0) ∷ (tyRef (named 0) mut sTy, l1) ∷ (tyRef (named 1) mut wTy, l2) ∷ {' ∷ '.join(f'(tyInt w32, l{i})' for i in range(3, 10))} ∷ (tyBool, l10) ∷ {' ∷ '.join(f'(tyRef erased mut {"sTy" if i % 2 else "wTy"}, l{i})' for i in range(11, N))} ∷ []
 
@@ -218,7 +218,7 @@ sTy = pointee (S.the-row .written)
             w(f')\n        (λ t{k}. skips ! $ exec ! C Λ (En {ls}) code.Mir.t-{3 + 2 * k} (atRet (En {ls}) Post) $\n'); W.close += 1
     w(')' * W.close + '\n')
     v7 = chain(['uint-vals w32'] * 7); t7 = chain(['uint-tells w32'] * 7); g7 = chain(['goes-none 𝓤 H A W 2 (λ _. u32) yes (λ κs x f. refl)'] * 7)
-    kn = lambda c: ' → '.join(f'Triple 𝓤 ({c} #{BELOW}·{n}) (G{n} 𝓤 H A mem run)' for n in names)
+    kn = lambda c: ' → '.join(f'Triple 𝓤 ({c} #{home(n)}·{n}) (G{n} 𝓤 H A mem run)' for n in names)
     kv = ' '.join(f'known-{n}' for n in names)
     w(f'''
 module _ {{M : Type 1}} (𝓤 : URA M) (H : Heap 𝓤) (A : Atoms 𝓤) (W : Given 𝓤 H A) (mem : Memory → SProp 𝓤) (run : Routine → Fun 𝓤) where
@@ -238,7 +238,7 @@ perform-spec 𝓤 H 𝓜 𝓖 𝓡 =
     entered 𝓤 H (tripleOf 𝓤 H (𝓖 .A) outer.signature (outer.spec 𝓤 H (𝓖 .A) (𝓜 .mem) (𝓡 .run)))
     (tables 𝓤 H 𝓜 𝓡 code.env .C) (tables 𝓤 H 𝓜 𝓡 code.env .Λ) #{CRATE}·perform code.function (code.unfolded 𝓤 H 𝓜 𝓡)
     (perform-meets 𝓤 H (𝓖 .A) (givenOf 𝓤 H 𝓜 𝓖) (𝓜 .mem) (𝓡 .run) (tablesOf 𝓤 H 𝓜 (tables 𝓤 H 𝓜 𝓡 code.env))
-''' + '\n'.join(f'    (cited 𝓤 H (G{n} 𝓤 H (𝓖 .A) (𝓜 .mem) (𝓡 .run)) 𝓜 𝓡 code.env #{BELOW}·{n} {n}-def.routine code.calls-{BELOW}·{n} ({n}-thm.met 𝓤 H 𝓜 𝓖 𝓡))' for n in names) + ')\n')
+''' + '\n'.join(f'    (cited 𝓤 H (G{n} 𝓤 H (𝓖 .A) (𝓜 .mem) (𝓡 .run)) 𝓜 𝓡 code.env #{home(n)}·{n} {n}-def.routine code.calls-{home(n).replace("_", "-")}·{n} ({n}-thm.met 𝓤 H 𝓜 𝓖 𝓡))' for n in names) + ')\n')
     return ''.join(W.out)
 
 

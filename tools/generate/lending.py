@@ -1,7 +1,7 @@
-# Prints crate `lending`: src/lib.rt, proofs/Columns.antt and a walk for each chapter, which lends the chapter its columns of the
-# state, all at once, and takes them back. The readers' walks are readers.py's.
+# Prints crate `lending`, src/lib.rt and proofs/Columns.antt, and in each chapter's own crate its walk, which lends the chapter its columns
+# of the state, all at once, and takes them back. The readers' walks are readers.py's, a chapter's source is chapters.py's.
 import readers
-from table import CHAPTERS, NUMS, TABLES, cols, head, layout, table
+from table import CHAPTERS, NUMS, TABLES, cols, head, home, layout, table
 from walk import Walk, chain, path
 
 AT = layout()
@@ -12,26 +12,22 @@ def ty(w): return 'List Bool' if w == 0 else 'List ℕ'
 
 # ---- the source
 def source():
-    o = '''// The state lent as one thing: each chapter is lent its columns of it, all at once, and what it leaves in them is the state's.
-// Printed by tools/generate/run, from its table of columns.
-use answers::Outcome;
-use chapters::Asked;
+    return '''// The state lent as one thing and only read: each part of the state check, and the question who runs, is lent its columns of it, all at
+// once. What these walks share with the chapters' stands in proofs/. Printed by tools/generate/run, from its table of columns.
 use scope::State;
 ghost use mathlib.Core.Path.{_≡_};
-ghost use Prim.Native.Nat.{_<_, _≤_};
-ghost use Rattle.scope.specs.Step.{answered};
 ghost use Rattle.scope.specs.Rules.{keeps, orderRules, tasksRight, semsRight, queuesRight};
 ghost use Rattle.scope.specs.Views.{runningTask};
-ghost use Rattle.answers.specs.Outcomes.{answerOf};
 ghost use Rattle.rules.specs.Lent.{poolsKept};
-'''
+''' + readers.source()
+
+# the function of a chapter's crate that lends the columns
+def lends(n, lent, segs, req):
     par = '    s: &mut State,\n    wakes: &mut [u32; 32],\n' + ''.join(f'    {x}: u32,\n' for x in NUMS)
-    for n, lent, segs, req in CHAPTERS:
-        o += f'\n// {head(n)}.\npub fn {n}(\n{par}) -> Outcome\n    requires {{ ⌜ {req} ⌝ }}\n    ensures {{ λ r. ⌜ ({PROMISE}) ⌝ }}\n{{\n    let running = s.running;\n'
-        o += '    let x = Asked {\n' + ''.join(f'        {x}: {x},\n' for x in NUMS) + f'    }};\n    let o = chapters::{n}_part(\n'
-        for g, c, shr in cols(segs): o += f'        &{"" if shr else "mut "}s.{table(g)[2]}.{c},\n'
-        o += ''.join(f'        {x},\n' for x in ['wakes', 'running', 'x']) + '    );\n    s.running = o.runs;\n    o\n}\n'
-    return o + readers.source()
+    o = f'\n// {head(n)}, on a state lent as one thing.\npub fn {n}(\n{par}) -> Outcome\n    requires {{ ⌜ {req} ⌝ }}\n    ensures {{ λ r. ⌜ ({PROMISE}) ⌝ }}\n{{\n    let running = s.running;\n'
+    o += '    let x = Asked {\n' + ''.join(f'        {x}: {x},\n' for x in NUMS) + f'    }};\n    let o = {n}_part(\n'
+    for g, c, shr in cols(segs): o += f'        &{"" if shr else "mut "}s.{table(g)[2]}.{c},\n'
+    return o + ''.join(f'        {x},\n' for x in ['wakes', 'running', 'x']) + '    );\n    s.running = o.runs;\n    o\n}\n'
 
 # ---- the columns of each table, and a table taken apart and put together
 def columns():
@@ -99,8 +95,10 @@ def walk(n, lent, segs, req):
     cl = cols(segs)
     N = 14 + len(cl)
     A0 = 13
+    crate = home(n)
+    own = f'Rattle.{crate}.proofs'
     callee = f'{n}_part'
-    sym = f'chapters·{callee}'
+    sym = f'{crate}·{callee}'
     mutg = [g for g, mode, sub in segs if mode == 'mut']
     mode = {g: m for g, m, _ in segs}
     subs = {g: sub for g, _, sub in segs}
@@ -111,8 +109,8 @@ def walk(n, lent, segs, req):
     W = Walk(); w = W.w
     dcl = ''.join(f'use Rattle.scope.specs.declared.{table(g)[1]}.{{{table(g)[1]}}}\nuse Rattle.scope.proofs.{table(g)[1]} as {g}\n' for g in touched)
     names = ', '.join(['msS', 'Back', 'apart', 'together'] + [p + g for g in touched for p in ['cs', 'Xs', 'held', 'made', 'is', 'Back', 'At', 'apart', 'together']])
-    w(f'''-- `lending::{n}` meets its contract: a walk of its MIR, by hand. The borrow is opened, the state is taken apart into its tables and those lent into their columns, which are lent to `chapters::{callee}` all at once, come back and are put together again, and the borrow is closed.
--- All that the proof knows of `chapters::{callee}` is that it meets its contract.
+    w(f'''-- `{crate}::{n}` meets its contract: a walk of its MIR, by hand. The borrow is opened, the state is taken apart into its tables and those lent into their columns, which are lent to `{callee}` all at once, come back and are put together again, and the borrow is closed.
+-- All that the proof knows of `{callee}` is that it meets its contract.
 -- Assumes nothing. Printed by tools/generate.
 use mathlib.Core.Path.{{_≡_, refl, sym, _∙_, ap}}
 use Prim.Native.Nat.{{ℕ, _<_, _≤_, _^_, _+_}}
@@ -165,16 +163,16 @@ use Rattle.chapters.proofs.Asked as E
 use Rattle.chapters.proofs.Asked.Laws as E′
 use Rattle.answers.proofs.Outcome.Laws as O′
 use Rattle.scope.proofs.State as S
 use Rattle.{CRATE}.proofs.Lending.{{Col, Xs, Keys, With, columns, lfts, wholes, firsts, beyond, past, tokens, lasts, silent, lie, refs, kept, shared, kept-shared, args, ptrs, chosen, others, chosenXs, othersXs, lends, backs, lends-shared, backs-shared, parted, unparted, number-out, number-in}}
 use Rattle.{CRATE}.proofs.Columns.{{{names}}}
-use Rattle.chapters.proofs.{callee} as inner
-use Rattle.chapters.proofs.{callee}.Symbol as inner-def
-use Rattle.chapters.proofs.{callee}.Symbol.{{name as #{sym}}}
-use Rattle.chapters.proofs.{callee}.Met as inner-thm
-use Rattle.{CRATE}.proofs.{n}.Key.{{name as #{CRATE}·{n}}}
-use Rattle.{CRATE}.proofs.{n} as outer
-use Rattle.{CRATE}.proofs.{n}.Statement as stated
-use Rattle.{CRATE}.proofs.{n}.Code as code
+use {own}.{callee} as inner
+use {own}.{callee}.Symbol as inner-def
+use {own}.{callee}.Symbol.{{name as #{sym}}}
+use {own}.{callee}.Met as inner-thm
+use {own}.{n}.Key.{{name as #{crate}·{n}}}
+use {own}.{n} as outer
+use {own}.{n}.Statement as stated
+use {own}.{n}.Code as code
 
 -- the seven numbers of a call, and the wake list
 abbrev Seven : Type 0
@@ -435,7 +433,7 @@ pub {n}-spec : {{M : Type 1}} → stated.statement M
 unfolding code.routine tablesOf
 {n}-spec 𝓤 H 𝓜 𝓖 𝓡 =
     entered 𝓤 H (tripleOf 𝓤 H (𝓖 .A) outer.signature (outer.spec 𝓤 H (𝓖 .A) (𝓜 .mem) (𝓡 .run)))
-    (tables 𝓤 H 𝓜 𝓡 code.env .C) (tables 𝓤 H 𝓜 𝓡 code.env .Λ) #{CRATE}·{n} code.function (code.unfolded 𝓤 H 𝓜 𝓡)
+    (tables 𝓤 H 𝓜 𝓡 code.env .C) (tables 𝓤 H 𝓜 𝓡 code.env .Λ) #{crate}·{n} code.function (code.unfolded 𝓤 H 𝓜 𝓡)
     ({n}-meets 𝓤 H (𝓖 .A) (givenOf 𝓤 H 𝓜 𝓖) (𝓜 .mem) (𝓡 .run) (tablesOf 𝓤 H 𝓜 (tables 𝓤 H 𝓜 𝓡 code.env))
     (cited 𝓤 H (Inner 𝓤 H (𝓖 .A) (𝓜 .mem) (𝓡 .run)) 𝓜 𝓡 code.env #{sym} inner-def.routine code.calls-{sym.replace("_", "-")} (inner-thm.met 𝓤 H 𝓜 𝓖 𝓡)))
 ''')
@@ -443,6 +441,6 @@ unfolding code.routine tablesOf
 
 
 def files():
-    r = {'src/lib.rt': source(), 'proofs/Columns.antt': columns()}
-    for c in CHAPTERS: r[f'proofs/{c[0]}/Proof.antt'] = walk(*c)
-    return {f'crates/{CRATE}/{p}': t for p, t in r.items()} | readers.files()
+    r = {f'crates/{CRATE}/src/lib.rt': source(), f'crates/{CRATE}/proofs/Columns.antt': columns()}
+    for c in CHAPTERS: r[f'crates/{home(c[0])}/proofs/{c[0]}/Proof.antt'] = walk(*c)
+    return r | readers.files()

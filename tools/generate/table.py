@@ -68,6 +68,10 @@ def head(name):
     words, _, numbers = CALLS[name]
     return f'The {words}' if len(numbers) == 1 else f'A {words}' + (', or none of the table' if name == LAST else '')
 
+# its crate: the calls of the chapter, and the walk that lends them their columns
+def home(name):
+    return f'{name}_chapter'
+
 CHAPTERS = [(name, lent, segs, required(name)) for name, lent, segs in LENT]
 NUMS = ['call', 'mark', 'a', 'b', 'c', 'd', 'e']
 

@@ -155,15 +155,15 @@ pub fn perform(
     ensures { λ r. ⌜ (answerOf (now (s .exit)) (now (wakes .exit)) r ≡ answered (now (s .entry)) call mark a b c d e) × (now (s .exit) .running ≡ r .runs) ⌝ }
 {
     if call == 0 {
-        return lending::tick(s, wakes, call, mark, a, b, c, d, e);
+        return tick_chapter::tick(s, wakes, call, mark, a, b, c, d, e);
     }
     if call < 8 {
-        return lending::task(s, wakes, call, mark, a, b, c, d, e);
+        return task_chapter::task(s, wakes, call, mark, a, b, c, d, e);
     }
     if call < 14 {
-        return lending::sem(s, wakes, call, mark, a, b, c, d, e);
+        return sem_chapter::sem(s, wakes, call, mark, a, b, c, d, e);
     }
-    lending::pool(s, wakes, call, mark, a, b, c, d, e)
+    pool_chapter::pool(s, wakes, call, mark, a, b, c, d, e)
 }
 
 // "its running task is the present one, or 0 with BAD_STATE"

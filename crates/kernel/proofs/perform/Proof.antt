@@ -46,22 +46,22 @@ use Rattle.answers.specs.Outcomes.{answerOf}
 use Rattle.answers.proofs.Outcome as O
 use Rattle.answers.proofs.Outcome.Laws as O′
 use Rattle.scope.proofs.State as S
-use Rattle.lending.proofs.tick as tick
-use Rattle.lending.proofs.tick.Symbol as tick-def
-use Rattle.lending.proofs.tick.Symbol.{name as #lending·tick}
-use Rattle.lending.proofs.tick.Met as tick-thm
-use Rattle.lending.proofs.task as task
-use Rattle.lending.proofs.task.Symbol as task-def
-use Rattle.lending.proofs.task.Symbol.{name as #lending·task}
-use Rattle.lending.proofs.task.Met as task-thm
-use Rattle.lending.proofs.sem as sem
-use Rattle.lending.proofs.sem.Symbol as sem-def
-use Rattle.lending.proofs.sem.Symbol.{name as #lending·sem}
-use Rattle.lending.proofs.sem.Met as sem-thm
-use Rattle.lending.proofs.pool as pool
-use Rattle.lending.proofs.pool.Symbol as pool-def
-use Rattle.lending.proofs.pool.Symbol.{name as #lending·pool}
-use Rattle.lending.proofs.pool.Met as pool-thm
+use Rattle.tick_chapter.proofs.tick as tick
+use Rattle.tick_chapter.proofs.tick.Symbol as tick-def
+use Rattle.tick_chapter.proofs.tick.Symbol.{name as #tick_chapter·tick}
+use Rattle.tick_chapter.proofs.tick.Met as tick-thm
+use Rattle.task_chapter.proofs.task as task
+use Rattle.task_chapter.proofs.task.Symbol as task-def
+use Rattle.task_chapter.proofs.task.Symbol.{name as #task_chapter·task}
+use Rattle.task_chapter.proofs.task.Met as task-thm
+use Rattle.sem_chapter.proofs.sem as sem
+use Rattle.sem_chapter.proofs.sem.Symbol as sem-def
+use Rattle.sem_chapter.proofs.sem.Symbol.{name as #sem_chapter·sem}
+use Rattle.sem_chapter.proofs.sem.Met as sem-thm
+use Rattle.pool_chapter.proofs.pool as pool
+use Rattle.pool_chapter.proofs.pool.Symbol as pool-def
+use Rattle.pool_chapter.proofs.pool.Symbol.{name as #pool_chapter·pool}
+use Rattle.pool_chapter.proofs.pool.Met as pool-thm
 use Rattle.kernel.proofs.perform.Key.{name as #kernel·perform}
 use Rattle.kernel.proofs.perform as outer
 use Rattle.kernel.proofs.perform.Statement as stated
@@ -155,7 +155,7 @@ module _ {M : Type 1} (𝓤 : URA M) (H : Heap 𝓤) (A : Atoms 𝓤) (W : Given
       nothing ! $ owned ! u32 (Is u32) (uint-makes 𝓤 H A W w32) (x .1 .1 .1 .1 .1 .1 .0) _ (refl, fits .1 .1 .1 .1 .1 .1 .0 .1) $ fjoin ! $ owned ! u32 (Is u32) (uint-makes 𝓤 H A W w32) (x .1 .1 .1 .1 .1 .0) _ (refl, fits .1 .1 .1 .1 .1 .0 .1) $ fjoin ! $ owned ! u32 (Is u32) (uint-makes 𝓤 H A W w32) (x .1 .1 .1 .1 .0) _ (refl, fits .1 .1 .1 .1 .0 .1) $ fjoin ! $ owned ! u32 (Is u32) (uint-makes 𝓤 H A W w32) (x .1 .1 .1 .0) _ (refl, fits .1 .1 .1 .0 .1) $ fjoin ! $ owned ! u32 (Is u32) (uint-makes 𝓤 H A W w32) (x .1 .1 .0) _ (refl, fits .1 .1 .0 .1) $ fjoin ! $ owned ! u32 (Is u32) (uint-makes 𝓤 H A W w32) (x .1 .0) _ (refl, fits .1 .0 .1) $ fjoin ! $ owned ! u32 (Is u32) (uint-makes 𝓤 H A W w32) (x .0) _ (refl, fits .0 .1) $ fjoin ! $
       move ! (1 ∷ 0 ∷ []) $ fjoin ! $ move ! (1 ∷ 0 ∷ []) $ fjoin ! $ done !
 
-  module _ (C : Calls 𝓤 H) (Λ : Loops 𝓤 H) (fm : FmC 𝓤 H (W .laws) C) (known-tick : Triple 𝓤 (C #lending·tick) (Gtick 𝓤 H A at-mem run)) (known-task : Triple 𝓤 (C #lending·task) (Gtask 𝓤 H A at-mem run)) (known-sem : Triple 𝓤 (C #lending·sem) (Gsem 𝓤 H A at-mem run)) (known-pool : Triple 𝓤 (C #lending·pool) (Gpool 𝓤 H A at-mem run)) where
+  module _ (C : Calls 𝓤 H) (Λ : Loops 𝓤 H) (fm : FmC 𝓤 H (W .laws) C) (known-tick : Triple 𝓤 (C #tick_chapter·tick) (Gtick 𝓤 H A at-mem run)) (known-task : Triple 𝓤 (C #task_chapter·task) (Gtask 𝓤 H A at-mem run)) (known-sem : Triple 𝓤 (C #sem_chapter·sem) (Gsem 𝓤 H A at-mem run)) (known-pool : Triple 𝓤 (C #pool_chapter·pool) (Gpool 𝓤 H A at-mem run)) where
     abbrev En : ℕ → ℕ → ℕ → ℕ → ℕ → ℕ → ℕ → ℕ → ℕ → ℕ → ℕ → ℕ → ℕ → ℕ → ℕ → ℕ → ℕ → ℕ → ℕ → Env 𝓤 H
     En l0 l1 l2 l3 l4 l5 l6 l7 l8 l9 l10 l11 l12 l13 l14 l15 l16 l17 l18 = (oTy, l0) ∷ (tyRef (named 0) mut sTy, l1) ∷ (tyRef (named 1) mut wTy, l2) ∷ (tyInt w32, l3) ∷ (tyInt w32, l4) ∷ (tyInt w32, l5) ∷ (tyInt w32, l6) ∷ (tyInt w32, l7) ∷ (tyInt w32, l8) ∷ (tyInt w32, l9) ∷ (tyBool, l10) ∷ (tyRef erased mut sTy, l11) ∷ (tyRef erased mut wTy, l12) ∷ (tyRef erased mut sTy, l13) ∷ (tyRef erased mut wTy, l14) ∷ (tyRef erased mut sTy, l15) ∷ (tyRef erased mut wTy, l16) ∷ (tyRef erased mut sTy, l17) ∷ (tyRef erased mut wTy, l18) ∷ []
 
@@ -214,11 +214,11 @@ module _ {M : Type 1} (𝓤 : URA M) (H : Heap 𝓤) (A : Atoms 𝓤) (W : Given
         by ! (exits z r _ said))))))))))))))))))))))))))))
 
 module _ {M : Type 1} (𝓤 : URA M) (H : Heap 𝓤) (A : Atoms 𝓤) (W : Given 𝓤 H A) (mem : Memory → SProp 𝓤) (run : Routine → Fun 𝓤) where
-  perform-walks : (C : Calls 𝓤 H) (Λ : Loops 𝓤 H) → FmC 𝓤 H (W .laws) C → Triple 𝓤 (C #lending·tick) (Gtick 𝓤 H A mem run) → Triple 𝓤 (C #lending·task) (Gtask 𝓤 H A mem run) → Triple 𝓤 (C #lending·sem) (Gsem 𝓤 H A mem run) → Triple 𝓤 (C #lending·pool) (Gpool 𝓤 H A mem run) → Walks 𝓤 H A outer.ended stayed (WpFn 𝓤 H C Λ code.function) (outer.clauses 𝓤 H A mem run)
+  perform-walks : (C : Calls 𝓤 H) (Λ : Loops 𝓤 H) → FmC 𝓤 H (W .laws) C → Triple 𝓤 (C #tick_chapter·tick) (Gtick 𝓤 H A mem run) → Triple 𝓤 (C #task_chapter·task) (Gtask 𝓤 H A mem run) → Triple 𝓤 (C #sem_chapter·sem) (Gsem 𝓤 H A mem run) → Triple 𝓤 (C #pool_chapter·pool) (Gpool 𝓤 H A mem run) → Walks 𝓤 H A outer.ended stayed (WpFn 𝓤 H C Λ code.function) (outer.clauses 𝓤 H A mem run)
   perform-walks C Λ fm known-tick known-task known-sem known-pool = walked 𝓤 H A outer.ended stayed (outer.clauses 𝓤 H A mem run) (WpFn 𝓤 H C Λ code.function) (λ κs. (ptr-vals, (ptr-vals, (uint-vals w32, (uint-vals w32, (uint-vals w32, (uint-vals w32, (uint-vals w32, (uint-vals w32, (uint-vals w32, tt)))))))))) (λ κs. (mut-tells (named 0) (κs .0) S.the-row, (mut-tells (named 1) (κs .1 .0) WakesT, (uint-tells w32, (uint-tells w32, (uint-tells w32, (uint-tells w32, (uint-tells w32, (uint-tells w32, (uint-tells w32, tt))))))))))
       (λ κs qs bounds a _ are. via 𝓤 _ (fst∗ 𝓤 _ (emp 𝓤)) (walk 𝓤 H A W mem run (κs .0) (κs .1 .0) (qs .0) (qs .1 .0) (a .0 .ptr .0) (a .0 .ptr .1) (a .0 .name) (a .1 .0 .ptr .0) (a .1 .0 .ptr .1) (a .1 .0 .name) (a .1 .0 .now) (a .0 .now) (a .1 .1) (are .1 .1) C Λ fm known-tick known-task known-sem known-pool))
 
-perform-meets : {M : Type 1} (𝓤 : URA M) (H : Heap 𝓤) (A : Atoms 𝓤) → Given 𝓤 H A → (mem : Memory → SProp 𝓤) (run : Routine → Fun 𝓤) (𝓣 : Tables 𝓤 H) → Triple 𝓤 (𝓣 .C #lending·tick) (Gtick 𝓤 H A mem run) → Triple 𝓤 (𝓣 .C #lending·task) (Gtask 𝓤 H A mem run) → Triple 𝓤 (𝓣 .C #lending·sem) (Gsem 𝓤 H A mem run) → Triple 𝓤 (𝓣 .C #lending·pool) (Gpool 𝓤 H A mem run)
+perform-meets : {M : Type 1} (𝓤 : URA M) (H : Heap 𝓤) (A : Atoms 𝓤) → Given 𝓤 H A → (mem : Memory → SProp 𝓤) (run : Routine → Fun 𝓤) (𝓣 : Tables 𝓤 H) → Triple 𝓤 (𝓣 .C #tick_chapter·tick) (Gtick 𝓤 H A mem run) → Triple 𝓤 (𝓣 .C #task_chapter·task) (Gtask 𝓤 H A mem run) → Triple 𝓤 (𝓣 .C #sem_chapter·sem) (Gsem 𝓤 H A mem run) → Triple 𝓤 (𝓣 .C #pool_chapter·pool) (Gpool 𝓤 H A mem run)
     → Meets 𝓤 H A outer.signature (WpFn 𝓤 H (𝓣 .C) (𝓣 .Λ) code.function) (outer.spec 𝓤 H A mem run)
 perform-meets 𝓤 H A W mem run 𝓣 known-tick known-task known-sem known-pool =
     walk-meets 𝓤 H A outer.ended stayed W (goes-gave-ref 𝓤 H A W 2 0 tt (plain (λ _. S.the-row)), (goes-gave-ref 𝓤 H A W 2 1 tt WakesS, (goes-none 𝓤 H A W 2 (λ _. u32) yes (λ κs x f. refl), (goes-none 𝓤 H A W 2 (λ _. u32) yes (λ κs x f. refl), (goes-none 𝓤 H A W 2 (λ _. u32) yes (λ κs x f. refl), (goes-none 𝓤 H A W 2 (λ _. u32) yes (λ κs x f. refl), (goes-none 𝓤 H A W 2 (λ _. u32) yes (λ κs x f. refl), (goes-none 𝓤 H A W 2 (λ _. u32) yes (λ κs x f. refl), (goes-none 𝓤 H A W 2 (λ _. u32) yes (λ κs x f. refl), tt))))))))) (outer.clauses 𝓤 H A mem run)
@@ -230,7 +230,7 @@ perform-spec 𝓤 H 𝓜 𝓖 𝓡 =
     entered 𝓤 H (tripleOf 𝓤 H (𝓖 .A) outer.signature (outer.spec 𝓤 H (𝓖 .A) (𝓜 .mem) (𝓡 .run)))
     (tables 𝓤 H 𝓜 𝓡 code.env .C) (tables 𝓤 H 𝓜 𝓡 code.env .Λ) #kernel·perform code.function (code.unfolded 𝓤 H 𝓜 𝓡)
     (perform-meets 𝓤 H (𝓖 .A) (givenOf 𝓤 H 𝓜 𝓖) (𝓜 .mem) (𝓡 .run) (tablesOf 𝓤 H 𝓜 (tables 𝓤 H 𝓜 𝓡 code.env))
-    (cited 𝓤 H (Gtick 𝓤 H (𝓖 .A) (𝓜 .mem) (𝓡 .run)) 𝓜 𝓡 code.env #lending·tick tick-def.routine code.calls-lending·tick (tick-thm.met 𝓤 H 𝓜 𝓖 𝓡))
-    (cited 𝓤 H (Gtask 𝓤 H (𝓖 .A) (𝓜 .mem) (𝓡 .run)) 𝓜 𝓡 code.env #lending·task task-def.routine code.calls-lending·task (task-thm.met 𝓤 H 𝓜 𝓖 𝓡))
-    (cited 𝓤 H (Gsem 𝓤 H (𝓖 .A) (𝓜 .mem) (𝓡 .run)) 𝓜 𝓡 code.env #lending·sem sem-def.routine code.calls-lending·sem (sem-thm.met 𝓤 H 𝓜 𝓖 𝓡))
-    (cited 𝓤 H (Gpool 𝓤 H (𝓖 .A) (𝓜 .mem) (𝓡 .run)) 𝓜 𝓡 code.env #lending·pool pool-def.routine code.calls-lending·pool (pool-thm.met 𝓤 H 𝓜 𝓖 𝓡)))
+    (cited 𝓤 H (Gtick 𝓤 H (𝓖 .A) (𝓜 .mem) (𝓡 .run)) 𝓜 𝓡 code.env #tick_chapter·tick tick-def.routine code.calls-tick-chapter·tick (tick-thm.met 𝓤 H 𝓜 𝓖 𝓡))
+    (cited 𝓤 H (Gtask 𝓤 H (𝓖 .A) (𝓜 .mem) (𝓡 .run)) 𝓜 𝓡 code.env #task_chapter·task task-def.routine code.calls-task-chapter·task (task-thm.met 𝓤 H 𝓜 𝓖 𝓡))
+    (cited 𝓤 H (Gsem 𝓤 H (𝓖 .A) (𝓜 .mem) (𝓡 .run)) 𝓜 𝓡 code.env #sem_chapter·sem sem-def.routine code.calls-sem-chapter·sem (sem-thm.met 𝓤 H 𝓜 𝓖 𝓡))
+    (cited 𝓤 H (Gpool 𝓤 H (𝓖 .A) (𝓜 .mem) (𝓡 .run)) 𝓜 𝓡 code.env #pool_chapter·pool pool-def.routine code.calls-pool-chapter·pool (pool-thm.met 𝓤 H 𝓜 𝓖 𝓡)))

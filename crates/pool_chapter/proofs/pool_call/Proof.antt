@@ -1,13 +1,13 @@
--- `chapters::pool_call`: each call of the chapter by its number; the last is what is left when it is none of those before.
+-- `pool_chapter::pool_call`: each call of the chapter by its number; the last is what is left when it is none of those before.
 -- Assumes nothing. Printed by tools/generate/run.
 use native.Mathlib.Omega.{arith}
 use mathlib.Core.Path.{_≡_}
 use borrow.Author.Needs.{needs}
 use denote.Ref.{now}
 use Rattle.answers.specs.Columns.{lentPools}
 use Rattle.chapters.proofs.Laws.{past, only}
-use Rattle.chapters.proofs.pool_call.Statement.{statement}
-use Rattle.chapters.proofs.pool_call.Tie as tie
+use Rattle.pool_chapter.proofs.pool_call.Statement.{statement}
+use Rattle.pool_chapter.proofs.pool_call.Tie as tie
 use Rattle.scope.specs.declared.State.{State}
 
 -- the state before, out of all the columns lent

@@ -1,4 +1,4 @@
--- `chapters::sem_call`: each call of the chapter by its number; the last is what is left when it is none of those before.
+-- `sem_chapter::sem_call`: each call of the chapter by its number; the last is what is left when it is none of those before.
 -- Assumes nothing. Printed by tools/generate/run.
 use native.Mathlib.Omega.{arith}
 use mathlib.Core.Path.{_≡_}
@@ -6,9 +6,9 @@ use borrow.Author.Needs.{needs}
 use denote.Ref.{now}
 use Rattle.answers.proofs.Outcomes.{none-woken}
 use Rattle.answers.specs.Columns.{lentSemaphores}
 use Rattle.chapters.proofs.Laws.{past, only}
-use Rattle.chapters.proofs.sem_call.Statement.{statement}
-use Rattle.chapters.proofs.sem_call.Tie as tie
+use Rattle.sem_chapter.proofs.sem_call.Statement.{statement}
+use Rattle.sem_chapter.proofs.sem_call.Tie as tie
 use Rattle.scope.specs.declared.State.{State}
 
 -- the state before, out of all the columns lent

@@ -1,13 +1,13 @@
--- `chapters::pool_part`: the caller's test first, then the call.
+-- `pool_chapter::pool_part`: the caller's test first, then the call.
 -- Assumes nothing. Printed by tools/generate/run.
 use mathlib.Core.Path.{sym, _∙_}
 use borrow.Author.Needs.{needs}
 use denote.Ref.{now}
 use Rattle.answers.proofs.Outcomes.{plain-of}
 use Rattle.answers.specs.Columns.{lentPools}
 use Rattle.chapters.proofs.Laws.{answered-refused, answered-does, known-call}
-use Rattle.chapters.proofs.pool_part.Statement.{statement}
-use Rattle.chapters.proofs.pool_part.Tie as tie
+use Rattle.pool_chapter.proofs.pool_part.Statement.{statement}
+use Rattle.pool_chapter.proofs.pool_part.Tie as tie
 use Rattle.scope.specs.declared.State.{State}
 
 -- the state before, out of the columns lent and a state's

@@ -1,13 +1,13 @@
--- `chapters::sem_part`: the caller's test first, then the call.
+-- `sem_chapter::sem_part`: the caller's test first, then the call.
 -- Assumes nothing. Printed by tools/generate/run.
 use mathlib.Core.Path.{refl}
 use borrow.Author.Needs.{needs}
 use denote.Ref.{now}
 use Rattle.answers.proofs.Outcomes.{plain-of}
 use Rattle.answers.specs.Columns.{lentSemaphores}
 use Rattle.chapters.proofs.Laws.{answered-refused, answered-does}
-use Rattle.chapters.proofs.sem_part.Statement.{statement}
-use Rattle.chapters.proofs.sem_part.Tie as tie
+use Rattle.sem_chapter.proofs.sem_part.Statement.{statement}
+use Rattle.sem_chapter.proofs.sem_part.Tie as tie
 use Rattle.scope.specs.declared.State.{State}
 
 -- the state before, out of the columns lent and a state's

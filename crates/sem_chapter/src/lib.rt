@@ -1,0 +1,192 @@
+// The semaphore calls, a chapter of the call table. `sem_call` is lent the columns that they read or change, and chooses by number.
+// `sem_part` has the caller's test in front; `sem` lends the columns of the state, all at once, and what is left in them is the state's.
+// (scope's specs/Step.antt and Calls.antt.) Printed by tools/generate/run: what a call takes is read from its own source.
+use answers::Outcome;
+use chapters::Asked;
+use scope::State;
+ghost use mathlib.Core.Path.{_≡_};
+ghost use Prim.Native.Nat.{ℕ, _<_, _≤_};
+ghost use Rattle.scope.specs.Calls.{callAt};
+ghost use Rattle.scope.specs.Step.{answered};
+ghost use Rattle.scope.specs.declared.State.{State};
+ghost use Rattle.scope.specs.Answers.{noWakes};
+ghost use Rattle.answers.specs.Outcomes.{answerOf};
+ghost use Rattle.answers.specs.Columns.{lentSemaphores};
+
+// The semaphore calls; waker, suspended and priority are the tasks'.
+fn sem_call(
+    left: &mut [u32; 32],
+    seat: &mut [u16; 32],
+    joined: &mut [u8; 32],
+    rings: &mut [u16; 1],
+    waker: &[u16; 32],
+    suspended: &[bool; 32],
+    priority: &[u8; 32],
+    name: &mut [u32; 16],
+    serial: &mut [u16; 16],
+    units: &mut [u16; 16],
+    live: &mut [bool; 16],
+    fifo: &mut [bool; 16],
+    wakes: &mut [u32; 32],
+    running: usize,
+    x: Asked,
+) -> Outcome
+    requires { ⌜ (8 ≤ x .call) × (x .call < 14) ⌝ }
+    requires { ⌜ now wakes ≡ noWakes ⌝ }
+    ensures { λ r. ⌜ ((s : State) (d e : ℕ) → answerOf (lentSemaphores s (now (left .exit)) (now (seat .exit)) (now (joined .exit))
+        (now (rings .exit)) (now (waker .entry)) (now (suspended .entry)) (now (priority .entry)) (now (name .exit)) (now (serial .exit))
+        (now (units .exit)) (now (live .exit)) (now (fifo .exit)) running) (now (wakes .exit)) r
+        ≡ callAt (x .call) .does (lentSemaphores s (now (left .entry)) (now (seat .entry)) (now (joined .entry)) (now (rings .entry))
+        (now (waker .entry)) (now (suspended .entry)) (now (priority .entry)) (now (name .entry)) (now (serial .entry)) (now (units .entry))
+        (now (live .entry)) (now (fifo .entry)) running) (x .a) (x .b) (x .c) d e) ⌝ }
+{
+    let call = x.call;
+    match call {
+        8 => semaphores::sem_create(name, serial, units, live, fifo, running, x.a, x.b, x.c),
+        9 => semaphores::sem_delete(
+            left,
+            seat,
+            joined,
+            rings,
+            waker,
+            suspended,
+            priority,
+            name,
+            serial,
+            units,
+            live,
+            fifo,
+            wakes,
+            running,
+            x.a,
+        ),
+        10 => semaphores::sem_ident(name, serial, live, running, x.a),
+        11 => semaphores::sem_claim(
+            left,
+            seat,
+            joined,
+            rings,
+            priority,
+            serial,
+            units,
+            live,
+            fifo,
+            running,
+            x.a,
+            x.b,
+            x.c,
+        ),
+        12 => semaphores::sem_release(
+            left,
+            seat,
+            joined,
+            rings,
+            waker,
+            suspended,
+            priority,
+            serial,
+            units,
+            live,
+            wakes,
+            running,
+            x.a,
+        ),
+        _ => semaphores::sem_info(seat, serial, units, live, fifo, running, x.a),
+    }
+}
+
+// A semaphore call; waker, suspended and priority are the tasks'.
+fn sem_part(
+    left: &mut [u32; 32],
+    seat: &mut [u16; 32],
+    joined: &mut [u8; 32],
+    rings: &mut [u16; 1],
+    waker: &[u16; 32],
+    suspended: &[bool; 32],
+    priority: &[u8; 32],
+    name: &mut [u32; 16],
+    serial: &mut [u16; 16],
+    units: &mut [u16; 16],
+    live: &mut [bool; 16],
+    fifo: &mut [bool; 16],
+    wakes: &mut [u32; 32],
+    running: usize,
+    x: Asked,
+) -> Outcome
+    requires { ⌜ (8 ≤ x .call) × (x .call < 14) ⌝ }
+    ensures { λ r. ⌜ ((s : State) → answerOf (lentSemaphores s (now (left .exit)) (now (seat .exit)) (now (joined .exit)) (now (rings .exit))
+        (now (waker .entry)) (now (suspended .entry)) (now (priority .entry)) (now (name .exit)) (now (serial .exit)) (now (units .exit))
+        (now (live .exit)) (now (fifo .exit)) running) (now (wakes .exit)) r
+        ≡ answered (lentSemaphores s (now (left .entry)) (now (seat .entry)) (now (joined .entry)) (now (rings .entry)) (now (waker .entry))
+        (now (suspended .entry)) (now (priority .entry)) (now (name .entry)) (now (serial .entry)) (now (units .entry)) (now (live .entry))
+        (now (fifo .entry)) running) (x .call) (x .mark) (x .a) (x .b) (x .c) (x .d) (x .e)) ⌝ }
+{
+    *wakes = [0; 32];
+    let refusal = chapters::caller_refusal(x.call, x.mark, running);
+    if refusal != scope::OK {
+        return answers::plain(refusal, running);
+    }
+    sem_call(
+        left,
+        seat,
+        joined,
+        rings,
+        waker,
+        suspended,
+        priority,
+        name,
+        serial,
+        units,
+        live,
+        fifo,
+        wakes,
+        running,
+        x,
+    )
+}
+
+// A semaphore call, on a state lent as one thing.
+pub fn sem(
+    s: &mut State,
+    wakes: &mut [u32; 32],
+    call: u32,
+    mark: u32,
+    a: u32,
+    b: u32,
+    c: u32,
+    d: u32,
+    e: u32,
+) -> Outcome
+    requires { ⌜ (8 ≤ call) × (call < 14) ⌝ }
+    ensures { λ r. ⌜ (answerOf (now (s .exit)) (now (wakes .exit)) r ≡ answered (now (s .entry)) call mark a b c d e) × (now (s .exit) .running ≡ r .runs) ⌝ }
+{
+    let running = s.running;
+    let x = Asked {
+        call: call,
+        mark: mark,
+        a: a,
+        b: b,
+        c: c,
+        d: d,
+        e: e,
+    };
+    let o = sem_part(
+        &mut s.line.left,
+        &mut s.line.seat,
+        &mut s.line.joined,
+        &mut s.line.rings,
+        &s.tasks.serial,
+        &s.tasks.suspended,
+        &s.tasks.priority,
+        &mut s.semaphores.name,
+        &mut s.semaphores.serial,
+        &mut s.semaphores.units,
+        &mut s.semaphores.live,
+        &mut s.semaphores.fifo,
+        wakes,
+        running,
+        x,
+    );
+    s.running = o.runs;
+    o
+}
