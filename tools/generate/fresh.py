@@ -6,7 +6,7 @@ CALL = [('fv', 'kernel', 'fresh_value', True), ('fs', 'kernel', 'fresh_status', 
 
 def walk():
     W = Lent(); w = W.w
-    w('''-- `kernel::fresh` meets its contract: a walk of its MIR, by hand. The fresh state is stored through the borrow.
+    w('''-- `kernel::fresh` meets its contract: a walk of its MIR. The fresh state is stored through the borrow.
 -- Assumes nothing. Printed by tools/generate/run.
 ''' + HEADER + '''use Rattle.scope.specs.Fresh.{fresh}
 use Rattle.lending.proofs.Lending.{local-in, local-out}

@@ -42,7 +42,7 @@ use Rattle.{home(n)}.proofs.{n}.Met as {n}-thm
 G{n} 𝓤 H A mem run = tripleOf 𝓤 H A {n}.signature ({n}.spec 𝓤 H A mem run)
 
 ''' for n in names)
-    w(f'''-- `kernel::perform` meets its contract: a walk of its MIR, by hand. The chapter is chosen by the call, and the state and the wake list are passed on to it for good.
+    w(f'''-- `kernel::perform` meets its contract: a walk of its MIR. The chapter is chosen by the call, and the state and the wake list are passed on to it for good.
 -- Assumes nothing. Printed by tools/generate.
 use mathlib.Core.Path.{{_≡_, refl}}
 use Prim.Native.Nat.{{ℕ, zero, suc, _<_, _≤_, _^_, _+_}}
@@ -248,7 +248,7 @@ def asked():
     N = 15
     W = Walk(); w = W.w
     def uses(nm, f): return f'use Rattle.{BELOW}.proofs.{f} as {nm}\nuse Rattle.{BELOW}.proofs.{f}.Symbol as {nm}-def\nuse Rattle.{BELOW}.proofs.{f}.Symbol.{{name as #{nm}}}\nuse Rattle.{BELOW}.proofs.{f}.Met as {nm}-thm\n'
-    w(f'''-- `kernel::is_sound` meets its contract: a walk of its MIR, by hand. The borrow is opened, the state is lent again to each part of the check, which leaves it as it was, and the borrow is closed.
+    w(f'''-- `kernel::is_sound` meets its contract: a walk of its MIR. The borrow is opened, the state is lent again to each part of the check, which leaves it as it was, and the borrow is closed.
 -- Assumes nothing. Printed by tools/generate/run.
 use mathlib.Core.Path.{{_≡_, refl, ap}}
 use Prim.Native.Nat.{{ℕ}}
@@ -391,7 +391,7 @@ def checked():
     def uses(nm, crate, f, own):
         at = f'Rattle.{crate}{"·proofs" if own else ""}.proofs.{f}'
         return f'use {at} as {nm}\nuse {at}.Symbol as {nm}-def\nuse {at}.Symbol.{{name as #{nm}}}\nuse {at}.Met as {nm}-thm\n'
-    w(f'''-- `kernel::step` meets its contract: a walk of its MIR, by hand. The state is lent again for the check, which leaves it as it was; then it is passed on for good to `perform`, or stays.
+    w(f'''-- `kernel::step` meets its contract: a walk of its MIR. The state is lent again for the check, which leaves it as it was; then it is passed on for good to `perform`, or stays.
 -- Assumes nothing. Printed by tools/generate/run.
 use mathlib.Core.Path.{{_≡_, refl, sym, _∙_, ap}}
 use Prim.Native.Nat.{{ℕ}}

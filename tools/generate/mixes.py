@@ -25,7 +25,7 @@ use Rattle.{crate}.proofs.{f}.Symbol.{{name as #{nm}}}
 use Rattle.{crate}.proofs.{f}.Met as {nm}-thm
 '''
     CALL = [('rd', 'mixing', 'record_at'), ('pf', 'kernel', STEPS), ('ru', 'lending', 'runner'), ('su', 'mixing', 'summed')]
-    w(f'''-- `{CRATE}::play` meets its contract, which is that it is safe and ends: a walk of its MIR, by hand. The state is a local that is lent to each step as one thing.
+    w(f'''-- `{CRATE}::play` meets its contract, which is that it is safe and ends: a walk of its MIR. The state is a local that is lent to each step as one thing.
 -- Assumes nothing. Printed by tools/generate/run.
 ''' + '''use mathlib.Core.Path.{_≡_, refl, ap}
 use Prim.Native.Nat.{ℕ, _<_, _^_, _+_, _-_}

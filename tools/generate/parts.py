@@ -40,7 +40,7 @@ def before(s, W):
     w = W.w
     name, uses = about(s)
     stays = ['stay-none-slice (0 ∷ []) tt (plain (λ _. u8)) yes', 'stay-slice (1 ∷ []) tt (plain (λ _. u8))'] + (['stay-slice (2 ∷ []) tt (plain (λ _. u8))', 'stay-none (λ _. Boolean) yes'] if s.copies else [])
-    w(f'''-- {name} meets its contract: a walk of its MIR, by hand. The state is a local that is lent to each part as one thing.
+    w(f'''-- {name} meets its contract: a walk of its MIR. The state is a local that is lent to each part as one thing.
 -- Assumes nothing. Printed by tools/generate/run.
 {HEADER}use borrow.Author.Tests.{{ltb-true, ltb-false}}
 use Rattle.player.specs.declared.Place.{{Place}}

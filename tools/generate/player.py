@@ -20,7 +20,7 @@ def cell(n): return f'‵ (fat fullShare {TYPES[I[n]]} l{I[n]} 0 ({VAL[n]}))' if
 
 def before(W):
     w = W.w
-    w('''-- `play_part` meets its contract: a walk of its MIR, by hand. The lent state is lent on to each step as one thing, and the lines to each line.
+    w('''-- `play_part` meets its contract: a walk of its MIR. The lent state is lent on to each step as one thing, and the lines to each line.
 -- Assumes nothing. Printed by tools/generate/run.
 ''' + HEADER + '''use Rattle.answers.specs.declared.Outcome.{Outcome}
 use Rattle.text.specs.declared.Record.{Record}

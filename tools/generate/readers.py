@@ -37,7 +37,7 @@ def walk(r):
     W = Walk(); w = W.w
     dcl = ''.join(f'use Rattle.scope.specs.declared.{table(g)[1]}.{{{table(g)[1]}}}\nuse Rattle.scope.proofs.{table(g)[1]} as {g}\n' for g in touched)
     names = ', '.join(['msS', 'Back', 'apart', 'together'] + [p + g for g in touched for p in ['cs', 'Xs', 'held', 'made', 'is', 'Back', 'At', 'apart', 'together']])
-    w(f'''-- `lending::{n}` meets its contract: a walk of its MIR, by hand. The borrow is opened, the state is taken apart into its tables and those read into their columns, which are lent shared to `{crate}::{callee}` all at once, come back as they were and are put together again, and the borrow is closed.
+    w(f'''-- `lending::{n}` meets its contract: a walk of its MIR. The borrow is opened, the state is taken apart into its tables and those read into their columns, which are lent shared to `{crate}::{callee}` all at once, come back as they were and are put together again, and the borrow is closed.
 -- All that the proof knows of `{crate}::{callee}` is that it meets its contract.
 -- Assumes nothing. Printed by tools/generate.
 use mathlib.Core.Path.{{_≡_, refl, sym}}

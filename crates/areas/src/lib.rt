@@ -1,5 +1,5 @@
 // Areas of memory and the buffers in them, on numbers alone (scope's specs/Areas.antt); then whether an area overlaps a live
-// pool's, and whether all pools are apart (specs/Pools.antt, specs/Rules.antt).
+// pool's, and whether all pools are apart (scope's specs/Pools.antt and specs/Rules.antt).
 ghost use mathlib.Core.Path.{_≡_};
 ghost use mathlib.Core.Bool.{true, _&&_};
 ghost use Prim.Native.Nat.{_+_, _-_, _^_, _<_, _≤_};

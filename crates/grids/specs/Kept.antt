@@ -23,7 +23,7 @@ gridSince zero past = cleared
 gridSince (suc n) [] = cleared
 gridSince (suc n) (x ∷ past) = keptBy (gridSince n past) (runningIn past) x
 
--- the grid g kept from state s on, by "the call, its answer and the state before"
+-- the grid g kept from state s on, by the call, its answer and the state before
 abbrev pub keptFrom : Grid → State → List Event → Grid
 keptFrom g s [] = g
 keptFrom g s (x ∷ xs) =

@@ -1,4 +1,4 @@
--- Who stays in a semaphore's queue stays there in the same order, with the same joining priority: when a task leaves, when one
+-- Who stays in an object's queue stays there in the same order, with the same joining priority: when a task leaves, when one
 -- becomes ready, and so when any number of tasks are woken, one after the other.
 -- Assumes nothing.
 use Prim.Native.Nat.{ℕ, zero, suc, _+_, _*_, _/_, _%_, _≤_, _<_}
@@ -153,7 +153,7 @@ module _ (k : Tasks) (w : Waking) (t : ℕ) (room : t < 32) (good : Good (w .lin
   unfolding wakeNext
   next-good = wake-good (w .line) good t room _ _
 
--- all who wait for a semaphore are woken
+-- all who wait for an object are woken
 pub all-fewer : (k : Tasks) (i n : ℕ) (w : Waking) → Good (w .line .seat) → Fewer (w .line) (wakeAll k i n w .line)
 unfolding wakeAll
 all-fewer k i zero w good = fewer-same (w .line)

@@ -120,7 +120,7 @@ module _ (q key : List ℕ) (t o p : ℕ) (rule : AllSeated q) (room : t < 32) (
       ap (λ (l : List ℕ). l ++ readyBelow after m) (joins-other-above (ringSeats m) (omega arith) (away m (omega arith)))
       ∙ ap (λ (l : List ℕ). queueAbove q (ringSeats m) ++ l) (joins-other-rings m (λ k h. away k (omega arith)))
 
--- in a semaphore's queue
+-- in an object's queue
 module _ (q key : List ℕ) (t i p : ℕ) (rule : AllSeated q) (room : t < 32) (out : getD q t 0 ≡ 0) where
   pub joins-queue : length key ≡ 32 → Sorted q key (queueSeats i)
       → queue (joins q key t (queueSeats i) p) i ≡ insert (λ u. leb p (getD key u 0)) t (queue q i)

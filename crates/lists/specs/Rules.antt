@@ -111,7 +111,7 @@ pub record Ordered (s : State) : Type 0 where
   pub idle : NotStarted s
   pub zeros : NotWaiting s
 
--- The form's own rule, beside `seatsRight`: who sits above every semaphore's queue sits in the ring of its priority. So one ready
+-- The form's own rule, beside `seatsRight`: who sits above every object's queue sits in the ring of its priority. So one ready
 -- order has one array of seats.
 abbrev pub OwnRing : State → Type 0
 OwnRing s = (t : ℕ) → firstRing ≤ getD (s .line .seat) t 0 → In (s .line .seat) (ringSeats (getD (s .tasks .priority) t 0)) t

@@ -37,7 +37,7 @@ module _ (p r : ℕ → Bool) (w : ℕ) (same : (t : ℕ) → (t ≡ w → ⊥) 
       (λ l. omega (arith, number-more m l, ap (λ (b : Bool). pick {A = ℕ} b 1 0) (same m (λ d. omega arith))))
       (eq-or-lt-of-le {n = w} {m = m} (omega arith))
 
--- the seat behind all of a queue is one of its own, so a task that becomes ready stands above every semaphore's queue
+-- the seat behind all of a queue is one of its own, so a task that becomes ready stands above every object's queue
 pub later-from : (m y e k p : ℕ) → m ≤ laterOf m y e k p
 unfolding laterOf pick
 later-from m y e k p = go (ltb m y) refl (ltb y e) (leb p k)

@@ -1,4 +1,4 @@
--- The meaning of document 01, in its order. Each definition has the sentence that it says above it.
+-- The meaning of document 01, in its order, with what document 02 changed in it. Each definition has the sentence that it says above it.
 pub mod Choice
 pub mod Lists
 pub mod Identifiers

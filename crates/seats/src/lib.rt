@@ -333,7 +333,7 @@ pub fn runner(q: &[u16; 32], mask: u16) -> usize
     on_seat(q, (p * 64 + 2049) as u16)
 }
 
-// Whether a task on this seat waits in a semaphore's queue.
+// Whether a task on this seat waits in an object's queue.
 pub fn waits_on(x: u16) -> bool
     ensures { λ r. ⌜ r ≡ waitsOn x ⌝ }
 {

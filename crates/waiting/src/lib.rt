@@ -1,5 +1,5 @@
 // Waiting and waking, for whatever tasks wait for: a task joins the queue of an object, and leaves it from whatever place.
-// An object is a number below 31: 0 to 15 are the semaphores. (scope's specs/Waiting.antt.)
+// An object is a number below 31: 0 to 15 are the semaphores, 16 to 23 the message queues. (scope's specs/Waiting.antt.)
 ghost use mathlib.Core.Path.{_≡_};
 ghost use Prim.Native.Nat.{ℕ, _+_, _<_};
 ghost use mathlib.Core.List.{List};

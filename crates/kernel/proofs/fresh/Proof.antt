@@ -1,4 +1,4 @@
--- `kernel::fresh` meets its contract: a walk of its MIR, by hand. The fresh state is stored through the borrow.
+-- `kernel::fresh` meets its contract: a walk of its MIR. The fresh state is stored through the borrow.
 -- Assumes nothing. Printed by tools/generate/run.
 use mathlib.Core.Path.{_≡_, refl, _∙_, ap}
 use Prim.Native.Nat.{ℕ, _<_, _≤_, _^_, _+_, _-_, _*_}

@@ -1,4 +1,4 @@
--- `kernel::is_sound` meets its contract: a walk of its MIR, by hand. The borrow is opened, the state is lent again to each part of the check, which leaves it as it was, and the borrow is closed.
+-- `kernel::is_sound` meets its contract: a walk of its MIR. The borrow is opened, the state is lent again to each part of the check, which leaves it as it was, and the borrow is closed.
 -- Assumes nothing. Printed by tools/generate/run.
 use mathlib.Core.Path.{_≡_, refl, ap}
 use Prim.Native.Nat.{ℕ}

@@ -1,4 +1,4 @@
--- `kernel::perform` meets its contract: a walk of its MIR, by hand. The chapter is chosen by the call, and the state and the wake list are passed on to it for good.
+-- `kernel::perform` meets its contract: a walk of its MIR. The chapter is chosen by the call, and the state and the wake list are passed on to it for good.
 -- Assumes nothing. Printed by tools/generate.
 use mathlib.Core.Path.{_≡_, refl}
 use Prim.Native.Nat.{ℕ, zero, suc, _<_, _≤_, _^_, _+_}

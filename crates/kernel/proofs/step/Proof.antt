@@ -1,4 +1,4 @@
--- `kernel::step` meets its contract: a walk of its MIR, by hand. The state is lent again for the check, which leaves it as it was; then it is passed on for good to `perform`, or stays.
+-- `kernel::step` meets its contract: a walk of its MIR. The state is lent again for the check, which leaves it as it was; then it is passed on for good to `perform`, or stays.
 -- Assumes nothing. Printed by tools/generate/run.
 use mathlib.Core.Path.{_≡_, refl, sym, _∙_, ap}
 use Prim.Native.Nat.{ℕ}

@@ -1,4 +1,4 @@
--- `mixes::play` meets its contract, which is that it is safe and ends: a walk of its MIR, by hand. The state is a local that is lent to each step as one thing.
+-- `mixes::play` meets its contract, which is that it is safe and ends: a walk of its MIR. The state is a local that is lent to each step as one thing.
 -- Assumes nothing. Printed by tools/generate/run.
 use mathlib.Core.Path.{_≡_, refl, ap}
 use Prim.Native.Nat.{ℕ, _<_, _^_, _+_, _-_}

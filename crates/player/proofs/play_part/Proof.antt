@@ -1,4 +1,4 @@
--- `play_part` meets its contract: a walk of its MIR, by hand. The lent state is lent on to each step as one thing, and the lines to each line.
+-- `play_part` meets its contract: a walk of its MIR. The lent state is lent on to each step as one thing, and the lines to each line.
 -- Assumes nothing. Printed by tools/generate/run.
 use mathlib.Core.Path.{_≡_, refl, sym, _∙_, ap, subst}
 use Prim.Native.Nat.{ℕ, _<_, _≤_, _^_, _+_, _-_, _*_}

@@ -1,4 +1,4 @@
--- `pool_chapter::pool` meets its contract: a walk of its MIR, by hand. The borrow is opened, the state is taken apart into its tables and those lent into their columns, which are lent to `pool_part` all at once, come back and are put together again, and the borrow is closed.
+-- `pool_chapter::pool` meets its contract: a walk of its MIR. The borrow is opened, the state is taken apart into its tables and those lent into their columns, which are lent to `pool_part` all at once, come back and are put together again, and the borrow is closed.
 -- All that the proof knows of `pool_part` is that it meets its contract.
 -- Assumes nothing. Printed by tools/generate.
 use mathlib.Core.Path.{_≡_, refl, sym, _∙_, ap}
