@@ -14,10 +14,24 @@ use Rattle.scope.specs.declared.Waking.{Waking}
 use Rattle.scope.specs.declared.Answer.{Answer}
 use Rattle.scope.specs.Statuses.{OK}
 use Rattle.scope.specs.Seats.{maskOf, runnerOf}
-use Rattle.scope.specs.Answers.{noWakes, answer, plain, gives, wakesWith}
+use Rattle.scope.specs.Answers.{noWakes, noMessage, answer, plain, gives, shows, wakesWith, deliversTo}
 use Rattle.answers.specs.declared.Outcome.{Outcome}
-use Rattle.answers.specs.Outcomes.{nowRuns, answerOf, outcome, woke}
+use Rattle.answers.specs.Outcomes.{nowRuns, answerShown, answerOf, outcome, woke, delivered}
 use Rattle.answers.specs.Columns.{stateOf}
+
+-- the outcome in an answer
+abbrev outcomeIn : Answer → Outcome
+outcomeIn a =
+    record {
+      status = a .status;
+      values = a .values;
+      negative = a .negative;
+      woken = a .woken;
+      why = a .why;
+      runs = a .state .running;
+      delivers = a .delivers;
+      length = a .length;
+    }
 
 -- `n` runs then: whoever ran before, or whoever the seats say
 module _ (s : State) (n : ℕ) (o : Outcome) where
@@ -33,6 +47,16 @@ module _ (s : State) (n : ℕ) (o : Outcome) where
       → answerOf s noWakes o ≡ answer (nowRuns s n) OK v0 v1 v2 v3 negative
   unfolding answerOf outcome answer
   tells-of v0 v1 v2 v3 negative e = rw e
+
+  -- a message of v bytes is shown
+  pub shows-of : (v : ℕ) {shown : List ℕ} (message : List ℕ) → o ≡ outcome 0 v 0 0 0 false n → shown ≡ message → answerShown s noWakes shown o ≡ shows (nowRuns s n) v message
+  unfolding answerShown outcome shows
+  shows-of v message e f = rw (e, f)
+
+-- no message is shown
+pub none-shown : (s : State) (o : Outcome) (wakes : List ℕ) {shown : List ℕ} {a : Answer} → shown ≡ noMessage → answerOf s wakes o ≡ a → answerShown s wakes shown o ≡ a
+unfolding answerOf answerShown
+none-shown s o wakes e p = rw e p
 
 -- nobody was woken
 pub none-woken : (s : State) (o : Outcome) {wakes : List ℕ} {a : Answer} → wakes ≡ noWakes → answerOf s noWakes o ≡ a → answerOf s wakes o ≡ a
@@ -56,14 +80,21 @@ module _ (k : Tasks) (m : Semaphores) (p : Pools) (u : Queues) (running n : ℕ)
   unfolding answerOf woke wakesWith
   woke-moved l before w w' why e f g = rw (e, f, g)
 
--- One answer has one outcome: the columns, who runs, the wake list and all that an outcome says are told by the answer they stand for.
-pub outcome-one : (s n : State) (wakes wakes′ : List ℕ) (o p : Outcome) → answerOf s wakes o ≡ answerOf n wakes′ p
-    → (nowRuns s (o .runs) ≡ nowRuns n (p .runs)) × (wakes ≡ wakes′) × (o ≡ p)
-unfolding answerOf
-outcome-one s n wakes wakes′ o p e = (
+  -- and a message of v bytes was delivered to the one woken
+  pub delivered-moved : (l : Line) (before : ℕ) (w w' : Waking) (v : ℕ) {shown : List ℕ} (message : List ℕ) → w' .woken ≡ 1 → o ≡ delivered v n
+      → n ≡ runnerOf (w' .line .seat) (maskOf (w' .line .rings)) → w' ≡ w → shown ≡ message
+      → answerShown (stateOf (w' .line) k m p u running) (w' .wakes) shown o ≡ deliversTo (stateOf l k m p u before) w v message
+  unfolding answerShown delivered deliversTo
+  delivered-moved l before w w' v message one e f g h = rw (e, f, h, ← one, g)
+
+-- One answer has one outcome: the columns, who runs, the wake list, the message shown and all that an outcome says are told by the answer
+-- they stand for.
+pub outcome-one : (s n : State) (wakes wakes′ shown shown′ : List ℕ) (o p : Outcome) → answerShown s wakes shown o ≡ answerShown n wakes′ shown′ p
+    → (nowRuns s (o .runs) ≡ nowRuns n (p .runs)) × (wakes ≡ wakes′) × (shown ≡ shown′) × (o ≡ p)
+unfolding answerShown
+outcome-one s n wakes wakes′ shown shown′ o p e = (
   ap (λ (a : Answer). a .state) e,
   ap (λ (a : Answer). a .wakes) e,
-  ap
-      (λ (a : Answer). record { status = a .status; values = a .values; negative = a .negative; woken = a .woken; why = a .why; runs = a .state .running })
-      e,
+  ap (λ (a : Answer). a .shown) e,
+  ap outcomeIn e,
 )

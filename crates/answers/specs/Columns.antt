@@ -36,9 +36,9 @@ poolsOf out name address length size serial live forced place =
       place = place;
     }
 
-abbrev pub queuesOf : List ℕ → List ℕ → List Bool → List Bool → List ℕ → List ℕ → Queues
-queuesOf name serial live fifo limits held =
-    record { name = name; serial = serial; live = live; fifo = fifo; limits = limits; held = held }
+abbrev pub queuesOf : List ℕ → List ℕ → List Bool → List Bool → List ℕ → List ℕ → List ℕ → Queues
+queuesOf name serial live fifo limits held cells =
+    record { name = name; serial = serial; live = live; fifo = fifo; limits = limits; held = held; cells = cells }
 
 abbrev pub stateOf : Line → Tasks → Semaphores → Pools → Queues → ℕ → State
 stateOf l k q p u running = record { line = l; tasks = k; semaphores = q; pools = p; queues = u; running = running }
@@ -70,3 +70,8 @@ lentSemaphores s left seat joined rings waker suspended priority name serial uni
 abbrev pub lentPools : State → List ℕ → List ℕ → List ℕ → List ℕ → List ℕ → List ℕ → List Bool → List Bool → List ℕ → ℕ → State
 lentPools s out name address length size serial live forced place running =
     stateOf (s .line) (s .tasks) (s .semaphores) (poolsOf out name address length size serial live forced place) (s .queues) running
+
+-- what the queue calls are lent; waker, suspended and priority are the tasks'
+abbrev pub lentQueues : State → List ℕ → List ℕ → List ℕ → List ℕ → List ℕ → List Bool → List ℕ → List ℕ → List ℕ → List Bool → List Bool → List ℕ → List ℕ → List ℕ → ℕ → State
+lentQueues s left seat joined rings waker suspended priority name serial live fifo limits held cells running =
+    stateOf (lineOf left seat joined rings) (wakers (s .tasks) waker suspended priority) (s .semaphores) (s .pools) (queuesOf name serial live fifo limits held cells) running

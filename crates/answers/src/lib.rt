@@ -1,5 +1,5 @@
 // The shapes of an answer. A call changes the state's columns where they lie; what it answers beside them and the wake list is
-// its outcome: refused or plainly done, one value, several values, tasks woken. (specs/Outcomes.antt, and scope's specs/Answers.antt.)
+// its outcome: refused or plainly done, one value, several values, tasks woken, a message delivered. (specs/Outcomes.antt, and scope's specs/Answers.antt.)
 ghost use mathlib.Core.Path.{_≡_};
 ghost use mathlib.Core.Bool.{false};
 ghost use Prim.Native.Nat.{_+_, _*_};
@@ -7,7 +7,7 @@ ghost use lib.ListN.{getD};
 ghost use lib.Dec.{ltb};
 ghost use Rattle.scope.specs.Choice.{pick};
 ghost use Rattle.scope.specs.Answers.{bitOf};
-ghost use Rattle.answers.specs.Outcomes.{outcome, woke};
+ghost use Rattle.answers.specs.Outcomes.{outcome, woke, delivered};
 
 // What a call answers beside the state and the wake list.
 pub struct Outcome {
@@ -20,6 +20,9 @@ pub struct Outcome {
     pub why: u32,
     // The slot of who runs after the call, 32 if nobody.
     pub runs: usize,
+    // Whether the wake is the delivery of a message, and that message's length.
+    pub delivers: bool,
+    pub length: u32,
 }
 
 // The identifier of the task that runs; 0 for nobody.
@@ -53,6 +56,8 @@ pub fn tells(v0: u32, v1: u32, v2: u32, v3: u32, negative: bool, runs: usize) ->
         woken: 0,
         why: 0,
         runs: runs,
+        delivers: false,
+        length: 0,
     }
 }
 
@@ -67,6 +72,8 @@ pub fn plain(status: u32, runs: usize) -> Outcome
         woken: 0,
         why: 0,
         runs: runs,
+        delivers: false,
+        length: 0,
     }
 }
 
@@ -81,6 +88,8 @@ pub fn gives(v: u32, runs: usize) -> Outcome
         woken: 0,
         why: 0,
         runs: runs,
+        delivers: false,
+        length: 0,
     }
 }
 
@@ -95,5 +104,23 @@ pub fn woke(woken: usize, why: u32, runs: usize) -> Outcome
         woken: woken,
         why: why,
         runs: runs,
+        delivers: false,
+        length: 0,
+    }
+}
+
+// Done, with one task woken: a message of so many bytes is delivered to it.
+pub fn delivered(length: u32, runs: usize) -> Outcome
+    ensures { λ r. ⌜ r ≡ delivered length runs ⌝ }
+{
+    Outcome {
+        status: scope::OK,
+        values: [0; 4],
+        negative: false,
+        woken: 1,
+        why: scope::OK,
+        runs: runs,
+        delivers: true,
+        length: length,
     }
 }

@@ -1,8 +1,10 @@
 -- "If there were waiters the first leaves, woken with OK: that is its grant." No other call grants: whatever its state and its
--- arguments, it wakes nobody, or (a tick, a sem_delete) those whom it wakes with a status that is not OK. A walk over the call table.
+-- arguments, it wakes nobody, or (a tick, a sem_delete, a queue_delete) those whom it wakes with a status that is not OK, or (a
+-- queue_send, a queue_jump) it delivers a message, and says so. A walk over the call table.
 -- Assumes nothing.
 use Prim.Native.Nat.{ℕ, zero, suc}
 use native.Mathlib.Omega.{arith}
+use mathlib.Core.Bool.{true}
 use mathlib.Core.Path.{_≡_, refl}
 use mathlib.Core.Logic.{_⊎_, inl, inr}
 use mathlib.Core.List.{List, [], _∷_}
@@ -11,11 +13,13 @@ use Rattle.scope.specs.declared.State.{State}
 use Rattle.scope.specs.declared.Answer.{Answer}
 use Rattle.scope.specs.declared.Found.{Found}
 use Rattle.scope.specs.Statuses.{OK}
-use Rattle.scope.specs.Answers.{answer, plain, gives, badState, wakesWith, onFound}
+use Rattle.scope.specs.Answers.{answer, plain, gives, badState, shows, wakesWith, deliversTo, onFound}
 use Rattle.scope.specs.Replies.{Wake, wakesFrom, wakeList}
 use Rattle.scope.specs.Tasks.{taskCreateAt, taskCreate, taskDeleteAt, taskIdentAt, taskIdent, taskStartAt, taskSuspendAt, taskResumeAt, taskSetPriorityAt}
 use Rattle.scope.specs.Semaphores.{semCreateAt, semCreate, semDeleteAt, semIdentAt, semIdent, semWaitAt, semClaimAt, semInfoAt}
 use Rattle.scope.specs.Pools.{poolCreateAt, poolCreate, poolDeleteAt, poolIdentAt, poolIdent, poolGetBuffer, poolGetBuffAt, poolRetBuffer, poolRetBuffAt, poolInfoAt}
+use Rattle.scope.specs.Messages.{Store, appended, pushed}
+use Rattle.scope.specs.Queues.{queueCreateAt, queueCreate, queueDeleteAt, queueIdentAt, queueIdent, queuePutAt, queueWaitAt, queueReceiveAt, queueInfoAt}
 use Rattle.scope.specs.Ticks.{tick}
 use Rattle.scope.specs.Calls.{Call, calls, callAt}
 use Rattle.scope.specs.Step.{callerRefusal, answered, stepped}
@@ -27,13 +31,18 @@ abbrev pub Ungranted : List Wake → Type 0
 Ungranted [] = Unit
 Ungranted (w ∷ ws) = (w .status ≡ OK → ⊥) × Ungranted ws
 
--- nobody is woken, or with another status
-abbrev Quiet : Answer → Type 0
-Quiet a = (a .woken ≡ 0) ⊎ (a .why ≡ OK → ⊥)
+-- a delivery is no grant: what is told of it tells the message
+abbrev pub GrantsNobody : Answer → Type 0
+GrantsNobody a = (a .delivers ≡ true) ⊎ Ungranted (wakeList a)
 
-ungranted : (a : Answer) → Quiet a → Ungranted (wakeList a)
-ungranted a (inl e) = rw e tt
-ungranted a (inr n) = go (a .woken) 0
+-- nobody is woken, or with another status, or a message is delivered
+abbrev Quiet : Answer → Type 0
+Quiet a = (a .woken ≡ 0) ⊎ ((a .why ≡ OK → ⊥) ⊎ (a .delivers ≡ true))
+
+ungranted : (a : Answer) → Quiet a → GrantsNobody a
+ungranted a (inl e) = inr (rw e tt)
+ungranted a (inr (inr e)) = inl e
+ungranted a (inr (inl n)) = inr (go (a .woken) 0)
   where
     go : (m k : ℕ) → Ungranted (wakesFrom m k (a .wakes) (a .why))
     go zero k = tt
@@ -46,11 +55,11 @@ module _ (s : State) where
 
   quiet-tick : Quiet (tick s)
   unfolding tick wakesWith
-  quiet-tick = inr (λ e. omega arith)
+  quiet-tick = inr (inl (λ e. omega arith))
 
   quiet-delete : (i : ℕ) → Quiet (semDeleteAt s i)
   unfolding semDeleteAt wakesWith
-  quiet-delete i = inr (λ e. omega arith)
+  quiet-delete i = inr (inl (λ e. omega arith))
 
   quiet-task-create : (name priority : ℕ) → Quiet (taskCreate s name priority)
   unfolding taskCreate taskCreateAt plain gives answer
@@ -124,10 +133,36 @@ module _ (s : State) where
   unfolding poolInfoAt answer
   quiet-pool-info i = inl refl
 
+  quiet-queue-create : (name most longest options : ℕ) → Quiet (queueCreate s name most longest options)
+  unfolding queueCreate queueCreateAt plain gives answer
+  quiet-queue-create name most longest options = either Quiet _ (inl refl) (either Quiet _ (inl refl) (either Quiet _ (inl refl) (inl refl)))
+
+  quiet-queue-delete : (i : ℕ) → Quiet (queueDeleteAt s i)
+  unfolding queueDeleteAt wakesWith
+  quiet-queue-delete i = inr (inl (λ e. omega arith))
+
+  quiet-queue-ident : (name : ℕ) → Quiet (queueIdent s name)
+  unfolding queueIdent queueIdentAt plain gives answer
+  quiet-queue-ident name = either Quiet _ (inl refl) (inl refl)
+
+  quiet-put : (put : Store → ℕ → List ℕ → Store) (n : ℕ) (message : List ℕ) (i : ℕ) → Quiet (queuePutAt put s n message i)
+  unfolding queuePutAt deliversTo plain answer
+  quiet-put put n message i = either Quiet _ (inl refl) (either Quiet _ (inr (inr refl)) (either Quiet _ (inl refl) (inl refl)))
+
+  quiet-receive : (options ticks i : ℕ) → Quiet (queueReceiveAt s options ticks i)
+  unfolding queueReceiveAt queueWaitAt shows plain answer
+  quiet-receive options ticks i =
+      either Quiet _ (inl refl)
+      (either Quiet _ (inl refl) (either Quiet _ (inl refl) (either Quiet _ (inl refl) (either Quiet _ (inl refl) (inl refl)))))
+
+  quiet-queue-info : (i : ℕ) → Quiet (queueInfoAt s i)
+  unfolding queueInfoAt answer
+  quiet-queue-info i = inl refl
+
   -- row 12, the release, is the one that is not asked
-  module _ (a b c d e : ℕ) where
+  module _ (a b c d e : ℕ) (m : List ℕ) where
     abbrev Row : ℕ → Call → Type 0
-    Row k row = (k ≡ 12 → ⊥) → Quiet (row .does s a b c d e)
+    Row k row = (k ≡ 12 → ⊥) → Quiet (row .does s a b c d e m)
 
     rows : Rows Row 0 calls
     rows =
@@ -151,17 +186,24 @@ module _ (s : State) where
         (more (λ n. named _ _ quiet-get)
         (more (λ n. named _ _ (quiet-return b))
         (more (λ n. named _ _ quiet-pool-info)
-        none)))))))))))))))))))
+        (more (λ n. quiet-queue-create a b c d)
+        (more (λ n. named _ _ quiet-queue-delete)
+        (more (λ n. quiet-queue-ident a)
+        (more (λ n. named _ _ (quiet-put appended b m))
+        (more (λ n. named _ _ (quiet-put pushed b m))
+        (more (λ n. named _ _ (quiet-receive b c))
+        (more (λ n. named _ _ quiet-queue-info)
+        none))))))))))))))))))))))))))
 
-    quiet-row : (call : ℕ) → (call ≡ 12 → ⊥) → Quiet (callAt call .does s a b c d e)
+    quiet-row : (call : ℕ) → (call ≡ 12 → ⊥) → Quiet (callAt call .does s a b c d e m)
     unfolding plain answer
     quiet-row call n = row-at Row 0 calls rows (λ k m. inl refl) call (λ e. n (omega arith))
 
-    quiet-step : (call mark : ℕ) → (call ≡ 12 → ⊥) → Quiet (stepped s call mark a b c d e)
+    quiet-step : (call mark : ℕ) → (call ≡ 12 → ⊥) → Quiet (stepped s call mark a b c d e m)
     unfolding stepped answered plain answer badState
     quiet-step call mark n =
         branch Quiet (sound s) _ _ (branch Quiet (eqb (callerRefusal call mark (s .running)) OK) _ _ (quiet-row call n) (inl refl)) (inl refl)
 
     -- an answer that is not a release's grants nothing
-    pub only-releases-grant : (call mark : ℕ) → (call ≡ 12 → ⊥) → Ungranted (wakeList (stepped s call mark a b c d e))
-    only-releases-grant call mark n = ungranted (stepped s call mark a b c d e) (quiet-step call mark n)
+    pub only-releases-grant : (call mark : ℕ) → (call ≡ 12 → ⊥) → GrantsNobody (stepped s call mark a b c d e m)
+    only-releases-grant call mark n = ungranted (stepped s call mark a b c d e m) (quiet-step call mark n)

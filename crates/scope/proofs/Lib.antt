@@ -12,3 +12,4 @@ pub mod Buffers
 pub mod Gets
 pub mod Named
 pub mod Rings
+pub mod Sends

@@ -65,6 +65,7 @@ noQueues =
       fifo = replicate 8 false;
       limits = replicate 16 0;
       held = replicate 8 0;
+      cells = replicate 8320 0;
     }
 
 unfoldable pub freshState : ℕ → State

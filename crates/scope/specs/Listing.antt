@@ -34,7 +34,11 @@ unfoldable pub wakeFields : List Wake → List ℕ
 wakeFields [] = []
 wakeFields (w ∷ ws) = field (decimal (w .task) ++ (58 ∷ decimal (w .status))) ++ wakeFields ws
 
--- A line tells what the answer tells, and nothing else of the state. "a newline after each line"
+-- M-100: "a delivery reads `task:0:length`": it wakes one task, and the length is behind its status
+unfoldable pub deliveryField : Bool → ℕ → List ℕ
+deliveryField delivers n = pick delivers (58 ∷ decimal n) []
+
+-- A line tells what the answer tells, all but the message shown, and nothing else of the state. "a newline after each line"
 unfoldable pub lineOf : ℕ → Reply → List ℕ
 lineOf record# r =
     decimal record#
@@ -45,7 +49,8 @@ lineOf record# r =
     ++ (field (decimal (getD (r .values) 3 0))
     ++ (field (decimal (r .running))
     ++ (wakeFields (r .wakes)
-    ++ (10 ∷ []))))))))
+    ++ (deliveryField (r .delivers) (r .length)
+    ++ (10 ∷ [])))))))))
 
 -- "Records count from 1": the lines of n records from a place on, record k first
 unfoldable pub linesFrom : List ℕ → ℕ → ℕ → ℕ → State → List ℕ

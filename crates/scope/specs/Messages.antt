@@ -4,9 +4,9 @@
 -- 1,040 a queue; `row` is one queue's.
 -- Assumes nothing.
 use Prim.Native.Nat.{ℕ, zero, suc, _+_, _-_, _*_}
-use mathlib.Core.Bool.{Bool, _&&_}
+use mathlib.Core.Bool.{Bool, true, _&&_}
 use mathlib.Core.List.{List, [], _∷_, _++_, map}
-use lib.ListN.{length, getD, set, take, drop, replicate}
+use lib.ListN.{getD, set, take, drop, replicate}
 use lib.Dec.{ltb, leb, eqb}
 use Rattle.scope.specs.Choice.{pick, every}
 
@@ -98,7 +98,8 @@ cleared s i = withQueue s i (replicate 1040 0) 0
 
 -- The one form of what a queue holds.
 unfoldable pub isZeros : List ℕ → Bool
-isZeros xs = every (λ k. eqb (getD xs k 0) 0) (length xs)
+isZeros [] = true
+isZeros (x ∷ xs) = eqb x 0 && isZeros xs
 
 -- cell k of a row
 unfoldable pub cellAt : List ℕ → ℕ → List ℕ
@@ -112,6 +113,6 @@ cellRight longest cell = leb (getD cell 0 0) longest && isZeros (drop (getD cell
 unfoldable pub rowRight : List ℕ → ℕ → ℕ → Bool
 rowRight row h longest = leb h 16 && (every (λ k. cellRight longest (cellAt row k)) h && isZeros (drop (h * 65) row))
 
--- every queue is in its one form; `longest` says how long the messages of each may be
+-- every queue is in its one form: M-100, "any other only what sends can leave". Queue i's longest message is at 2 × i + 1 of `limits`.
 unfoldable pub storeRight : Store → List ℕ → Bool
-storeRight s longest = every (λ i. rowRight (rowIn s i) (heldIn s i) (getD longest i 0)) 8
+storeRight s limits = every (λ i. rowRight (rowIn s i) (heldIn s i) (getD limits (2 * i + 1) 0)) 8

@@ -18,7 +18,8 @@ use Rattle.scope.specs.Views.{readyWith, waitersOf, Signed, count}
 use Rattle.scope.specs.Areas.{isArea, isSize, buffersOf, shareByte, isFree, freeOf}
 use Rattle.scope.specs.Places.{onPlace}
 use Rattle.scope.specs.Pools.{poolBuffers, poolRow}
-use Rattle.scope.specs.Queues.{lastMost, lastLength, mostOf, longestOf}
+use Rattle.scope.specs.Messages.{storeRight}
+use Rattle.scope.specs.Queues.{mostOf, longestOf, heldOf, storeOf, areLimits}
 use Rattle.scope.specs.Tasks.{lastPriority}
 use Rattle.scope.specs.Waiting.{isTimeOut}
 use Rattle.scope.specs.Semaphores.{lastCount}
@@ -78,12 +79,13 @@ countRight n c = pick (ltb 0 n) (c .negative && eqb (c .size) n) (not (c .negati
 unfoldable pub countsRight : Line → Semaphores → Bool
 countsRight l m = every (λ i. countRight (waitersOf l i) (count l m i)) 16
 
--- M-100: "a queue with waiters holds nothing, any other only what sends can leave": no more than its most messages
+-- M-100: "a queue with waiters holds nothing, any other only what sends can leave": no more than its most messages (and, below, none
+-- longer than its longest)
 unfoldable pub holdsRight : ℕ → ℕ → ℕ → Bool
 holdsRight n held most = pick (ltb 0 n) (eqb held 0) (leb held most)
 
 unfoldable pub heldRight : Line → Queues → Bool
-heldRight l u = every (λ i. holdsRight (waitersOf l (queueObject i)) (getD (u .held) i 0) (mostOf u i)) 8
+heldRight l u = every (λ i. holdsRight (waitersOf l (queueObject i)) (heldOf u i) (mostOf u i)) 8
 
 -- "Tasks not started neither wait nor are suspended."
 unfoldable pub startRight : Bool → Bool → ℕ → Bool
@@ -117,13 +119,16 @@ semsRight m = every (semRight m) 16
 unfoldable pub queueRight : Queues → ℕ → Bool
 queueRight u i =
     pick (getD (u .live) i false)
-    (leb 1 (getD (u .serial) i 0)
-    && (leb 1 (mostOf u i) && (leb (mostOf u i) lastMost && (leb 1 (longestOf u i) && leb (longestOf u i) lastLength))))
+    (leb 1 (getD (u .serial) i 0) && areLimits (mostOf u i) (longestOf u i))
     (eqb (getD (u .name) i 0) 0
-    && (not (getD (u .fifo) i false) && (eqb (mostOf u i) 0 && (eqb (longestOf u i) 0 && eqb (getD (u .held) i 0) 0))))
+    && (not (getD (u .fifo) i false) && (eqb (mostOf u i) 0 && (eqb (longestOf u i) 0 && eqb (heldOf u i) 0))))
 
 unfoldable pub queuesRight : Queues → Bool
 queuesRight u = every (queueRight u) 8
+
+-- M-100: "only what sends can leave": the messages held are in their one form
+unfoldable pub messagesRight : Queues → Bool
+messagesRight u = storeRight (storeOf u) (u .limits)
 
 -- "Each live pool is one that creation admits"; "marks of buffers past a pool's number" are zeros
 unfoldable pub admitted : ℕ → ℕ → ℕ → ℕ → Bool
@@ -190,6 +195,7 @@ tableRules =
     (λ s. tasksRight (s .tasks))
     ∷ (λ s. semsRight (s .semaphores))
     ∷ (λ s. queuesRight (s .queues))
+    ∷ (λ s. messagesRight (s .queues))
     ∷ (λ s. poolsRight (s .pools))
     ∷ (λ s. ordersRight (s .pools))
     ∷ (λ s. poolsApart (s .pools))

@@ -3,8 +3,8 @@
 -- Assumes nothing.
 use Prim.Native.Nat.{ℕ, _+_, _*_}
 use mathlib.Core.Bool.{Bool, not, _&&_}
-use mathlib.Core.List.{List}
-use lib.ListN.{length, getD}
+use mathlib.Core.List.{List, _++_}
+use lib.ListN.{length, getD, take, drop, replicate}
 use lib.Dec.{leb, eqb}
 use Rattle.scope.specs.declared.State.{State}
 use Rattle.scope.specs.declared.Answer.{Answer}
@@ -33,8 +33,13 @@ isScript script =
     && (leb (firstOffset script + 28 * recordCount script) (length script)
     && (leb (firstPriority script) lastPriority && eqb (number32 script 12) 0))))
 
+-- M-100: "In a script the three arguments left are the first 12 bytes, the rest zeros": the message that the record at a place lends,
+-- behind the call, the mark, and a send's identifier and length
+unfoldable pub messageAt : List ℕ → ℕ → List ℕ
+messageAt script at = take 12 (drop (at + 16) script) ++ replicate 52 0
+
 -- the step that the record at a place asks for
 unfoldable pub stepAt : List ℕ → ℕ → State → Answer
 stepAt script at s =
     stepped s (number32 script at) (number32 script (at + 4)) (number32 script (at + 8)) (number32 script (at + 12))
-    (number32 script (at + 16)) (number32 script (at + 20)) (number32 script (at + 24))
+    (number32 script (at + 16)) (number32 script (at + 20)) (number32 script (at + 24)) (messageAt script at)

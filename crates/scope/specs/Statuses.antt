@@ -10,7 +10,7 @@ OK = 0
 abbrev pub PENDING : ℕ
 PENDING = 1
 
--- interrupt caller, call neither sem_release nor tick
+-- interrupt caller, call none of tick, sem_release, and ("Interrupts may send and jump") queue_send and queue_jump
 abbrev pub ILLEGAL-USE : ℕ
 ILLEGAL-USE = 2
 
@@ -103,3 +103,18 @@ BAD-CALL = 25
 -- state breaks a rule
 abbrev pub BAD-STATE : ℕ
 BAD-STATE = 26
+
+-- "too long for the queue, or the lent bytes are fewer"
+abbrev pub INVALID-LENGTH : ℕ
+INVALID-LENGTH = 27
+
+abbrev pub QUEUE-FULL : ℕ
+QUEUE-FULL = 28
+
+-- "NOWAIT receive"
+abbrev pub QUEUE-EMPTY : ℕ
+QUEUE-EMPTY = 29
+
+-- "to woken tasks"
+abbrev pub QUEUE-DELETED : ℕ
+QUEUE-DELETED = 30

@@ -64,6 +64,14 @@ pub const BAD_CALL: u32 = 25;
 
 pub const BAD_STATE: u32 = 26;
 
+pub const INVALID_LENGTH: u32 = 27;
+
+pub const QUEUE_FULL: u32 = 28;
+
+pub const QUEUE_EMPTY: u32 = 29;
+
+pub const QUEUE_DELETED: u32 = 30;
+
 // Where each task stands, and what it waits with.
 // A seat is queue × 64 + place, place 1 first, 0 for a task that stands nowhere. Queue i + 1 is the wait queue of
 // semaphore i, queue i + 17 that of message queue i; queue 32 + p holds the ready tasks of priority p. So one number says
@@ -121,6 +129,8 @@ pub struct Queues {
     pub limits: [u8; 16],
     // How many messages a queue holds.
     pub held: [u8; 8],
+    // The messages: queue i has 16 cells of 65 bytes from i × 1,040 on, a cell is a message's length and its bytes, and zeros past them.
+    pub cells: [u8; 8320],
 }
 
 pub struct State {
@@ -152,6 +162,11 @@ pub struct Answer {
     pub negative: bool,
     // The running task's identifier, 0 if none.
     pub running: u32,
+    // Whether the wake is the delivery of a message, and that message's length.
+    pub delivers: bool,
+    pub length: u32,
+    // The message shown, beside the wake that delivers it or beside the answer of a receive: zeros past its length, and where none is shown.
+    pub shown: [u8; 64],
 }
 
 // A fresh state, or the refusal of its priority beside the fresh state of priority 0.
