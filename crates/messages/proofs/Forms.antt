@@ -5,7 +5,7 @@ use native.Mathlib.Omega.{arith}
 use native.Mathlib.Nat.{mod-lt, div-add-mod'}
 use mathlib.Core.Path.{_≡_, refl, sym, subst, ap, _∙_}
 use mathlib.Core.Bool.{Bool, true, false, _&&_}
-use mathlib.Core.List.{List}
+use mathlib.Core.List.{List, [], _∷_}
 use lib.ListN.{length, getD, take, drop, length-drop}
 use lib.Seq.{length-take-le, take-take, drop-drop, getD-take, getD-drop}
 use lib.Dec.{leb, eqb}
@@ -61,12 +61,38 @@ every-same p q (suc n) h =
     ap (λ (b : Bool). elim b as (λ x. Bool) [ true ↦ every p n | false ↦ false ]) (h n (omega arith))
     ∙ ap (λ (b : Bool). elim (q n) as (λ x. Bool) [ true ↦ b | false ↦ false ]) (every-same p q n (λ k l. h k (omega arith)))
 
+-- a test of all, by that of the first and that of those behind it
+every-first : (p : ℕ → Bool) (n : ℕ) → every p (suc n) ≡ (p 0 && every (λ k. p (suc k)) n)
+unfolding every
+every-first p zero = go (p 0)
+  where
+    go : (b : Bool) → elim b as (λ x. Bool) [ true ↦ true | false ↦ false ] ≡ (b && true)
+    go true = refl
+    go false = refl
+every-first p (suc n) =
+    ap (λ (r : Bool). elim (p (suc n)) as (λ x. Bool) [ true ↦ r | false ↦ false ]) (every-first p n) ∙ go (p (suc n)) (p 0)
+  where
+    go : (b a : Bool)
+        → elim b as (λ x. Bool) [ true ↦ a && every (λ k. p (suc k)) n | false ↦ false ]
+        ≡ (a && elim b as (λ x. Bool) [ true ↦ every (λ k. p (suc k)) n | false ↦ false ])
+    go true a = refl
+    go false true = refl
+    go false false = refl
+
+-- zeros, by what stands at each place
+pub zeros-are : (xs : List ℕ) → isZeros xs ≡ every (λ k. eqb (getD xs k 0) 0) (length xs)
+unfolding isZeros every
+zeros-are [] = refl
+zeros-are (x ∷ xs) =
+    ap (λ (b : Bool). eqb x 0 && b) (zeros-are xs) ∙ sym (every-first (λ k. eqb (getD (x ∷ xs) k 0) 0) (length xs))
+
 -- the bytes of a part from its byte a on
 pub zeros-part : (cells : List ℕ) (c b a from to : ℕ) → c + b ≤ length cells → from ≡ c + a → to ≡ c + b
     → every (λ k. eqb (getD cells (from + k) 0) 0) (to - from) ≡ isZeros (drop a (take b (drop c cells)))
-unfolding isZeros
 zeros-part cells c b a from to room e d =
-    ap (every (λ k. eqb (getD cells (from + k) 0) 0)) count ∙ every-same _ _ (length (drop a part)) (λ k l. ap (λ (x : ℕ). eqb x 0) (byte k l))
+    ap (every (λ k. eqb (getD cells (from + k) 0) 0)) count
+    ∙ every-same _ _ (length (drop a part)) (λ k l. ap (λ (x : ℕ). eqb x 0) (byte k l))
+    ∙ sym (zeros-are (drop a part))
   where
     part : List ℕ
     part = take b (drop c cells)
@@ -139,10 +165,10 @@ either-way false true f g = g refl
 either-way false false f g = refl
 
 -- where no queue holds a message the form is that all bytes are zeros
-pub none-held : (cells held longest : List ℕ) (z : Bool) → length cells ≡ 8320 → every (λ k. eqb (getD held (0 + k) 0) 0) (8 - 0) ≡ true
-    → z ≡ every (λ k. eqb (getD cells (0 + k) 0) 0) (8320 - 0) → z ≡ storeRight (store cells held) longest
+pub none-held : (cells held limits : List ℕ) (z : Bool) → length cells ≡ 8320 → every (λ k. eqb (getD held (0 + k) 0) 0) (8 - 0) ≡ true
+    → z ≡ every (λ k. eqb (getD cells (0 + k) 0) 0) (8320 - 0) → z ≡ storeRight (store cells held) limits
 unfolding storeRight
-none-held cells held longest z size none e = either-way z _ all back
+none-held cells held limits z size none e = either-way z _ all back
   where
     empty : (i : ℕ) → i < 8 → getD held i 0 ≡ 0
     empty i h =
@@ -151,30 +177,30 @@ none-held cells held longest z size none e = either-way z _ all back
 
     row : (i : ℕ) → i < 8
         → every (λ j. eqb (getD cells (i * 1040 + 0 * 65 + j) 0) 0) (i * 1040 + 1040 - (i * 1040 + 0 * 65))
-        ≡ rowRight (cellsOf cells i) (getD held i 0) (getD longest i 0)
-    row i h = row-clear cells i (getD longest i 0) size h ∙ ap (λ (k : ℕ). rowRight (cellsOf cells i) k (getD longest i 0)) (sym (empty i h))
+        ≡ rowRight (cellsOf cells i) (getD held i 0) (getD limits (2 * i + 1) 0)
+    row i h = row-clear cells i (getD limits (2 * i + 1) 0) size h ∙ ap (λ (k : ℕ). rowRight (cellsOf cells i) k (getD limits (2 * i + 1) 0)) (sym (empty i h))
 
-    all : z ≡ true → every (λ i. rowRight (cellsOf cells i) (getD held i 0) (getD longest i 0)) 8 ≡ true
+    all : z ≡ true → every (λ i. rowRight (cellsOf cells i) (getD held i 0) (getD limits (2 * i + 1) 0)) 8 ≡ true
     all t =
-        every-yes (λ i. rowRight (cellsOf cells i) (getD held i 0) (getD longest i 0)) 8
+        every-yes (λ i. rowRight (cellsOf cells i) (getD held i 0) (getD limits (2 * i + 1) 0)) 8
         (λ i h. sym (row i h)
         ∙ every-yes (λ j. eqb (getD cells (i * 1040 + 0 * 65 + j) 0) 0) (i * 1040 + 1040 - (i * 1040 + 0 * 65))
         (λ j l. let o : i * 1040 + 0 * 65 + j ≡ 0 + (i * 1040 + j) = omega arith in
         ap (λ (k : ℕ). eqb (getD cells k 0) 0) o ∙ every-at (λ k. eqb (getD cells (0 + k) 0) 0) 8320 (sym e ∙ t) (i * 1040 + j) (omega arith)))
 
-    byte : every (λ i. rowRight (cellsOf cells i) (getD held i 0) (getD longest i 0)) 8 ≡ true → (i j : ℕ) → i < 8 → j < 1040
+    byte : every (λ i. rowRight (cellsOf cells i) (getD held i 0) (getD limits (2 * i + 1) 0)) 8 ≡ true → (i j : ℕ) → i < 8 → j < 1040
         → eqb (getD cells (i * 1040 + 0 * 65 + j) 0) 0 ≡ true
     byte t i j h l =
         every-at (λ j. eqb (getD cells (i * 1040 + 0 * 65 + j) 0) 0) (i * 1040 + 1040 - (i * 1040 + 0 * 65))
-        (row i h ∙ every-at (λ i. rowRight (cellsOf cells i) (getD held i 0) (getD longest i 0)) 8 t i h) j (omega arith)
+        (row i h ∙ every-at (λ i. rowRight (cellsOf cells i) (getD held i 0) (getD limits (2 * i + 1) 0)) 8 t i h) j (omega arith)
 
-    at : every (λ i. rowRight (cellsOf cells i) (getD held i 0) (getD longest i 0)) 8 ≡ true → (k i j : ℕ) → i * 1040 + j ≡ k → j < 1040 → k < 8320
+    at : every (λ i. rowRight (cellsOf cells i) (getD held i 0) (getD limits (2 * i + 1) 0)) 8 ≡ true → (k i j : ℕ) → i * 1040 + j ≡ k → j < 1040 → k < 8320
         → eqb (getD cells (0 + k) 0) 0 ≡ true
     at t k i j d l h =
         let o : 0 + k ≡ i * 1040 + 0 * 65 + j = omega arith in
         ap (λ (m : ℕ). eqb (getD cells m 0) 0) o ∙ byte t i j (omega arith) l
 
-    back : every (λ i. rowRight (cellsOf cells i) (getD held i 0) (getD longest i 0)) 8 ≡ true → z ≡ true
+    back : every (λ i. rowRight (cellsOf cells i) (getD held i 0) (getD limits (2 * i + 1) 0)) 8 ≡ true → z ≡ true
     back t =
         e
         ∙ every-yes (λ k. eqb (getD cells (0 + k) 0) 0) 8320 (λ k h. at t k (k / 1040) (k % 1040) (div-add-mod' k 1040) (mod-lt k (omega arith)) h)

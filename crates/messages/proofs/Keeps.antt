@@ -16,19 +16,19 @@ use Rattle.laws.proofs.Searches.{every-at, every-yes}
 use Rattle.scope.specs.Choice.{every}
 use Rattle.scope.specs.Messages.{shownOf, cellOf, atEnd, inFront, firstGone, firstLength, firstShown, cellsIn, messageIn, isZeros, cellAt, cellRight, rowRight}
 use Rattle.messages.proofs.Parts.{drop-take, drop-zeros}
+use Rattle.messages.proofs.Forms.{zeros-are}
 use Rattle.messages.proofs.Views.{end-cells, front-cells, rest-cells}
 
 -- zeros are one list of a length
 pub zeros-told : (xs : List ℕ) (n : ℕ) → length xs ≡ n → isZeros xs ≡ true → xs ≡ replicate n 0
-unfolding isZeros
 zeros-told xs n l e =
     ext-getD 0 xs (replicate n 0) (l ∙ sym (length-replicate {A = ℕ} n 0))
-    (λ k h. eqb-true (getD xs k 0) 0 (every-at (λ k. eqb (getD xs k 0) 0) (length xs) e k h) ∙ sym (getD-replicate n k 0 0 (omega (arith, l))))
+    (λ k h. eqb-true (getD xs k 0) 0 (every-at (λ k. eqb (getD xs k 0) 0) (length xs) (sym (zeros-are xs) ∙ e) k h) ∙ sym (getD-replicate n k 0 0 (omega (arith, l))))
 
 pub zeros-tell : (n : ℕ) → isZeros (replicate n 0) ≡ true
-unfolding isZeros
 zeros-tell n =
-    every-yes (λ k. eqb (getD (replicate n 0) k 0) 0) (length (replicate {A = ℕ} n 0))
+    zeros-are (replicate n 0)
+    ∙ every-yes (λ k. eqb (getD (replicate n 0) k 0) 0) (length (replicate {A = ℕ} n 0))
     (λ k h. eq-eqb (getD (replicate n 0) k 0) 0 (getD-replicate n k 0 0 (omega (arith, length-replicate {A = ℕ} n 0))))
 
 -- every cell of a list holds a message of at most `longest` bytes, and zeros past it

@@ -1,6 +1,6 @@
 -- The store as a whole: its sizes and the one form of every queue are kept by each verb.
 -- Assumes nothing.
-use Prim.Native.Nat.{ℕ, suc, _+_, _-_, _<_}
+use Prim.Native.Nat.{ℕ, suc, _+_, _-_, _*_, _<_}
 use native.Mathlib.Omega.{arith}
 use native.Mathlib.Numerals.{add-one}
 use mathlib.Core.Path.{_≡_, refl, sym, subst}
@@ -23,19 +23,19 @@ pub record Kept (longest : ℕ → ℕ) (s : Store) : Type 0 where
   pub form : (j : ℕ) → j < 8 → InForm (rowIn s j) (heldIn s j) (longest j)
 
 -- the test of all queues says so, and back
-pub store-told : (s : Store) (longest : List ℕ) → Sized s → storeRight s longest ≡ true → Kept (λ i. getD longest i 0) s
+pub store-told : (s : Store) (limits : List ℕ) → Sized s → storeRight s limits ≡ true → Kept (λ i. getD limits (2 * i + 1) 0) s
 unfolding storeRight
-store-told s longest z e = record {
+store-told s limits z e = record {
   sized = z;
-  form = λ j h. form-told (rowIn s j) (heldIn s j) (getD longest j 0) (length-row s z j h)
-      (every-at (λ i. rowRight (rowIn s i) (heldIn s i) (getD longest i 0)) 8 e j h);
+  form = λ j h. form-told (rowIn s j) (heldIn s j) (getD limits (2 * j + 1) 0) (length-row s z j h)
+      (every-at (λ i. rowRight (rowIn s i) (heldIn s i) (getD limits (2 * i + 1) 0)) 8 e j h);
 }
 
-pub store-tells : (s : Store) (longest : List ℕ) → Kept (λ i. getD longest i 0) s → storeRight s longest ≡ true
+pub store-tells : (s : Store) (limits : List ℕ) → Kept (λ i. getD limits (2 * i + 1) 0) s → storeRight s limits ≡ true
 unfolding storeRight
-store-tells s longest w =
-    every-yes (λ i. rowRight (rowIn s i) (heldIn s i) (getD longest i 0)) 8
-    (λ j h. form-tells (rowIn s j) (heldIn s j) (getD longest j 0) (length-row s (w .sized) j h) (w .form j h))
+store-tells s limits w =
+    every-yes (λ i. rowRight (rowIn s i) (heldIn s i) (getD limits (2 * i + 1) 0)) 8
+    (λ j h. form-tells (rowIn s j) (heldIn s j) (getD limits (2 * j + 1) 0) (length-row s (w .sized) j h) (w .form j h))
 
 module _ (longest : ℕ → ℕ) (s : Store) (w : Kept longest s) (i : ℕ) (hi : i < 8) where
   row-long : length (rowIn s i) ≡ 1040

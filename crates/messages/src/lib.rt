@@ -1,11 +1,20 @@
 // The messages that queues hold, changed where they lie: only the cells that hold one are moved. (scope's specs/Messages.antt.)
+// And how many a queue may hold, and how long. (Its specs/Queues.antt.)
 ghost use mathlib.Core.Path.{_≡_};
 ghost use Prim.Native.Nat.{_+_, _-_, _*_, _<_, _≤_};
 ghost use lib.ListN.{length, getD, take, drop, replicate};
 ghost use lib.Seq.{paste};
 ghost use lib.Dec.{eqb};
 ghost use Rattle.scope.specs.Choice.{every};
+ghost use Rattle.scope.specs.Queues.{areLimits};
 ghost use Rattle.scope.specs.Messages.{shownOf, cellOf, cellsOf, firstLength, firstShown, store, appended, pushed, taken, cleared, cellAt, cellRight, rowRight, storeRight};
+
+// "most messages (1 to 16), longest message (1 to 64)"
+pub fn are_limits(most: u32, longest: u32) -> bool
+    ensures { λ r. ⌜ r ≡ areLimits most longest ⌝ }
+{
+    (1 <= most) & (most <= 16) & (1 <= longest) & (longest <= 64)
+}
 
 fn wide(b: u8) -> usize
     ensures { λ r. ⌜ (r ≡ b) × (r < 256) ⌝ }
@@ -226,9 +235,10 @@ pub fn in_form(cells: &[u8; 8320], i: usize, h: usize, longest: u8) -> bool
     ok & zeros(cells, i * 1040 + h * 65, i * 1040 + 1040)
 }
 
-// Whether every queue is in its one form. Where none holds a message that is one pass over all bytes.
-pub fn all_in_form<'a>(cells: &'a [u8; 8320], held: &'a [u8; 8], longest: &'a [u8; 8]) -> bool
-    ensures { λ r. ⌜ r ≡ storeRight (store (now (cells .entry)) (now (held .entry))) (now (longest .entry)) ⌝ }
+// Whether every queue is in its one form; queue i's longest message is at 2 × i + 1 of `limits`. Where none holds a message that is one
+// pass over all bytes.
+pub fn all_in_form(limits: &[u8; 16], held: &[u8; 8], cells: &[u8; 8320]) -> bool
+    ensures { λ r. ⌜ r ≡ storeRight (store (now (cells .entry)) (now (held .entry))) (now (limits .entry)) ⌝ }
 {
     if zeros(held, 0, 8) {
         return zeros(cells, 0, 8320);
@@ -236,7 +246,7 @@ pub fn all_in_form<'a>(cells: &'a [u8; 8320], held: &'a [u8; 8], longest: &'a [u
     let mut ok = true;
     let mut i: usize = 0;
     while i < 8 {
-        let right = in_form(cells, i, wide(held[i]), longest[i]);
+        let right = in_form(cells, i, wide(held[i]), limits[2 * i + 1]);
         ok = right & ok;
         i += 1;
     }

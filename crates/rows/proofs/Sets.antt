@@ -1,5 +1,5 @@
--- The bit of a status in a call's row says whether the status stands in the call's list: one test that antt computes, over the
--- twenty rows and the 64 bits of a set.
+-- The bit of a status in a call's row says whether the status stands in the call's list: one test that antt computes, over all
+-- rows and the 64 bits of a set.
 -- Assumes nothing.
 use Prim.Native.Nat.{ℕ, _/_, _%_, _^_, _<_}
 use mathlib.Core.Path.{_≡_, refl}
@@ -12,9 +12,9 @@ use Rattle.laws.proofs.Branches.{true-false}
 use Rattle.laws.proofs.Searches.{every-at}
 use Rattle.rows.specs.Rows.{setAt, mayGive}
 
--- "The call table has twenty rows"
-pub twenty-rows : length calls ≡ knownCalls
-twenty-rows = refl
+-- "The call table has twenty rows", and M-100's seven
+pub rows-known : length calls ≡ knownCalls
+rows-known = refl
 
 -- the two are both true or both false
 abbrev same : Bool → Bool → Bool

@@ -1,11 +1,12 @@
-// "The call table has twenty rows, one for each call": who may make it, and which statuses it can answer, as a set of bits.
+// "The call table has twenty rows, one for each call", and M-100 adds seven, "Calls 20 to 26 in the order named": who may make it, and
+// which statuses it can answer, as a set of bits.
 // A constant table, read by call number, in two columns: a step reads the first alone.
 ghost use mathlib.Core.Path.{_≡_};
 ghost use Prim.Native.Nat.{_<_};
 ghost use Rattle.scope.specs.Calls.{knownCalls, callAt, mayCall};
 ghost use Rattle.rows.specs.Rows.{setAt, mayGive};
 
-pub const CALLS: usize = 20;
+pub const CALLS: usize = 27;
 
 // Bit 0 the running task, bit 1 an interrupt.
 const TASK: u8 = 1;
@@ -35,6 +36,13 @@ const WHO: [u8; CALLS] = [
     TASK, // 17 pool_get_buff
     TASK, // 18 pool_ret_buff
     TASK, // 19 pool_info
+    TASK, // 20 queue_create
+    TASK, // 21 queue_delete
+    TASK, // 22 queue_ident
+    EITHER, // 23 queue_send
+    EITHER, // 24 queue_jump
+    TASK, // 25 queue_receive
+    TASK, // 26 queue_info
 ];
 
 // Bit s for status s.
@@ -59,6 +67,13 @@ const MAY: [u64; CALLS] = [
     0x7020035, // 17 pool_get_buff
     0x7040035, // 18 pool_ret_buff
     0x7000035, // 19 pool_info
+    0x70000cd, // 20 queue_create
+    0x7000035, // 21 queue_delete
+    0x7000105, // 22 queue_ident
+    0x1f000031, // 23 queue_send
+    0x1f000031, // 24 queue_jump
+    0x2700007f, // 25 queue_receive
+    0x7000035, // 26 queue_info
 ];
 
 // Who may make a call.

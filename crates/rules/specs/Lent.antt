@@ -31,7 +31,7 @@ placed p out length size place = poolsOf out (p .name) (p .address) length size 
 
 -- the queues u with these columns, which the wait queues are held against
 abbrev pub received : Queues → List Bool → List Bool → List ℕ → List ℕ → Queues
-received u live fifo limits held = queuesOf (u .name) (u .serial) live fifo limits held
+received u live fifo limits held = queuesOf (u .name) (u .serial) live fifo limits held (u .cells)
 
 -- what the rules of orders and queues are lent; the second live and FIFO are the queues'
 abbrev pub lentOrders : State → List ℕ → List ℕ → List ℕ → List ℕ → List Bool → List Bool → List ℕ → List ℕ → List Bool → List Bool → List Bool → List Bool → List ℕ → List ℕ → ℕ → State

@@ -1,6 +1,7 @@
-// "Rules of a state": each a function named after its rule, asked in five parts. A part is lent the columns that it reads, so the
-// state stays where it lies. Nothing stops at the first failure: a state is nearly always sound, and a loop without a way out in its
-// middle runs several slots at a time. So tests are joined by `&`, which asks both. (specs/Lent.antt, and scope's specs/Rules.antt.)
+// "Rules of a state": each a function named after its rule, asked in six parts (that of the messages held stands in crate messages). A
+// part is lent the columns that it reads, so the state stays where it lies. Nothing stops at the first failure: a state is nearly always
+// sound, and a loop without a way out in its middle runs several slots at a time. So tests are joined by `&`, which asks both.
+// (specs/Lent.antt, and scope's specs/Rules.antt.)
 ghost use mathlib.Core.Path.{_≡_};
 ghost use mathlib.Core.Bool.{true, false, not, _&&_};
 ghost use mathlib.Core.List.{List};
@@ -11,6 +12,7 @@ ghost use Rattle.scope.specs.Choice.{pick, number};
 ghost use Rattle.scope.specs.Seats.{isOn, queueSeats, queueOf, onSeat, standing, holdsTask, ringMask};
 ghost use Rattle.scope.specs.Objects.{queueObject, ofObject};
 ghost use Rattle.scope.specs.Views.{readyWith, less};
+ghost use Rattle.scope.specs.Queues.{areLimits};
 ghost use Rattle.scope.specs.Rules.{seatRight, seatsRight, ringsRight, readyRight, readyOrderRight, waitRight, waitsRight, joinedRight, queuesSorted, countRight};
 ghost use Rattle.scope.specs.Rules.{countsRight, holdsRight, heldRight, startRight, startsRight, tasksRight, semsRight, queuesRight, admitted, poolsRight};
 ghost use Rattle.scope.specs.Rules.{ordersRight, runningRight, orderRules, keeps};
@@ -411,10 +413,10 @@ fn queue_right(
     held: u8,
 ) -> bool
     ensures { λ r. ⌜ r
-        ≡ pick live (leb 1 serial && (leb 1 most && (leb most 16 && (leb 1 longest && leb longest 64)))) (eqb name 0 && (not fifo && (eqb most 0 && (eqb longest 0 && eqb held 0)))) ⌝ }
+        ≡ pick live (leb 1 serial && areLimits most longest) (eqb name 0 && (not fifo && (eqb most 0 && (eqb longest 0 && eqb held 0)))) ⌝ }
 {
     if live {
-        return (1 <= serial) & (1 <= most) & (most <= 16) & (1 <= longest) & (longest <= 64);
+        return (1 <= serial) & messages::are_limits(most as u32, longest as u32);
     }
     (name == 0) & !fifo & (most == 0) & (longest == 0) & (held == 0)
 }
@@ -428,7 +430,8 @@ pub fn queues_right(
     limits: &[u8; 16],
     held: &[u8; 8],
 ) -> bool
-    ensures { λ r. ⌜ r ≡ queuesRight (queuesOf (now (name .entry)) (now (serial .entry)) (now (live .entry)) (now (fifo .entry)) (now (limits .entry)) (now (held .entry))) ⌝ }
+    ensures { λ r. ⌜ ((cells : List ℕ)
+        → r ≡ queuesRight (queuesOf (now (name .entry)) (now (serial .entry)) (now (live .entry)) (now (fifo .entry)) (now (limits .entry)) (now (held .entry)) cells)) ⌝ }
 {
     let mut ok = true;
     let mut i: usize = 0;

@@ -4,14 +4,12 @@
 use answers::Outcome;
 use scope::Found;
 ghost use mathlib.Core.Path.{_≡_};
-ghost use mathlib.Core.Bool.{Bool, true, false, not, _&&_};
+ghost use mathlib.Core.Bool.{Bool, true, false};
 ghost use Prim.Native.Nat.{ℕ, _<_};
 ghost use mathlib.Core.List.{List};
 ghost use lib.ListN.{getD, length};
-ghost use lib.Dec.{eqb};
 ghost use Rattle.scope.specs.declared.State.{State};
 ghost use Rattle.scope.specs.Answers.{noWakes};
-ghost use Rattle.scope.specs.Waiting.{isTimeOut};
 ghost use Rattle.scope.specs.Semaphores.{semCreateAt, semCreate, semDeleteAt, semDelete, semIdent, semWaitAt, semClaimAt, semClaim};
 ghost use Rattle.scope.specs.Semaphores.{semReleaseAt, semRelease, semInfoAt, semInfo};
 ghost use Rattle.answers.specs.Outcomes.{answerOf};
@@ -203,16 +201,6 @@ pub fn sem_ident<'a>(
     answers::gives(tables::identifier(serial[i], i), running)
 }
 
-// Whether a claim that may wait asks for no time_out there is. "With NOWAIT it is not looked at."
-fn lacks_time_out(options: u32, ticks: u32) -> bool
-    ensures { λ r. ⌜ r ≡ (eqb options 0 && not (isTimeOut ticks)) ⌝ }
-{
-    if options == 0 {
-        return !times::is_time_out(ticks);
-    }
-    false
-}
-
 fn wait_at(
     left: &mut [u32; 32],
     seat: &mut [u16; 32],
@@ -272,7 +260,7 @@ fn claim_at(
     if 1 < options {
         return answers::plain(scope::INVALID_OPTIONS, running);
     }
-    if lacks_time_out(options, ticks) {
+    if times::lacks_time_out(options, ticks) {
         return answers::plain(scope::INVALID_PARAMETER, running);
     }
     let free = units[i];

@@ -1,6 +1,7 @@
 // Time_outs: which are in range, and what a tick leaves of one. (scope's specs/Waiting.antt and Ticks.antt.)
 ghost use mathlib.Core.Path.{_≡_};
-ghost use mathlib.Core.Bool.{true, false};
+ghost use mathlib.Core.Bool.{true, false, not, _&&_};
+ghost use lib.Dec.{eqb};
 ghost use Rattle.scope.specs.Waiting.{isTimeOut};
 ghost use Rattle.scope.specs.Ticks.{timeLeft};
 
@@ -13,6 +14,16 @@ pub fn is_time_out(ticks: u32) -> bool
     }
     if 1 <= ticks {
         return ticks <= 65535;
+    }
+    false
+}
+
+// Whether a call that may wait asks for no time_out there is. "With NOWAIT it is not looked at."
+pub fn lacks_time_out(options: u32, ticks: u32) -> bool
+    ensures { λ r. ⌜ r ≡ (eqb options 0 && not (isTimeOut ticks)) ⌝ }
+{
+    if options == 0 {
+        return !is_time_out(ticks);
     }
     false
 }

@@ -1,6 +1,6 @@
 -- `messages::all_in_form`: where no queue holds a message all bytes are looked at; else before queue i the loop holds the test of all queues passed.
 -- Assumes nothing.
-use Prim.Native.Nat.{ℕ, _-_}
+use Prim.Native.Nat.{ℕ, _+_, _-_, _*_}
 use mathlib.Core.Path.{_≡_, sym, ap, _∙_}
 use denote.Ref.{now}
 use lib.ListN.{length, getD}
@@ -12,10 +12,10 @@ use Rattle.messages.proofs.all_in_form.Statement.{statement}
 use Rattle.messages.proofs.all_in_form.Tie as tie
 
 abbrev Inv-loop : tie.InvT-loop
-Inv-loop cells held longest ok₀ i₀ ok i = Testing 8 (λ j. rowRight (cellsOf cells j) (getD held j 0) (getD longest j 0)) ok i
+Inv-loop limits held cells ok₀ i₀ ok i = Testing 8 (λ j. rowRight (cellsOf cells j) (getD held j 0) (getD limits (2 * j + 1) 0)) ok i
 
 abbrev μ-loop : tie.MeasureT-loop
-μ-loop cells held longest ok₀ i₀ ok i = 8 - i
+μ-loop limits held cells ok₀ i₀ ok i = 8 - i
 
 zeros-requires : tie.Need-zeros-requires Inv-loop μ-loop
 zeros-requires c κs = search needs
@@ -27,7 +27,7 @@ returns : tie.Need-returns Inv-loop μ-loop
 returns c =
     let s = c .before .before .before .before .before .args in
     let size : length (now (s .cells)) ≡ 8320 = search needs in
-    none-held (now (s .cells)) (now (s .held)) (now (s .longest)) _ size (sym (c .before .before .before .zeros .ensures) ∙ c .before .before .if1 .taken) (c .zeros2 .ensures)
+    none-held (now (s .cells)) (now (s .held)) (now (s .limits)) _ size (sym (c .before .before .before .zeros .ensures) ∙ c .before .before .if1 .taken) (c .zeros2 .ensures)
 
 loop-holds : tie.Need-loop-holds Inv-loop μ-loop
 loop-holds c = testing-start _ _
@@ -37,6 +37,12 @@ element-copy-out-wide c = search needs
 
 wide-requires : tie.Need-wide-requires Inv-loop μ-loop
 wide-requires c κs = search needs
+
+mul-in-form : tie.Need-mul-in-form Inv-loop μ-loop
+mul-in-form c = search needs
+
+add-in-form : tie.Need-add-in-form Inv-loop μ-loop
+add-in-form c = search needs
 
 element-copy-out-in-form : tie.Need-element-copy-out-in-form Inv-loop μ-loop
 element-copy-out-in-form c = search needs
@@ -55,7 +61,7 @@ loop-again c =
     let s = c .before .before .before .before .before .before .before .before .before .args in
     let l = c .before .before .before .before .before .loop in
     testing-more (l .inv) (search needs)
-    (c .in-form .ensures ∙ ap (λ (k : ℕ). rowRight (cellsOf (now (s .cells)) (l .i)) k (getD (now (s .longest)) (l .i) 0)) (c .before .before .wide .ensures .0))
+    (c .in-form .ensures ∙ ap (λ (k : ℕ). rowRight (cellsOf (now (s .cells)) (l .i)) k (getD (now (s .limits)) (2 * l .i + 1) 0)) (c .before .before .wide .ensures .0))
 
 returns-2 : tie.Need-returns-2 Inv-loop μ-loop
 unfolding storeRight
@@ -73,6 +79,8 @@ all-in-form-spec =
     loop-holds
     element-copy-out-wide
     wide-requires
+    mul-in-form
+    add-in-form
     element-copy-out-in-form
     in-form-requires
     add-i

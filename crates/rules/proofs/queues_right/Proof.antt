@@ -1,6 +1,7 @@
 -- `rules::queues_right`: before each turn the loop holds the test of all slots passed.
 -- Assumes nothing.
 use Prim.Native.Nat.{_-_}
+use mathlib.Core.List.{[]}
 use borrow.Author.Needs.{needs}
 use Rattle.scope.specs.Rules.{queuesRight, queueRight}
 use Rattle.rules.proofs.Laws.{Testing, testing-start, testing-more, testing-done}
@@ -10,7 +11,7 @@ use Rattle.rules.proofs.queues_right.Tie as tie
 abbrev Inv-loop : tie.InvT-loop
 Inv-loop name serial live fifo limits held ok₀ i₀ ok i =
     Testing 8
-    (queueRight (record { name = name; serial = serial; live = live; fifo = fifo; limits = limits; held = held }))
+    (queueRight (record { name = name; serial = serial; live = live; fifo = fifo; limits = limits; held = held; cells = [] }))
     ok i
 
 abbrev μ-loop : tie.MeasureT-loop
@@ -69,8 +70,8 @@ unfolding queueRight
 loop-again c = testing-more (c .before .before .before .before .before .before .before .before .before .loop .inv) (search needs) (c .queue-right .ensures)
 
 returns : tie.Need-returns Inv-loop μ-loop
-unfolding queuesRight
-returns c = testing-done (c .before .loop .inv) (search needs)
+unfolding queuesRight queueRight
+returns c = λ cells. testing-done (c .before .loop .inv) (search needs)
 
 pub queues-right-spec : {M : Type 1} → statement M
 queues-right-spec =

@@ -1,0 +1,2 @@
+-- What the queue calls share: a message handed to a waiter.
+pub mod Handing
