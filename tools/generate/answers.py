@@ -76,7 +76,11 @@ use mathlib.Core.List.{List}
     for S in [t[1] for t in TABLES] + ['State', 'Waking']:
         o += f'use Rattle.scope.specs.declared.{S}.{{{S}}}\n'
     o += ''.join(table_of(*t) for t in TABLES) + state_of() + wakers() + waking_of()
-    return o + ''.join({l: lent(n, l, segs) for n, l, segs, _ in CHAPTERS}.values())
+    # what the first chapter of a form is lent is all that the form names
+    forms = {}
+    for n, l, segs, _ in CHAPTERS:
+        forms.setdefault(l, lent(n, l, segs))
+    return o + ''.join(forms.values())
 
 
 def files():

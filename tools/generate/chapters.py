@@ -5,7 +5,7 @@ import os
 import re
 
 from lending import lends
-from table import CALLS, CHAPTERS, LAST, NUMS, array, cols, head, home, local, required
+from table import BESIDE, CALLS, CHAPTERS, LAST, LENT, NUMS, SENDS, SHOWS, array, asks, cols, head, home, local, required, table
 
 ROOT = os.path.dirname(os.path.dirname(os.path.dirname(os.path.abspath(__file__))))
 WIDE = 150
@@ -24,7 +24,7 @@ def parameters(crate, fn):
     m = re.search(r'pub fn %s(?:<[^>]*>)?\((.*?)\) ->' % fn, read(f'crates/{crate}/src/lib.rt'), re.S)
     if not m:
         raise SystemExit(f'tools/generate: crates/{crate} has no pub fn {fn}')
-    found = re.findall(r"(\w+): (&(?:'\w+ )?(?:mut )?)?(\[\w+; \d+\]|\w+)", m.group(1))
+    found = re.findall(r"(\w+): (&(?:'\w+ )?(?:mut )?)?(\[\w+(?:; \d+)?\]|\w+)", m.group(1))
     return [(name, 'mut' in how, ty) for name, how, ty in found]
 
 
@@ -33,23 +33,24 @@ def names(param, column, shr):
     return param in (column, local(column, shr), column + 's', column + 'es', column[:-1] + 'ies')
 
 
+# what is blank before a call
+BLANK = {'wakes': 'noWakes', 'shown': 'noMessage'}
+
+
 class Call:
     def __init__(self, name, segs, number):
         self.number, self.crate, self.fn = number, CALLS[name][1], NAMES[str(number)]
-        self.args, self.back, self.numbers, self.wakes, self.runs = [], 0, 0, False, False
-        left = iter(cols(segs))
+        self.args, self.back, self.beside, self.runs = [], 0, [], False
+        left, numbers = iter(cols(segs)), iter(LETTERS)
         for param, mut, ty in parameters(self.crate, self.fn):
-            if ty == 'u32':
-                self.args.append(LETTERS[self.numbers])
-                self.numbers += 1
+            if ty in ('u32', 'usize', 'Asked'):
+                self.args.append({'u32': lambda: 'x.' + next(numbers), 'usize': lambda: 'x.running', 'Asked': lambda: 'x'}[ty]())
+                self.runs |= ty != 'u32'
                 continue
-            if ty == 'usize':
-                self.args.append('running')
-                self.runs = True
-                continue
-            if param == 'wakes':
+            if param in BESIDE:
                 self.args.append(param)
-                self.wakes, self.back = True, self.back + 1
+                self.beside.append(param)
+                self.back += mut
                 continue
             g, c, shr = next(((g, c, shr) for g, c, shr in left if names(param, c, shr) and array(g, c) == ty), (None, None, None))
             if g is None or mut and shr:
@@ -58,7 +59,7 @@ class Call:
             self.back += not shr
 
 
-# a chapter: its calls, and how its functions take what is asked
+# a chapter: its calls, and what they are lent
 class Chapter:
     def __init__(self, name, lent, segs, req):
         self.name, self.lent, self.segs, self.req = name, lent, segs, req
@@ -66,26 +67,37 @@ class Chapter:
         self.columns = [(local(c, shr), shr, array(g, c)) for g, c, shr in cols(segs)]
         self.calls = [Call(name, segs, k) for k in CALLS[name][2]]
         self.one = len(self.calls) == 1
-        self.wakes = any(c.wakes for c in self.calls)
-        self.open = LETTERS[max(c.numbers for c in self.calls):]
-        self.taken = LETTERS[:len(LETTERS) - len(self.open)]
-        self.asked = len(self.columns) + self.wakes + 2 + len(self.taken) > 16
+        self.beside = [b for b in BESIDE if any(b in c.beside for c in self.calls)]
+        # what is blank where not all calls write it
+        self.blank = [b for b in BLANK if b in self.beside and any(b not in c.beside for c in self.calls)]
+        # `_part` has the wake list too: it blanks it
+        self.parts = [b for b in BESIDE if b == 'wakes' or b in self.beside]
+        self.shows, self.sends = name in SHOWS, name in SENDS
         self.last = name == LAST
-        self.some = any(shr for _, shr, _ in self.columns)
+        # all that the form of the promise names: what is not lent is any state's
+        self.form = cols(next(segs for _, form, segs in LENT if form == lent))
 
-    # the state out of what is lent, at entry or at exit
-    def state(self, at):
-        return [f'({self.lent} s'] + [f'(now ({c} .{"entry" if shr else at}))' for c, shr, _ in self.columns] + ['running)']
+    # the state out of the columns; `at` gives a column's
+    def state(self, at, running):
+        mine = {(g, c): at(local(c, shr), shr) for g, c, shr in cols(self.segs)}
+        return [f'({self.lent} s'] + [mine.get((g, c), f'(s .{table(g)[2]} .{c})') for g, c, _ in self.form] + [f'{running})']
 
-    def params(self, wakes):
+    # and of what was lent, at entry or at exit
+    def left(self, at):
+        return self.state(lambda c, shr: f'(now ({c} .{"entry" if shr else at}))', '(x .running)')
+
+    # out of the arguments of a start
+    def whole(self):
+        return ' '.join(self.state(lambda c, shr: f'(now (c .args .{c}))', '(c .args .x .running)'))[1:-1]
+
+    def params(self, beside):
         o = ''.join(f'    {c}: &{"" if shr else "mut "}{ty},\n' for c, shr, ty in self.columns)
-        return o + ('    wakes: &mut [u32; 32],\n' if wakes else '') + '    running: usize,\n'
+        return o + ''.join(f'    {b}: {BESIDE[b]},\n' for b in beside) + '    x: Asked,\n'
 
     def requires(self):
-        call = 'x .call' if self.asked else 'call'
         if self.last:
-            return f'({CALLS[self.name][2][0]} ≤ {call}) × ({call} < knownCalls)'
-        return required(self.name, call)
+            return f'({CALLS[self.name][2][0]} ≤ x .call) × (x .call < knownCalls)'
+        return required(self.name, 'x .call')
 
 
 # ---- the source
@@ -94,9 +106,10 @@ HEAD = '''// What the chapters of the call table share: what is asked of a step,
 ghost use mathlib.Core.Path.{_≡_};
 ghost use Rattle.scope.specs.Step.{callerRefusal};
 
-// What is asked of a step: "call, caller mark, five arguments".
+// What is asked of a step: "call, caller mark, five arguments"; and the slot of who runs then, 32 if nobody.
 pub struct Asked {
-%s}
+%s    pub running: usize,
+}
 
 // 25, 24, 2, in that order, by the call table; 0 where none of them is given.
 pub fn caller_refusal(call: u32, mark: u32, running: usize) -> u32
@@ -134,11 +147,12 @@ use scope::State;
 GHOST = {
     'mathlib.Core.Path': '_≡_',
     'Prim.Native.Nat': 'ℕ _<_ _≤_',
+    'mathlib.Core.List': 'List',
     'Rattle.scope.specs.Calls': 'knownCalls callAt',
     'Rattle.scope.specs.Step': 'answered',
     'Rattle.scope.specs.declared.State': 'State',
-    'Rattle.scope.specs.Answers': 'noWakes',
-    'Rattle.answers.specs.Outcomes': 'answerOf',
+    'Rattle.scope.specs.Answers': 'noWakes noMessage',
+    'Rattle.answers.specs.Outcomes': 'answerOf answerShown',
 }
 
 
@@ -152,8 +166,14 @@ def filled(words, indent):
     return '\n'.join(lines)
 
 
-def promise(before, wakes, after):
-    return filled(['ensures { λ r. ⌜ (' + before[0]] + before[1:] + [wakes, 'r'] + after + ['⌝ }'], ' ' * 4)
+# what a chapter's function promises: the answer by what it leaves is what `does` says of what it was lent
+def promise(ch, wakes, does, given):
+    before, after = ch.left('exit'), ch.left('entry')
+    before[0] = f'ensures {{ λ r. ⌜ ({"(s : State)" if ch.sends else "(s : State) (m : List ℕ)"} → {"answerShown" if ch.shows else "answerOf"} {before[0]}'
+    before += [wakes] + ['(now (shown .exit))'] * ch.shows + ['r']
+    after[0] = f'≡ {does} {after[0]}'
+    after += [f'(x .{a})' for a in given] + ['(now (message .entry)))' if ch.sends else 'm)', '⌝ }']
+    return filled(before + after, ' ' * 4)
 
 
 def called(path, args, indent):
@@ -163,45 +183,31 @@ def called(path, args, indent):
     return f'{path}(\n' + ''.join(f'{indent}    {a},\n' for a in args) + f'{indent})'
 
 
+# the columns that are the tasks', in words
+def tasks(ch):
+    lent = [c for c, shr, _ in ch.columns if shr]
+    return f"; {', '.join(lent[:-1])} and {lent[-1]} are the tasks'" if len(lent) > 1 else f"; {lent[0]} is the tasks'" if lent else ''
+
+
 def call_source(ch):
-    call, mark = ('x .call', '(x .call)') if ch.asked else ('call', 'call')
-    given = [f'(x .{a})' if ch.asked else a for a in ch.taken] + ch.open
-    told = '(s : State) ' + (f'({" ".join(ch.open)} : ℕ) ' if ch.open else '') + '→ answerOf'
-    before = ch.state('exit')
-    before[0] = f'{told} {before[0]}'
-    after = ch.state('entry')
-    after[0] = f'≡ callAt {mark} .does {after[0]}'
-    after.append(' '.join(given) + ')')
-    o = f"\n// The {CALLS[ch.name][0]}s{TASKS if ch.some else ''}.\nfn {ch.name}_call(\n{ch.params(ch.wakes)}"
-    o += '    x: Asked,\n' if ch.asked else ''.join(f'    {x}: u32,\n' for x in ['call'] + ch.taken)
-    o += f') -> Outcome\n    requires {{ ⌜ {ch.requires()} ⌝ }}\n'
-    if ch.wakes:
-        o += '    requires { ⌜ now wakes ≡ noWakes ⌝ }\n'
-    o += promise(before, '(now (wakes .exit))' if ch.wakes else 'noWakes', after)
-    o += '\n{\n' + ('    let call = x.call;\n' if ch.asked else '') + '    match call {\n'
+    o = f"\n// The {CALLS[ch.name][0]}s{tasks(ch)}.\nfn {ch.name}_call(\n{ch.params(ch.beside)}) -> Outcome\n"
+    o += f'    requires {{ ⌜ {ch.requires()} ⌝ }}\n'
+    o += ''.join(f'    requires {{ ⌜ now {b} ≡ {BLANK[b]} ⌝ }}\n' for b in ch.blank)
+    o += promise(ch, '(now (wakes .exit))' if 'wakes' in ch.beside else 'noWakes', 'callAt (x .call) .does', LETTERS)
+    o += '\n{\n    let call = x.call;\n    match call {\n'
     for c in ch.calls:
-        args = [f'x.{a}' if ch.asked and a in LETTERS else a for a in c.args]
-        o += f'        {"_" if c is ch.calls[-1] else c.number} => ' + called(f'{c.crate}::{c.fn}', args, ' ' * 8) + ',\n'
+        o += f'        {"_" if c is ch.calls[-1] else c.number} => ' + called(f'{c.crate}::{c.fn}', c.args, ' ' * 8) + ',\n'
     return o + '    }\n}\n'
 
 
-TASKS = "; waker, suspended and priority are the tasks'"
-
-
 def part_source(ch):
-    before = ch.state('exit')
-    before[0] = '(s : State) → answerOf ' + before[0]
-    after = ch.state('entry')
-    after[0] = '≡ answered ' + after[0]
-    after.append(' '.join(f'(x .{x})' for x in NUMS) + ')')
-    o = f"\n// {head(ch.name)}{TASKS if ch.some else ''}.\nfn {ch.name}_part(\n{ch.params(True)}    x: Asked,\n) -> Outcome\n"
-    o += f'    requires {{ ⌜ {required(ch.name, "x .call")} ⌝ }}\n' + promise(before, '(now (wakes .exit))', after)
-    o += '\n{\n    *wakes = [0; 32];\n    let refusal = chapters::caller_refusal(x.call, x.mark, running);\n    if refusal != scope::OK {\n        return answers::plain(refusal, running);\n    }\n'
+    o = f"\n// {head(ch.name)}{tasks(ch)}.\nfn {ch.name}_part(\n{ch.params(ch.parts)}) -> Outcome\n"
+    o += f'    requires {{ ⌜ {asks(ch.name, "x .call")} ⌝ }}\n' + promise(ch, '(now (wakes .exit))', 'answered', NUMS)
+    o += '\n{\n    *wakes = [0; 32];\n    let refusal = chapters::caller_refusal(x.call, x.mark, x.running);\n    if refusal != scope::OK {\n        return answers::plain(refusal, x.running);\n    }\n'
     if ch.one:
         c = ch.calls[0]
-        return o + '    ' + called(f'{c.crate}::{c.fn}', [f'x.{a}' if a in LETTERS else a for a in c.args], ' ' * 4) + '\n}\n'
-    args = [c for c, _, _ in ch.columns] + ['wakes'] * ch.wakes + ['running'] + (['x'] if ch.asked else ['x.call'] + [f'x.{a}' for a in ch.taken])
-    return o + '    ' + called(f'{ch.name}_call', args, ' ' * 4) + '\n}\n'
+        return o + '    ' + called(f'{c.crate}::{c.fn}', c.args, ' ' * 4) + '\n}\n'
+    return o + '    ' + called(f'{ch.name}_call', [c for c, _, _ in ch.columns] + ch.beside + ['x'], ' ' * 4) + '\n}\n'
 
 
 def source(ch):
@@ -225,7 +231,6 @@ def back(n):
 def call_proof(ch):
     name, calls = ch.name, ch.calls
     kebab = [c.fn.replace('_', '-') for c in calls]
-    bound = 'λ s' + ''.join(f' {"x" if a == "c" else a}' for a in ch.open) + '. '
     first = CALLS[name][2][0]
     needs, returns, wanted = '', '', []
     for k in kebab:
@@ -233,9 +238,11 @@ def call_proof(ch):
         wanted.append(f'{k}-requires')
     for i, (c, k) in enumerate(zip(calls, kebab)):
         far = c.back + 1
-        got = f'c .{k} .ensures (whole ({back(far + 1)}) s)'
-        if ch.wakes and not c.wakes:
-            got = f'none-woken _ _ ({back(far + 1)} .pre .1) ({got})'
+        start = back(far + 1 + ch.sends)
+        got = f'c .{k} .ensures (whole ({start}) s)'
+        for b, law in (('wakes', 'none-woken _ _'), ('shown', 'none-shown _ _ _')):
+            if b in ch.blank and b not in c.beside:
+                got = f'{law} ({start} .pre .{1 + ch.blank.index(b)}) ({got})'
         title = 'returns' + (f'-{i + 1}' if i else '')
         wanted.append(title)
         if c is not calls[-1]:
@@ -244,16 +251,15 @@ def call_proof(ch):
             above = '(omega arith)'
             for j in range(i):
                 above = f'(past {first + j} _ {above} ({back(far)} .match .rest{" .0" * (i - 1 - j)} .1))'
-            x = ' .x' if ch.asked else ''
-            said = f'let h : {back(far + 1)} .args{x} .call ≡ {c.number} = only {c.number} _ {above} (omega arith) in rw h ({got})'
-        returns += f'\n{title} : tie.Need-{title}\n{title} c = {bound}{said}\n'
+            said = f'let h : {start} .args .x .call ≡ {c.number} = only {c.number} _ {above} (omega arith) in rw h ({got})'
+        returns += f'\n{title} : tie.Need-{title}\n{title} c = λ s{"" if ch.sends else " m"}. {said}\n'
     return f'''-- `{ch.crate}::{name}_call`: each call of the chapter by its number; the last is what is left when it is none of those before.
 -- Assumes nothing. Printed by tools/generate/run.
 use native.Mathlib.Omega.{{arith}}
 use mathlib.Core.Path.{{_≡_}}
 use borrow.Author.Needs.{{needs}}
 use denote.Ref.{{now}}
-use Rattle.answers.proofs.Outcomes.{{none-woken}}
+use Rattle.answers.proofs.Outcomes.{{none-woken, none-shown}}
 use Rattle.answers.specs.Columns.{{{ch.lent}}}
 use Rattle.chapters.proofs.Laws.{{past, only}}
 use Rattle.{ch.crate}.proofs.{name}_call.Statement.{{statement}}
@@ -262,7 +268,7 @@ use Rattle.scope.specs.declared.State.{{State}}
 
 -- the state before, out of all the columns lent
 abbrev whole : tie.Start → State → State
-whole c s = {ch.lent} s {' '.join(f'(now (c .args .{x}))' for x, _, _ in ch.columns)} (c .args .running)
+whole c s = {ch.whole()}
 {needs}{returns}
 pub {name}-call-spec : {{M : Type 1}} → statement M
 {name}-call-spec =
@@ -274,25 +280,29 @@ pub {name}-call-spec : {{M : Type 1}} → statement M
 
 def part_proof(ch):
     name = ch.name
-    far = sum(not shr for _, shr, _ in ch.columns) + ch.wakes + 4
+    far = sum(not shr for _, shr, _ in ch.columns) + sum(b in BLANK for b in ch.beside) + 4
     callee = ch.calls[0].fn.replace('_', '-') if ch.one else f'{name}-call'
-    start = back(far)
-    asked = lambda at: ' '.join(f'({at} .args .x .{x})' for x in NUMS)
+    # a slice lent is one step more at the start
+    first, start = back(4 + ch.sends), back(far + ch.sends)
+    bound, m = ('s', lambda at: f'(now ({at} .args .message))') if ch.sends else ('s m', lambda at: 'm')
+    asked = lambda at: ' '.join([f'({at} .args .x .{x})' for x in NUMS] + ['_', m(at)])
+    got = f'c .{callee} .ensures (whole s ({start}))' + ('' if ch.sends else ' m')
     if ch.one:
-        got = f'rw ({start} .pre) (c .{callee} .ensures (whole s ({start}))' + ('' if ch.calls[0].runs else f' ({start} .args .running)') + ')'
-    else:
-        got = f'c .{callee} .ensures (whole s ({start}))' + ''.join(f' ({start} .args .x .{x})' for x in ch.open)
-    meets = 'search needs'
+        got = f'rw ({start} .pre) (c .{callee} .ensures (whole s ({start}))' + ('' if ch.calls[0].runs else f' ({start} .args .x .running)') + ')'
+    refused = 'plain-of _ _ _ _ (c .plain .ensures)'
+    if ch.shows:
+        refused = f'none-shown _ _ _ ({first} .pre .1) ({refused})'
+    meets = ['search needs']
     if ch.last:
-        meets = f'(search needs, known-call _ _ _ (sym ({back(far - 3)} .caller-refusal .ensures) ∙ {back(far - 4)} .if1 .left))'
-    if ch.wakes and not ch.one:
-        meets = f'({meets}, refl)'
+        meets = [f'(search needs, known-call _ _ _ (sym ({back(far - 3)} .caller-refusal .ensures) ∙ {back(far - 4)} .if1 .left))']
+    if not ch.one:
+        meets += [{'wakes': 'refl', 'shown': f'{back(far - 1)} .pre .1'}[b] for b in ch.blank]
     return f'''-- `{ch.crate}::{name}_part`: the caller's test first, then the call.
 -- Assumes nothing. Printed by tools/generate/run.
 use mathlib.Core.Path.{{refl{', sym, _∙_' if ch.last else ''}}}
 use borrow.Author.Needs.{{needs}}
 use denote.Ref.{{now}}
-use Rattle.answers.proofs.Outcomes.{{plain-of}}
+use Rattle.answers.proofs.Outcomes.{{plain-of, none-shown}}
 use Rattle.answers.specs.Columns.{{{ch.lent}}}
 use Rattle.chapters.proofs.Laws.{{answered-refused, answered-does, known-call}}
 use Rattle.{ch.crate}.proofs.{name}_part.Statement.{{statement}}
@@ -301,7 +311,7 @@ use Rattle.scope.specs.declared.State.{{State}}
 
 -- the state before, out of the columns lent and a state's
 abbrev whole : State → tie.Start → State
-whole s c = {ch.lent} s {' '.join(f'(now (c .args .{x}))' for x, _, _ in ch.columns)} (c .args .running)
+whole s c = {ch.whole()}
 
 caller-refusal-requires : tie.Need-caller-refusal-requires
 caller-refusal-requires c κs = search needs
@@ -310,13 +320,13 @@ plain-requires : tie.Need-plain-requires
 plain-requires c κs = search needs
 
 returns : tie.Need-returns
-returns c = λ s. answered-refused (whole s ({back(4)})) {asked(back(4))} _ ({back(2)} .caller-refusal .ensures) ({back(1)} .if1 .taken) (plain-of _ _ _ _ (c .plain .ensures))
+returns c = λ {bound}. answered-refused (whole s ({first})) {asked(first)} ({back(2)} .caller-refusal .ensures) ({back(1)} .if1 .taken) ({refused})
 
 {callee}-requires : tie.Need-{callee}-requires
-{callee}-requires c κs = {meets}
+{callee}-requires c κs = {meets[0] if len(meets) == 1 else '(' + ', '.join(meets) + ')'}
 
 returns-2 : tie.Need-returns-2
-returns-2 c = λ s. answered-does (whole s ({start})) {asked(start)} _ ({back(far - 2)} .caller-refusal .ensures) ({back(far - 3)} .if1 .left) ({got})
+returns-2 c = λ {bound}. answered-does (whole s ({start})) {asked(start)} ({back(far - 2)} .caller-refusal .ensures) ({back(far - 3)} .if1 .left) ({got})
 
 pub {name}-part-spec : {{M : Type 1}} → statement M
 {name}-part-spec = tie.close (tie.spec caller-refusal-requires plain-requires returns {callee}-requires returns-2)

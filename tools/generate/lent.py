@@ -103,6 +103,40 @@ isNulls : IsW nulls
 isNulls = (''' + ' ∷ '.join(['vint w32 0'] * 32) + ''' ∷ [], ((refl, refl), ''' + chain(['(refl, lit< tt)'] * 32) + '''))
 
 '''
+# a message as a local, and the one of zeros
+MESSAGE = '''abbrev Bytes : RattleType
+Bytes = Array u8 64
+
+abbrev mval : List ℕ → Val
+mval ws = only (array-vals (uint-vals w8) ws)
+
+abbrev IsV : List ℕ → Type 0
+IsV ws = Is Bytes ws (mval ws ∷ [])
+
+mtells : Tells Bytes (Is Bytes) (λ ws. mval ws ∷ [])
+mtells = array-tells u8 (uint-vals w8) (uint-tells w8) 64
+
+module _ {M : Type 1} (𝓤 : URA M) (H : Heap 𝓤) (A : Atoms 𝓤) (W : Given 𝓤 H A) where
+  mmakes : Makes 𝓤 H A Bytes (Is Bytes)
+  mmakes = array-makes 𝓤 H A W u8 (uint-makes 𝓤 H A W w8) 64
+
+  mlawful : Lawful 𝓤 H A Bytes
+  mlawful = array-lawful 𝓤 H A W u8 (uint-lawful 𝓤 H A W w8) 64
+
+abbrev mTy : Ty
+mTy = tyArray (tyInt w8) 64
+
+abbrev blanks : List ℕ
+blanks = ''' + ' ∷ '.join(['0'] * 64) + ''' ∷ []
+
+isBlanks : IsV blanks
+isBlanks = (''' + ' ∷ '.join(['vint w8 0'] * 64) + ''' ∷ [], ((refl, refl), ''' + chain(['(refl, lit< tt)'] * 64) + '''))
+
+-- it has room
+room-of : (n k : ℕ) → k ≡ n → Room u8 n → Room u8 k
+room-of n k e = subst (λ (i : ℕ). Room u8 i) (sym e)
+
+'''
 # the test of a `while`
 TESTS = '''true-is : (y : Bool) → T y → y ≡ true
 true-is true z = refl

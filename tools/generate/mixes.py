@@ -1,21 +1,22 @@
 # Prints the walks of mixes::play and mixes_checked::play: a loop that makes `&mut` of a local state. It names no column.
 from table import NUMS
+from lent import MESSAGE
 from walk import Walk, chain, path, runner_ghost, runner_walk
 
 PERFORM = ('mixes', 'perform', '''use Rattle.scope.specs.Step.{answered}
-use Rattle.answers.specs.Outcomes.{answerOf}
-''', '(answerOf (z .0) (z .1 .0) r ≡ answered d {xs}) × (z .0 .running ≡ r .runs)')
+use Rattle.answers.specs.Outcomes.{answerShown}
+''', '(answerShown (z .0) (z .1 .0) (z .1 .1 .0) r ≡ answered d {xs} ys) × (z .0 .running ≡ r .runs)')
 STEP = ('mixes_checked', 'step', '''use Rattle.kernel.specs.Steps.{Steps}
-''', 'Steps d {xs} (z .0) (z .1 .0) r')
+''', 'Steps d {xs} ys (z .0) (z .1 .0) (z .1 .1 .0) r')
 
 
 def walk(CRATE, STEPS, USES, SAID):
-    N = 18
+    N = 20
     W = Walk(); w = W.w
     LS = ' '.join(f'l{i}' for i in range(N))
-    TY = {0: 'plTy', 1: 'sl0', 2: 'word', 3: 'word', 4: 'plTy', 5: 'stTy', 6: 'wTy', 7: 'num', 8: 'word', 9: 'rcTy', 10: 'oTy', 11: 'tyBool', 12: 'refS', 13: 'refW', 14: 'num', 15: 'refS', 16: 'refI', 17: 'stTy'}
-    order = [5, 6, 7, 8] + list(range(9, 18)) + [4, 3, 2, 1, 0]
-    VAL = {5: 'val d', 6: 'wval ws', 7: 'vint w32 m', 8: 'vint w64 t', 4: 'pval p', 3: 'vint w64 to', 2: 'vint w64 from₀', 1: 'sliceVal (b, o) (length ys)'}
+    TY = dict(enumerate('plTy sl0 word word plTy stTy wTy mTy num word rcTy oTy tyBool refS refW refV num refS refI stTy'.split()))
+    order = [5, 6, 7, 8, 9] + list(range(10, N)) + [4, 3, 2, 1, 0]
+    VAL = {5: 'val d', 6: 'wval ws', 7: 'mval sh', 8: 'vint w32 m', 9: 'vint w64 t', 4: 'pval p', 3: 'vint w64 to', 2: 'vint w64 from₀', 1: 'sliceVal (b, o) (length ys)'}
     def cell(i): return f'‵ (fat fullShare {TY[i]} l{i} 0 ({VAL[i]}))' if i in VAL else f'‵ (froom {TY[i]} l{i} 0)'
     units = lambda k: ''.join('Unit {0} × (' for _ in range(k)) + 'Unit {0}' + ')' * k
     trues = lambda k: ''.join('fsep ftrue (' for _ in range(k)) + 'ftrue' + ')' * k
@@ -27,7 +28,7 @@ use Rattle.{crate}.proofs.{f}.Met as {nm}-thm
     CALL = [('rd', 'mixing', 'record_at'), ('pf', 'kernel', STEPS), ('ru', 'lending', 'runner'), ('su', 'mixing', 'summed')]
     w(f'''-- `{CRATE}::play` meets its contract, which is that it is safe and ends: a walk of its MIR. The state is a local that is lent to each step as one thing.
 -- Assumes nothing. Printed by tools/generate/run.
-''' + '''use mathlib.Core.Path.{_≡_, refl, ap}
+''' + '''use mathlib.Core.Path.{_≡_, refl, sym, ap, subst}
 use Prim.Native.Nat.{ℕ, _<_, _^_, _+_, _-_}
 use native.Mathlib.Omega.{arith}
 use mathlib.Core.Bool.{Bool, not}
@@ -128,7 +129,7 @@ module _ {M : Type 1} (𝓤 : URA M) (H : Heap 𝓤) (A : Atoms 𝓤) (W : Given
   wlawful : Lawful 𝓤 H A Q
   wlawful = array-lawful 𝓤 H A W u32 (uint-lawful 𝓤 H A W w32) 32
 
--- the types of the locals
+''' + MESSAGE + '''-- the types of the locals
 abbrev sTy : Ty
 sTy = pointee (R .written)
 
@@ -165,11 +166,17 @@ refW = tyRef erased mut wTy
 abbrev refI : Ty
 refI = tyRef erased imm wTy
 
+abbrev refV : Ty
+refV = tyRef erased mut mTy
+
 abbrev csS : List Col
 csS = record { row = R; at = 0 } ∷ []
 
 abbrev csW : List Col
 csW = record { row = Q; at = 0 } ∷ []
+
+abbrev csV : List Col
+csV = record { row = Bytes; at = 0 } ∷ []
 
 abbrev stayed : Stays (h.ended .signature .params) (h.ended .kept)
 stayed = (stay-none-slice (0 ∷ []) tt (plain (λ _. u8)) yes, (stay-none (λ _. usize) yes, (stay-none (λ _. usize) yes, (stay-none (λ _. PL.the-row) yes, tt))))
@@ -221,30 +228,31 @@ module _ {M : Type 1} (𝓤 : URA M) (H : Heap 𝓤) (A : Atoms 𝓤) (W : Given
     abbrev En : Env 𝓤 H
     En = {' ∷ '.join(f'({TY[i]}, l{i})' for i in range(N))} ∷ []
 
-    -- before a turn: the state, the wake list, the checksum and the next record
-    abbrev At : State → List ℕ → ℕ → ℕ → List (Item 𝓤)
-    At d ws m t = {' ∷ '.join(cell(i) for i in order)}
+    -- before a turn: the state, the wake list, the message shown, the checksum and the next record
+    abbrev At : State → List ℕ → List ℕ → ℕ → ℕ → List (Item 𝓤)
+    At d ws sh m t = {' ∷ '.join(cell(i) for i in order)}
         ∷ ‵ (flft κ q) ∷ ‵ scr ∷ {' ∷ '.join(f'‵ (fdies {TY[i]} l{i})' for i in range(N))} ∷ []
 
-    record Facts (d : State) (ws : List ℕ) (m t : ℕ) : Type 0 where
+    record Facts (d : State) (ws sh : List ℕ) (m t : ℕ) : Type 0 where
       isS : IsS d
       isW : IsW ws
+      isV : IsV sh
       m-fits : m < 2 ^ 32
       t-fits : t < 2 ^ 64
 
     abbrev Vs : Type 0
-    Vs = State × (List ℕ × (ℕ × ℕ))
+    Vs = State × (List ℕ × (List ℕ × (ℕ × ℕ)))
 
     abbrev Inv : ℕ → SProp 𝓤
-    Inv u = ex 𝓤 (λ (v : Vs). guard 𝓤 ((to - v .1 .1 .1 ≡ u) × Facts (v .0) (v .1 .0) (v .1 .1 .0) (v .1 .1 .1)) (⋆ 𝓤 H A (At (v .0) (v .1 .0) (v .1 .1 .0) (v .1 .1 .1))))
+    Inv u = ex 𝓤 (λ (v : Vs). guard 𝓤 ((to - v .1 .1 .1 .1 ≡ u) × Facts (v .0) (v .1 .0) (v .1 .1 .0) (v .1 .1 .1 .0) (v .1 .1 .1 .1)) (⋆ 𝓤 H A (At (v .0) (v .1 .0) (v .1 .1 .0) (v .1 .1 .1 .0) (v .1 .1 .1 .1))))
 
     abbrev Below : ℕ → SProp 𝓤
     Below u = ex 𝓤 (λ (u′ : ℕ). guard 𝓤 (u′ < u) (Inv u′))
 
     abbrev Left : Out → SProp 𝓤
-    Left = afterBlock 𝓤 H (afterSeq 𝓤 H (Wp 𝓤 H C Λ En code.Mir.t-6 (atReturn 𝓤 H En Post)) (atReturn 𝓤 H En Post))
+    Left = afterBlock 𝓤 H (afterSeq 𝓤 H (Wp 𝓤 H C Λ En code.Mir.t-7 (atReturn 𝓤 H En Post)) (atReturn 𝓤 H En Post))
 
-    module _ (d : State) (ws : List ℕ) (m t : ℕ) (f : Facts d ws m t) where
+    module _ (d : State) (ws sh : List ℕ) (m t : ℕ) (f : Facts d ws sh m t) where
       abbrev to-rd : Grd 𝓤 H A at-mem run .Ghost
       to-rd = (((κ, tt), (q, tt), tt, (sc, (t, tt)), (sliceVal (b, o) (length ys) ∷ [], (vint w64 t ∷ [], tt))), tt)
 
@@ -256,30 +264,48 @@ module _ {M : Type 1} (𝓤 : URA M) (H : Heap 𝓤) (A : Atoms 𝓤) (W : Given
         T0 = owns (u32 ∷ u32 ∷ u32 ∷ u32 ∷ u32 ∷ u32 ∷ u32 ∷ []) {sevenv} {sevenw}
 
         abbrev L0 : Fml
-        L0 = {trues(7)}
+        L0 = {trues(8)}
 
         abbrev Z : Type 0
-        Z = State × (List ℕ × ({units(7)}))
+        Z = State × (List ℕ × (List ℕ × ({units(8)})))
 
         abbrev Said : Z → Outcome → Type 0
         Said z r = {said}
 
-        module _ (kW : Keys csW) where
-          abbrev P1 : Fml
-          P1 = tokens csW kW ftrue
+        -- the mix's own bytes are the message lent, as long as the mix is; then what is shown
+        abbrev P0 : Fml
+        P0 = fsep (flft κ q) ftrue
 
-          abbrev T1 : Fml
-          T1 = refs l6 csW (ws, tt) kW T0
+        abbrev T1 : Fml
+        T1 = fsep scr T0
+
+        module _ (kV : Keys csV) where
+          abbrev P1 : Fml
+          P1 = tokens csV kV P0
+
+          abbrev T2 : Fml
+          T2 = refs l7 csV (sh, tt) kV T1
 
           abbrev L1 : List ℕ → Fml
-          L1 xs = lasts csW (xs, tt) kW L0
+          L1 vs = lasts csV (vs, tt) kV L0
 
-          module _ (kS : Keys csS) where
-            abbrev to-pf : Gpf 𝓤 H A at-mem run .Ghost
-            to-pf = (((kS .0 .0 ∷ [], (kW .0 .0 ∷ [], tt)), (fullShare, (fullShare, tt)), tt, (record {{ ptr = (l5, 0); name = kS .0 .1; now = d }}, (record {{ ptr = (l6, 0); name = kW .0 .1; now = ws }}, {sevenv})), (vptr l5 0 ∷ [], (vptr l6 0 ∷ [], {sevenw}))), tt)
+          -- then the wake list, and the state
+          module _ (kW : Keys csW) where
+            abbrev P2 : Fml
+            P2 = tokens csW kW P1
 
-            goes : ent 𝓤 (sep 𝓤 (sem 𝓤 H A (tokens csS kS P1)) (sem 𝓤 H A (refs l5 csS (d, tt) kS T1))) (Gpf 𝓤 H A at-mem run .pre to-pf)
-            goes = qed W (‵ (tokens csS kS P1) ∷ ‵ (refs l5 csS (d, tt) kS T1) ∷ []) ∵ join ! $ frame ! $ done !
+            abbrev T3 : Fml
+            T3 = refs l6 csW (ws, tt) kW T2
+
+            abbrev L2 : List ℕ → List ℕ → Fml
+            L2 xs vs = lasts csW (xs, tt) kW (L1 vs)
+
+            module _ (kS : Keys csS) where
+              abbrev to-pf : Gpf 𝓤 H A at-mem run .Ghost
+              to-pf = (((kS .0 .0 ∷ [], (kW .0 .0 ∷ [], (kV .0 .0 ∷ [], (κ, tt)))), (fullShare, (fullShare, (fullShare, (q, tt)))), tt, (record {{ ptr = (l5, 0); name = kS .0 .1; now = d }}, (record {{ ptr = (l6, 0); name = kW .0 .1; now = ws }}, (record {{ ptr = (l7, 0); name = kV .0 .1; now = sh }}, (sc, {sevenv})))), (vptr l5 0 ∷ [], (vptr l6 0 ∷ [], (vptr l7 0 ∷ [], (sliceVal (b, o) (length ys) ∷ [], {sevenw}))))), tt)
+
+              goes : ent 𝓤 (sep 𝓤 (sem 𝓤 H A (tokens csS kS P2)) (sem 𝓤 H A (refs l5 csS (d, tt) kS T3))) (Gpf 𝓤 H A at-mem run .pre to-pf)
+              goes = qed W (‵ (tokens csS kS P2) ∷ ‵ (refs l5 csS (d, tt) kS T3) ∷ []) ∵ join ! $ frame ! $ done !
 
 {runner_ghost(5)}
       -- the checksum: the outcome r, who runs, the wake list xs
@@ -307,52 +333,64 @@ module _ {M : Type 1} (𝓤 : URA M) (H : Heap 𝓤) (A : Atoms 𝓤) (W : Given
     ldf = lambda i, k: f'(load ! (from ! (fld ! refl (stop !))) (look-in ! {L(i)} (sub ! {k} refl (whole !))))'
     def ands(xs): return '(' + ' ('.join(f'and-then ! {x}' for x in xs) + ' (no-more !)' + ')' * len(xs)
     W.ctx = list(st)
-    w(f'''      turn : (X : SProp 𝓤) → ((e : State) (xs : List ℕ) (su : ℕ) → t < to → Facts e xs su (t + 1) → ent 𝓤 (⋆ 𝓤 H A (At e xs su (t + 1))) X) → ent 𝓤 (⋆ 𝓤 H A (At d ws m t)) (Wp 𝓤 H C Λ En code.Mir.turn-1 (afterTurn 𝓤 H X Left))
+    w(f'''      turn : (X : SProp 𝓤) → ((e : State) (xs vs : List ℕ) (su : ℕ) → t < to → Facts e xs vs su (t + 1) → ent 𝓤 (⋆ 𝓤 H A (At e xs vs su (t + 1))) X) → ent 𝓤 (⋆ 𝓤 H A (At d ws sh m t)) (Wp 𝓤 H C Λ En code.Mir.turn-1 (afterTurn 𝓤 H X Left))
       unfolding afterTurn
       turn X next =
-          qed W (At d ws m t) ∵ exec ! C Λ En code.Mir.turn-1 (anyQ (afterTurn 𝓤 H X Left)) $
-          assigns ! (bin ! {ld(8)} {ld(3)} tt) (from ! (stop !)) (init ! {L(11)} refl (tt, tt)) $
-          tests ! {ld(11)} (λ go-on. let more : t < to = ltb→lt t to go-on in
+          qed W (At d ws sh m t) ∵ exec ! C Λ En code.Mir.turn-1 (anyQ (afterTurn 𝓤 H X Left)) $
+          assigns ! (bin ! {ld(9)} {ld(3)} tt) (from ! (stop !)) (init ! {L(12)} refl (tt, tt)) $
+          tests ! {ld(12)} (λ go-on. let more : t < to = ltb→lt t to go-on in
 ''')
     save = list(W.ctx)
     # the record
-    w('          '); W.move('scr'); w('use1 W (‵ scr ⊛ ‵ scr) (shr-slice-copy 𝓤 H A W (named 0) κ u8 .twice sc (sliceVal (b, o) (length ys) ∷ [])) $ split ! $ '); W.head(1, 'scr', 'scr2')
+    def copies(): W.move('scr'); w('use1 W (‵ scr ⊛ ‵ scr) (shr-slice-copy 𝓤 H A W (named 0) κ u8 .twice sc (sliceVal (b, o) (length ys) ∷ [])) $ split ! $ '); W.head(1, 'scr', 'scr2')
+    w('          '); copies()
     w('nothing ! $ owned ! usize (Is usize) (uint-makes 𝓤 H A W w64) t _ (refl, f .t-fits) $ fjoin ! $ '); W.ctx.insert(0, 'ow')
     W.join('scr2', 'ow', 'ow'); w('nothing ! $ '); W.ctx.insert(0, 'tt'); W.join('tk', 'tt', 'al'); W.move('al', 'ow')
     w('''
           use2 W (raw (Grd 𝓤 H A at-mem run .pre to-rd)) (qed W (‵ (fsep (flft κ q) ftrue) ∷ ‵ (fsep scr (fsep (usize .own t (vint w64 t ∷ [])) ftrue)) ∷ []) ∵ join ! $ frame ! $ done !) $
 '''); W.head(2, 'pre')
-    w(f'''          calls-at ! fm (Grd 𝓤 H A at-mem run) known-rd to-rd {ands([ld(1), ld(8)])} (λ v₂.
+    w(f'''          calls-at ! fm (Grd 𝓤 H A at-mem run) known-rd to-rd {ands([ld(1), ld(9)])} (λ v₂.
           use1 W (later (some (λ (rec : Record). (‵ (fsep (flft κ q) ftrue) ⊛ ‵ (RC.the-row .own rec (v₂ ∷ []))) ⊛ raw (ensured 𝓤 H A rd.ended (rd.clauses 𝓤 H A at-mem run) (κ, tt) (sc, (t, tt)) tt rec)))) (id⊢ 𝓤 _) $ await ! tt $ pick ! (λ rec.
           split ! $ move ! (1 ∷ []) $ drop ! $
           split ! $ fsplit ! $ move ! (1 ∷ []) $ drop ! $ move ! (1 ∷ []) $ peeks ! RC.the-row (Is RC.the-row) (shows 𝓤 H A RC.the-row) rec (v₂ ∷ []) (λ isR.
 '''); W.head(1, 'own', 'tk'); close2 = 3
     recfit = lambda i: '(LL.owed RC.the-type RC′.the-laws rec _ isR ' + path(i) + ' .1)'
-    w(f'''          land ! (from ! (stop !)) (init ! {L(9)} refl (LL.lawful RC.the-type RC′.the-laws 𝓤 H A W .typed rec _ isR .0)) $ rewrite ! {L(9)} (λ (u : Val). ‵ (fat fullShare RC′.mir l9 0 u)) (ap only (LL.tells RC.the-type RC′.the-laws rec _ isR)) refl $ drop ! $
+    w(f'''          land ! (from ! (stop !)) (init ! {L(10)} refl (LL.lawful RC.the-type RC′.the-laws 𝓤 H A W .typed rec _ isR .0)) $ rewrite ! {L(10)} (λ (u : Val). ‵ (fat fullShare RC′.mir l10 0 u)) (ap only (LL.tells RC.the-type RC′.the-laws rec _ isR)) refl $ drop ! $
 '''); W.ctx.pop(0)
-    w(f'          assigns ! (addr ! (from ! (stop !))) (from ! (stop !)) (init ! {L(12)} refl (tt, tt)) $ assigns ! (addr ! (from ! (stop !))) (from ! (stop !)) (init ! {L(13)} refl (tt, tt)) $\n          ')
-    W.move('l6'); w('use1 W (‵ (mem Q .lies ws l6 0)) (array-in u32 32 wval wtells 𝓤 H A W (wmakes 𝓤 H A W) l6 0 ws (f .isW)) $ nothing ! $ move ! (1 ∷ 0 ∷ []) $ fjoin ! $ '); W.head(1, 'lie')
+    # the step: the mix, the place of the message shown, the wake list and the state are lent
+    w('          ' + ''.join(f'assigns ! (addr ! (from ! (stop !))) (from ! (stop !)) (init ! {L(i)} refl (tt, tt)) $ ' for i in (13, 14, 15)) + '\n          ')
     w('nothing ! $ ' + ''.join(f'owned ! u32 (Is u32) (uint-makes 𝓤 H A W w32) (rec .{NUMS[i]}) _ (refl, {recfit(i)}) $ fjoin ! $ ' for i in reversed(range(7)))); W.ctx.insert(0, 'T')
-    w('nothing ! $ '); W.ctx.insert(0, 'P'); W.move('lie', 'P', 'T')
-    w('\n          use3 W (later (some (λ (k : Keys csW). ‵ (tokens csW k ftrue) ⊛ ‵ (refs l6 csW (ws, tt) k (T0 rec)) ⊛ ‵ (kept l6 csW k)))) (lends l6 𝓤 H A W ftrue (T0 rec) csW (ws, tt)) $ await ! tt $ pick ! (λ kW. split3 ! $ '); W.head(3, 'P', 'T', 'keptW'); close2 += 1
-    W.move('l5'); w('use1 W (‵ (mem R .lies d l5 0)) (local-in S.the-type S′.the-laws S′.the-plain 𝓤 H A W l5 0 d (f .isS)) $ nothing ! $ move ! (1 ∷ 0 ∷ []) $ fjoin ! $ '); W.head(1, 'lie'); W.move('lie', 'P', 'T')
-    w('\n          use3 W (later (some (λ (k : Keys csS). ‵ (tokens csS k (P1 rec kW)) ⊛ ‵ (refs l5 csS (d, tt) k (T1 rec kW)) ⊛ ‵ (kept l5 csS k)))) (lends l5 𝓤 H A W (P1 rec kW) (T1 rec kW) csS (d, tt)) $ await ! tt $ pick ! (λ kS. split3 ! $\n'); W.head(3, 'P', 'T', 'keptS'); close2 += 1
-    w('          use2 W (raw (Gpf 𝓤 H A at-mem run .pre (to-pf rec kW kS))) (goes rec kW kS) $\n'); W.head(2, 'pre')
-    w(f'''          calls-at ! fm (Gpf 𝓤 H A at-mem run) known-pf (to-pf rec kW kS) {ands([ld(12), ld(13)] + [ldf(9, i) for i in range(7)])} (λ v₃.
-          use1 W (later (some (λ (r : Outcome). (‵ (tokens csS kS (P1 rec kW)) ⊛ ‵ (O.the-row .own r (v₃ ∷ []))) ⊛ raw (ensured 𝓤 H A pf.ended (pf.clauses 𝓤 H A at-mem run) (to-pf rec kW kS .0 .0) (to-pf rec kW kS .0 .3) tt r)))) (id⊢ 𝓤 _) $ await ! tt $ pick ! (λ r.
-          split ! $ move ! (1 ∷ []) $ use1 W (some (λ (z : Z rec). ‵ (lasts csS (z .0, tt) kS (L1 rec kW (z .1 .0))) ⊛ raw (fact 𝓤 (Said rec z r)))) (id⊢ 𝓤 _) $ pick ! (λ z.
+    copies(); W.join('scr2', 'T', 'T'); w('nothing ! $ '); W.ctx.insert(0, 'tt'); W.join('tk', 'tt', 'P')
+    def lend(l, cs, xs, key, P, T, kept, lies):
+        W.move(l); w(f'use1 W (‵ {lies[0]}) {lies[1]} $ nothing ! $ move ! (1 ∷ 0 ∷ []) $ fjoin ! $ '); W.head(1, 'lie'); W.move('lie', 'P', 'T')
+        w(f'\n          use3 W (later (some (λ (k : Keys {cs}). ‵ (tokens {cs} k ({P})) ⊛ ‵ (refs {l} {cs} ({xs}, tt) k ({T})) ⊛ ‵ (kept {l} {cs} k)))) (lends {l} 𝓤 H A W ({P}) ({T}) {cs} ({xs}, tt)) $ await ! tt $ pick ! (λ {key}. split3 ! $\n          '); W.head(3, 'P', 'T', kept)
+        return 1
+    mg, mv = 'rec kV', 'rec kV kW'
+    close2 += lend('l7', 'csV', 'sh', 'kV', 'P0 rec', 'T1 rec', 'keptV', ('(mem Bytes .lies sh l7 0)', '(array-in u8 64 mval mtells 𝓤 H A W (mmakes 𝓤 H A W) l7 0 sh (f .isV))'))
+    close2 += lend('l6', 'csW', 'ws', 'kW', f'P1 {mg}', f'T2 {mg}', 'keptW', ('(mem Q .lies ws l6 0)', '(array-in u32 32 wval wtells 𝓤 H A W (wmakes 𝓤 H A W) l6 0 ws (f .isW))'))
+    close2 += lend('l5', 'csS', 'd', 'kS', f'P2 {mv}', f'T3 {mv}', 'keptS', ('(mem R .lies d l5 0)', '(local-in S.the-type S′.the-laws S′.the-plain 𝓤 H A W l5 0 d (f .isS))'))
+    W.move('P', 'T')
+    w(f'use2 W (raw (Gpf 𝓤 H A at-mem run .pre (to-pf {mv} kS))) (goes {mv} kS) $\n'); W.head(2, 'pre')
+    w(f'''          calls-at ! fm (Gpf 𝓤 H A at-mem run) known-pf (to-pf {mv} kS) {ands([ld(13), ld(14), ld(15), ld(1)] + [ldf(10, i) for i in range(7)])} (λ v₃.
+          use1 W (later (some (λ (r : Outcome). (‵ (tokens csS kS (P2 {mv})) ⊛ ‵ (O.the-row .own r (v₃ ∷ []))) ⊛ raw (ensured 𝓤 H A pf.ended (pf.clauses 𝓤 H A at-mem run) (to-pf {mv} kS .0 .0) (to-pf {mv} kS .0 .3) tt r)))) (id⊢ 𝓤 _) $ await ! tt $ pick ! (λ r.
+          split ! $ move ! (1 ∷ []) $ use1 W (some (λ (z : Z rec). ‵ (lasts csS (z .0, tt) kS (L2 {mv} (z .1 .0) (z .1 .1 .0))) ⊛ raw (fact 𝓤 (Said rec z r)))) (id⊢ 𝓤 _) $ pick ! (λ z.
           split ! $ move ! (1 ∷ []) $ heard ! (Said rec z r) (λ said. move ! (1 ∷ []) $ split ! $ move ! (1 ∷ []) $ peeks ! O.the-row (Is O.the-row) (shows 𝓤 H A O.the-row) r (v₃ ∷ []) (λ isO₀. let isO : IsO r = LL.owes O.the-type O′.the-laws r (LL.owed O.the-type O′.the-laws r _ isO₀) in
 '''); W.head(1, 'own', 'P', 'T'); close2 += 5
-    w(f'''          land ! (from ! (stop !)) (init ! {L(10)} refl (LL.lawful O.the-type O′.the-laws 𝓤 H A W .typed r _ isO₀ .0)) $ rewrite ! {L(10)} (λ (u : Val). ‵ (fat fullShare O′.mir l10 0 u)) (ap only (LL.tells O.the-type O′.the-laws r _ isO₀)) refl $ drop ! $
+    w(f'''          land ! (from ! (stop !)) (init ! {L(11)} refl (LL.lawful O.the-type O′.the-laws 𝓤 H A W .typed r _ isO₀ .0)) $ rewrite ! {L(11)} (λ (u : Val). ‵ (fat fullShare O′.mir l11 0 u)) (ap only (LL.tells O.the-type O′.the-laws r _ isO₀)) refl $ drop ! $
           '''); W.ctx.pop(0)
-    W.move('P', 'keptS', 'T'); w('use3 W (later (‵ (lie l5 csS (z .0, tt)) ⊛ ‵ (P1 rec kW) ⊛ ‵ (L1 rec kW (z .1 .0)))) (backs l5 𝓤 H A W (P1 rec kW) (L1 rec kW (z .1 .0)) csS (z .0, tt) kS) $ await ! tt $ split3 ! $ fsplit ! $ '); W.head(3, 'l5', 'tt1', 'P', 'T')
-    w('use1 W (given (IsS (z .0)) (‵ (fat fullShare stTy l5 0 (val (z .0))))) (local-out S.the-type S′.the-laws S′.the-plain 𝓤 H A W l5 0 (z .0)) $ learn ! (λ isE.\n          '); close2 += 1
-    W.move('P', 'keptW', 'T'); w('use3 W (later (‵ (lie l6 csW (z .1 .0, tt)) ⊛ ‵ ftrue ⊛ ‵ (L0 rec))) (backs l6 𝓤 H A W ftrue (L0 rec) csW (z .1 .0, tt) kW) $ await ! tt $ split3 ! $ fsplit ! $ '); W.head(3, 'l6', 'tt2', 'tt3', 'tt4')
-    w('use1 W (given (IsW (z .1 .0)) (‵ (fat fullShare wTy l6 0 (wval (z .1 .0))))) (array-out u32 32 wval wtells 𝓤 H A W (wmakes 𝓤 H A W) l6 0 (z .1 .0)) $ learn ! (λ isX.\n'); close2 += 1
-    close2 += runner_walk(W, 5, 15, 14)
+    def back(l, cs, xs, key, P, T, kept, given_, out, is_):
+        W.move('P', kept, 'T'); w(f'use3 W (later (‵ (lie {l} {cs} ({xs}, tt)) ⊛ ‵ ({P}) ⊛ ‵ ({T}))) (backs {l} 𝓤 H A W ({P}) ({T}) {cs} ({xs}, tt) {key}) $ await ! tt $ split3 ! $ fsplit ! $ '); W.head(3, l, f'none-{l}', 'P', 'T')
+        w(f'use1 W (given {given_}) {out} $ learn ! (λ {is_}.\n          ')
+        return 1
+    close2 += back('l5', 'csS', 'z .0', 'kS', f'P2 {mv}', f'L2 {mv} (z .1 .0) (z .1 .1 .0)', 'keptS', '(IsS (z .0)) (‵ (fat fullShare stTy l5 0 (val (z .0))))', '(local-out S.the-type S′.the-laws S′.the-plain 𝓤 H A W l5 0 (z .0))', 'isE')
+    close2 += back('l6', 'csW', 'z .1 .0', 'kW', f'P1 {mg}', f'L1 {mg} (z .1 .1 .0)', 'keptW', '(IsW (z .1 .0)) (‵ (fat fullShare wTy l6 0 (wval (z .1 .0))))', '(array-out u32 32 wval wtells 𝓤 H A W (wmakes 𝓤 H A W) l6 0 (z .1 .0))', 'isX')
+    close2 += back('l7', 'csV', 'z .1 .1 .0', 'kV', 'P0 rec', 'L0 rec', 'keptV', '(IsV (z .1 .1 .0)) (‵ (fat fullShare mTy l7 0 (mval (z .1 .1 .0))))', '(array-out u8 64 mval mtells 𝓤 H A W (mmakes 𝓤 H A W) l7 0 (z .1 .1 .0))', 'isY')
+    W.ctx[W.at('T')] = 'told'
+    W.move('P'); w('fsplit ! $ '); W.head(1, 'tk', 'tt3'); w('\n')
+    close2 += runner_walk(W, 5, 17, 16)
     w('''          -- the checksum
           ''')
-    w(f'assigns ! (addr ! (from ! (stop !))) (from ! (stop !)) (init ! {L(16)} refl (tt, tt)) $\n          ')
+    w(f'assigns ! (addr ! (from ! (stop !))) (from ! (stop !)) (init ! {L(18)} refl (tt, tt)) $\n          ')
     W.move('l6'); w('use1 W (‵ (mem Q .lies (z .1 .0) l6 0)) (array-in u32 32 wval wtells 𝓤 H A W (wmakes 𝓤 H A W) l6 0 (z .1 .0) isX) $ nothing ! $ move ! (1 ∷ 0 ∷ []) $ fjoin ! $ '); W.head(1, 'lie')
     w('nothing ! $ '); W.ctx.insert(0, 'T'); w('nothing ! $ '); W.ctx.insert(0, 'P'); W.move('lie', 'P', 'T')
     w('\n          use3 W (later (some (λ (k : Keys csW). ‵ (tokens csW k ftrue) ⊛ ‵ (shared l6 csW (z .1 .0, tt) k ftrue) ⊛ ‵ (kept-shared l6 csW (z .1 .0, tt) k)))) (lends-shared l6 𝓤 H A W ftrue ftrue csW (z .1 .0, tt)) $ await ! tt $ pick ! (λ kV. split3 ! $\n          '); W.head(3, 'P', 'T', 'keptW'); close2 += 1
@@ -362,34 +400,34 @@ module _ {M : Type 1} (𝓤 : URA M) (H : Heap 𝓤) (A : Atoms 𝓤) (W : Given
     w(f'''
           use2 W (raw (Gsu 𝓤 H A at-mem run .pre (to-su {pa}))) (qed W (‵ (suA {pa}) ∷ ‵ (suO {pa}) ∷ []) ∵ join ! $ frame ! $ done !) $
 '''); W.head(2, 'pre')
-    w(f'''          calls-at ! fm (Gsu 𝓤 H A at-mem run) known-su (to-su {pa}) {ands([ld(7), ld(10), ld(14), ld(16)])} (λ v₅.
+    w(f'''          calls-at ! fm (Gsu 𝓤 H A at-mem run) known-su (to-su {pa}) {ands([ld(8), ld(11), ld(16), ld(18)])} (λ v₅.
           use1 W (later (some (λ (su : ℕ). (‵ (suA {pa}) ⊛ ‵ (u32 .own su (v₅ ∷ []))) ⊛ raw (ensured 𝓤 H A su.ended (su.clauses 𝓤 H A at-mem run) (to-su {pa} .0 .0) (to-su {pa} .0 .3) tt su)))) (id⊢ 𝓤 _) $ await ! tt $ pick ! (λ su.
           split ! $ move ! (1 ∷ []) $ drop ! $
           split ! $ move ! (1 ∷ []) $ peeks ! u32 (Is u32) (shows 𝓤 H A u32) su (v₅ ∷ []) (λ isU.
 '''.replace('(λ (su : ℕ)', '(λ (su₀ : ℕ)').replace('u32 .own su (v₅ ∷ []))) ⊛', 'u32 .own su₀ (v₅ ∷ []))) ⊛').replace('tt su)))) (id⊢', 'tt su₀)))) (id⊢').replace('pick ! (λ su.', 'pick ! (λ su₀.').replace('H A u32) su (v₅', 'H A u32) su₀ (v₅')); W.head(1, 'own', 'P'); close2 += 3
-    w(f'''          land ! (from ! (stop !)) (store ! {L(7)} refl (uint-lawful 𝓤 H A W w32 .typed su₀ _ isU .0)) $ rewrite ! {L(7)} (λ (u : Val). ‵ (fat fullShare num l7 0 u)) (ap only (uint-tells w32 su₀ (v₅ ∷ []) isU)) refl $ drop ! $
+    w(f'''          land ! (from ! (stop !)) (store ! {L(8)} refl (uint-lawful 𝓤 H A W w32 .typed su₀ _ isU .0)) $ rewrite ! {L(8)} (λ (u : Val). ‵ (fat fullShare num l8 0 u)) (ap only (uint-tells w32 su₀ (v₅ ∷ []) isU)) refl $ drop ! $
           '''); W.ctx.pop(0)
     w('nothing ! $ nothing ! $ fjoin ! $ '); W.ctx.insert(0, 'T'); W.move('P', 'keptW', 'T')
     w('use3 W (later (‵ (lie l6 csW (z .1 .0, tt)) ⊛ ‵ ftrue ⊛ ‵ ftrue)) (backs-shared l6 𝓤 H A W ftrue ftrue csW (z .1 .0, tt) kV) $ await ! tt $ split3 ! $ fsplit ! $ '); W.head(3, 'l6', 'tt6', 'tt7', 'tt8')
     w('use1 W (given (IsW (z .1 .0)) (‵ (fat fullShare wTy l6 0 (wval (z .1 .0))))) (array-out u32 32 wval wtells 𝓤 H A W (wmakes 𝓤 H A W) l6 0 (z .1 .0)) $ learn ! (λ isX₂.\n'); close2 += 1
     t1 = '(omega (arith, to-fits))'
-    w(f'''          assigns-last ! (bin ! {ld(8)} (lit ! tt) (record {{ fits = {t1} }})) (from ! (stop !)) (store ! {L(8)} refl (tt, record {{ fits = {t1} }})) $
-          ''' + ''.join(f'forget ! {L(i)} refl $ ' for i in [9, 10, 11, 12, 13, 14, 15, 16]) + '\n          ')
+    w(f'''          assigns-last ! (bin ! {ld(9)} (lit ! tt) (record {{ fits = {t1} }})) (from ! (stop !)) (store ! {L(9)} refl (tt, record {{ fits = {t1} }})) $
+          ''' + ''.join(f'forget ! {L(i)} refl $ ' for i in range(10, 19)) + '\n          ')
     w('keep ! (' + ' ∷ '.join(str(W.at(x)) for x in st) + ' ∷ []) $ ')
-    w(f'by ! (next (z .0) (z .1 .0) su₀ more (record {{ isS = isE; isW = isX; m-fits = isU .1; t-fits = {t1} }}))' + ')' * close2 + ')\n')
+    w(f'by ! (next (z .0) (z .1 .0) (z .1 .1 .0) su₀ more (record {{ isS = isE; isW = isX; isV = isY; m-fits = isU .1; t-fits = {t1} }}))' + ')' * close2 + ')\n')
     # no more
     W.ctx = save
-    w('          (λ no-more-y. exec ! C Λ En code.Mir.t-6 (atRet En Post) $\n')
-    w(f'''          assigns ! (of-opd ! {ld(5)}) (from ! (stop !)) (init ! {L(17)} refl {lawS('d', '(f .isS)')}) $
-          assigns ! (agg ! {ands([ld(17), ld(7)])}) (from ! (stop !)) (init ! {L(0)} refl (LL.lawful PL.the-type PL′.the-laws 𝓤 H A W .typed res _ isT .0)) $
-          returns ! (look ! {L(0)} refl) $ ''' + ''.join(f'forget ! {L(i)} refl $ ' for i in [0, 1, 2, 3, 4, 5, 6, 7, 8, 11, 17]) + '\n          ')
+    w('          (λ no-more-y. exec ! C Λ En code.Mir.t-7 (atRet En Post) $\n')
+    w(f'''          assigns ! (of-opd ! {ld(5)}) (from ! (stop !)) (init ! {L(19)} refl {lawS('d', '(f .isS)')}) $
+          assigns ! (agg ! {ands([ld(19), ld(8)])}) (from ! (stop !)) (init ! {L(0)} refl (LL.lawful PL.the-type PL′.the-laws 𝓤 H A W .typed res _ isT .0)) $
+          returns ! (look ! {L(0)} refl) $ ''' + ''.join(f'forget ! {L(i)} refl $ ' for i in [0, 1, 2, 3, 4, 5, 6, 7, 8, 9, 12, 19]) + '\n          ')
     for i in range(N):
         W.move(f'l{i}', f'd{i}'); w('free1 ! $ '); W.head(2)
     assert W.ctx == ['tk', 'scr'], W.ctx
     w('free0 ! $ by ! (exits res isT))\n\n')
-    va = '(v .0) (v .1 .0) (v .1 .1 .0) (v .1 .1 .1)'
+    va = '(v .0) (v .1 .0) (v .1 .1 .0) (v .1 .1 .1 .0) (v .1 .1 .1 .1)'
     w(f'''    abbrev Ok : ℕ → Vs → Type 0
-    Ok u v = (to - v .1 .1 .1 ≡ u) × Facts {va}
+    Ok u v = (to - v .1 .1 .1 .1 ≡ u) × Facts {va}
 
     below : (u : ℕ) (v : Vs) → Ok u v → ent 𝓤 (⋆ 𝓤 H A (At {va})) (Inv u)
     below u v f = via 𝓤 (guard 𝓤 (Ok u v) (⋆ 𝓤 H A (At {va}))) (guardI 𝓤 (Ok u v) (⋆ 𝓤 H A (At {va})) f) (exI 𝓤 (λ (v : Vs). guard 𝓤 (Ok u v) (⋆ 𝓤 H A (At {va}))) v)
@@ -402,10 +440,10 @@ module _ {M : Type 1} (𝓤 : URA M) (H : Heap 𝓤) (A : Atoms 𝓤) (W : Given
 
     turns : (u : ℕ) → ent 𝓤 (Inv u) (Wp 𝓤 H C Λ En code.Mir.turn-1 (afterTurn 𝓤 H (Below u) Left))
     turns u = exE 𝓤 (λ (v : Vs). guard 𝓤 (Ok u v) (⋆ 𝓤 H A (At {va}))) (λ v. guardE 𝓤 (Ok u v) (⋆ 𝓤 H A (At {va})) (λ f.
-        turn {va} (f .1) (Below u) (λ e xs su more g. via 𝓤 (Inv (to - (v .1 .1 .1 + 1))) (below (to - (v .1 .1 .1 + 1)) (e, (xs, (su, v .1 .1 .1 + 1))) (refl, g)) (lower u (to - (v .1 .1 .1 + 1)) (less u (v .1 .1 .1) (f .0) more)))))
+        turn {va} (f .1) (Below u) (λ e xs vs su more g. via 𝓤 (Inv (to - (v .1 .1 .1 .1 + 1))) (below (to - (v .1 .1 .1 .1 + 1)) (e, (xs, (vs, (su, v .1 .1 .1 .1 + 1)))) (refl, g)) (lower u (to - (v .1 .1 .1 .1 + 1)) (less u (v .1 .1 .1 .1) (f .0) more)))))
 
-    loops : (ws : List ℕ) → Facts (p .state) ws (p .sum) from₀ → ent 𝓤 (⋆ 𝓤 H A (At (p .state) ws (p .sum) from₀)) (Wp 𝓤 H C Λ En (loop code.Mir.turn-1) Left)
-    loops ws f = via 𝓤 (Inv (to - from₀)) (below (to - from₀) (p .state, (ws, (p .sum, from₀))) (refl, f)) (loop-rule 𝓤 H (W .laws) 𝓣 _<_ (Nat·lt-wfRel .wf) En code.Mir.turn-1 Left Inv turns (to - from₀))
+    loops : (ws sh : List ℕ) → Facts (p .state) ws sh (p .sum) from₀ → ent 𝓤 (⋆ 𝓤 H A (At (p .state) ws sh (p .sum) from₀)) (Wp 𝓤 H C Λ En (loop code.Mir.turn-1) Left)
+    loops ws sh f = via 𝓤 (Inv (to - from₀)) (below (to - from₀) (p .state, (ws, (sh, (p .sum, from₀)))) (refl, f)) (loop-rule 𝓤 H (W .laws) 𝓣 _<_ (Nat·lt-wfRel .wf) En code.Mir.turn-1 Left Inv turns (to - from₀))
 
 ''')
     kv = ' '.join(f'known-{c[0]}' for c in CALL)
@@ -427,12 +465,13 @@ module _ {M : Type 1} (𝓤 : URA M) (H : Heap 𝓤) (A : Atoms 𝓤) (W : Given
       {''.join(f'alloc1 ! (λ l{i}. ' for i in range(N))}alloc0 ! $ params1 ! $ pass1 ! (init ! {L(1)} refl (tt, (tt, (record {{ fits = gy .0 }}, tt)))) $ pass1 ! (init ! {L(2)} refl (tt, record {{ fits = from-fits }})) $ pass1 ! (init ! {L(3)} refl (tt, record {{ fits = to-fits }})) $ pass1 ! (init ! {L(4)} refl (LL.lawful PL.the-type PL′.the-laws 𝓤 H A W .typed p _ isP .0)) $ pass0 ! $
       assigns ! (of-opd ! {ldf(4, 0)}) (from ! (stop !)) (init ! {L(5)} refl {lawS('(p .state)', f'({owed} .0)')}) $
       assigns ! (rep ! 32 (lit ! tt)) (from ! (stop !)) (init ! {L(6)} refl (wlawful 𝓤 H A W .typed nulls _ isNulls .0)) $
-      assigns ! (of-opd ! {ldf(4, 1)}) (from ! (stop !)) (init ! {L(7)} refl (tt, record {{ fits = {owed} .1 .0 .1 }})) $
-      assigns ! (of-opd ! {ld(2)}) (from ! (stop !)) (init ! {L(8)} refl (tt, record {{ fits = from-fits }})) $
+      assigns ! (rep ! 64 (lit ! tt)) (from ! (stop !)) (init ! {L(7)} refl (mlawful 𝓤 H A W .typed blanks _ isBlanks .0)) $
+      assigns ! (of-opd ! {ldf(4, 1)}) (from ! (stop !)) (init ! {L(8)} refl (tt, record {{ fits = {owed} .1 .0 .1 }})) $
+      assigns ! (of-opd ! {ld(2)}) (from ! (stop !)) (init ! {L(9)} refl (tt, record {{ fits = from-fits }})) $
       ''')
     W.move('al'); w('fsplit ! $ '); W.head(1, 'tk', 'x')
     W.move('ow'); w('fsplit ! $ '); W.head(1, 'scr', 'y')
-    w('\n      keep ! (' + ' ∷ '.join(str(W.at(x)) for x in st) + f' ∷ []) $ by ! (loops 𝓣 fm {kv} {LS} nulls (record {{ isS = {owed} .0; isW = isNulls; m-fits = {owed} .1 .0 .1; t-fits = from-fits }}))' + ')' * N + '\n')
+    w('\n      keep ! (' + ' ∷ '.join(str(W.at(x)) for x in st) + f' ∷ []) $ by ! (loops 𝓣 fm {kv} {LS} nulls blanks (record {{ isS = {owed} .0; isW = isNulls; isV = isBlanks; m-fits = {owed} .1 .0 .1; t-fits = from-fits }}))' + ')' * N + '\n')
     none = lambda r: f'goes-none 𝓤 H A W 1 (λ _. {r}) yes (λ κs x f. refl)'
     w(f'''
 module _ {{M : Type 1}} (𝓤 : URA M) (H : Heap 𝓤) (A : Atoms 𝓤) (W : Given 𝓤 H A) (at-mem : Memory → SProp 𝓤) (run : Routine → Fun 𝓤) (𝓣 : Tables 𝓤 H){kn} where

@@ -53,6 +53,7 @@ use Rattle.player.proofs.Part.Laws as PT′
 use Rattle.player.proofs.Relent.{{Relent, slice-again, slice-returns, Reshared, slice-shares, slice-unshares}}
 use Rattle.lending.proofs.Lending.{{Col, Keys, tokens, lasts, lie, refs, kept, lends, backs, local-in, local-out}}
 use Rattle.scope.specs.Script.{{isScript, firstPriority}}
+use Rattle.text.specs.Lines.{{longestLine}}
 use Rattle.scope.specs.Fresh.{{freshState}}
 {uses}{''.join(callee(*c) for c in s.calls)}{outer(s.crate, s.f)}{STATE}abbrev pval : Place → Val
 pval p = LL.val PL.the-type PL′.the-laws p
@@ -116,7 +117,7 @@ def facts(s, W):
     w = W.w
     two = s.copies
     args = '(κ κ₁ κ₂ : Lft) (q q₁ q₂ : Share)' if two else '(κ κ₁ : Lft) (q q₁ : Share)'
-    more = ' (b₂ o₂ : ℕ) (γ₂ : GName) (os₀ : List ℕ) (puts : Bool) (gy : Room u8 (length ys)) (gz : Room u8 (length zs)) (go₀ : Room u8 (length os₀)) (req : (isScript ys ≡ true) × (782 ≤ length zs) × (puts ≡ true → length (listing ys) ≤ length os₀))' if two else ' (gy : Room u8 (length ys)) (gz : Room u8 (length zs)) (req : (isScript ys ≡ true) × (782 ≤ length zs))'
+    more = ' (b₂ o₂ : ℕ) (γ₂ : GName) (os₀ : List ℕ) (puts : Bool) (gy : Room u8 (length ys)) (gz : Room u8 (length zs)) (go₀ : Room u8 (length os₀)) (req : (isScript ys ≡ true) × (longestLine ≤ length zs) × (puts ≡ true → length (listing ys) ≤ length os₀))' if two else ' (gy : Room u8 (length ys)) (gz : Room u8 (length zs)) (req : (isScript ys ≡ true) × (longestLine ≤ length zs))'
     s.kappas = '(κ, (κ₁, (κ₂, tt)))' if two else '(κ, (κ₁, tt))'
     s.shares = '(q, (q₁, (q₂, tt)))' if two else '(q, (q₁, tt))'
     s.ghost = f'(({s.kappas}, {s.shares}, tt, a, vals), tt)'
@@ -563,7 +564,7 @@ def walk(s):
     spells = ['slice-vals', 'slice-vals'] + (['slice-vals', 'bool-vals'] if two else [])
     tells = ['shr-slice-tells (named 0) (κs .0) u8', 'mut-slice-tells (named 1) (κs .1 .0) u8'] + (['mut-slice-tells (named 2) (κs .1 .1 .0) u8', 'bool-tells'] if two else [])
     goes = [f'goes-none-slice 𝓤 H A W {N} (0 ∷ []) tt (plain (λ _. u8)) yes', f'goes-slice 𝓤 H A W {N} 1 tt (plain (λ _. u8))'] + ([f'goes-slice 𝓤 H A W {N} 2 tt (plain (λ _. u8))', f'goes-none 𝓤 H A W {N} (λ _. Boolean) yes (λ κs x f. refl)'] if two else [])
-    req = '(isScript (a .0 .now) ≡ true) × (782 ≤ length (a .1 .0 .now))' + (' × (a .1 .1 .1 .0 ≡ true → length (listing (a .0 .now)) ≤ length (a .1 .1 .0 .now))' if two else '')
+    req = '(isScript (a .0 .now) ≡ true) × (longestLine ≤ length (a .1 .0 .now))' + (' × (a .1 .1 .1 .0 ≡ true → length (listing (a .0 .now)) ≤ length (a .1 .1 .0 .now))' if two else '')
     r = lambda p: f'(a {p} .ptr .0) (a {p} .ptr .1) (a {p} .name) (a {p} .now)'
     at = ('(κs .0) (κs .1 .0) (κs .1 .1 .0) (qs .0) (qs .1 .0) (qs .1 .1 .0) ' if two else '(κs .0) (κs .1 .0) (qs .0) (qs .1 .0) ') + r('.0') + ' ' + r('.1 .0') + (' ' + r('.1 .1 .0') + ' (a .1 .1 .1 .0)' if two else '') + ' (are .0 .0 .1) (are .1 .0 .0 .1)' + (' (are .1 .1 .0 .0 .1)' if two else '') + ' req'
     W.w(closing(s.f, s.calls, spells, tells, goes, (f'needs 𝓤 ({req}) _ (λ req. ', ')'), at))

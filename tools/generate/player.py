@@ -1,16 +1,21 @@
 # Prints the walk of player::play_part: a loop that lends a lent state on, as one thing, reads a lent slice and writes another. It names no
 # column.
 from walk import chain, path
-from lent import HEADER, STATE, TESTS, WAKES, Lent, callee, outer, contracts, known, closing, units, trues, u32own, u64own, ands
+from lent import HEADER, STATE, TESTS, WAKES, MESSAGE, Lent, callee, outer, contracts, known, closing, units, trues, u32own, u64own, ands
 
-CALL = [('go', 'player', 'goes_on', True), ('rd', 'text', 'read_record', False), ('pf', 'kernel', 'perform', False), ('ru', 'lending', 'runner', False), ('pu', 'text', 'put_line', False)]
+CALL = [('go', 'player', 'goes_on', True), ('rd', 'text', 'read_record', False), ('me', 'text', 'message_at', False), ('pf', 'kernel', 'perform', False), ('ru', 'lending', 'runner', False), ('pu', 'text', 'put_line', False)]
 # the locals, in the order of the MIR
-NAMES = 'res script s p lines wakes more number at k rec o id q test len sref wref uref lref lslice wshr'.split()
-TYPES = 'ptTy sl0 refP plTy sl2 wTy num num word word rcTy oTy num plTy tyBool word refS refW refS refB slE refI'.split()
+NAMES = 'res script s p lines wakes shown more number at k rec message o id q test len read sref wref vref mref mslice uref lref lslice wshr'.split()
+TYPES = 'ptTy sl0 refP plTy sl2 wTy mTy num num word word rcTy mTy oTy num plTy tyBool word mTy refS refW refV refM slI refS refB slE refI'.split()
 N = len(NAMES)
 I = {n: i for i, n in enumerate(NAMES)}
 LS = ' '.join(f'l{i}' for i in range(N))
-VAL = {'script': 'sliceVal (b, o) (length ys)', 's': 'vptr b₂ o₂', 'p': 'pval p', 'lines': 'sliceVal (b₁, o₁) (length out)', 'wakes': 'wval ws', 'more': 'vint w32 m', 'number': 'vint w32 n', 'at': 'vint w64 t', 'k': 'vint w64 k'}
+VAL = {'script': 'sliceVal (b, o) (length ys)', 's': 'vptr b₂ o₂', 'p': 'pval p', 'lines': 'sliceVal (b₁, o₁) (length out)', 'wakes': 'wval ws', 'shown': 'mval sh', 'more': 'vint w32 m', 'number': 'vint w32 n', 'at': 'vint w64 t', 'k': 'vint w64 k'}
+# before a turn: the state, the wake list, the message shown, the records left, the next one's number and place, the bytes written, the lines
+TURN = ['State', 'List ℕ', 'List ℕ', 'ℕ', 'ℕ', 'ℕ', 'ℕ', 'List ℕ']
+turn_at = lambda i: 'v ' + '.1 ' * i + ('.0' if i < len(TURN) - 1 else '')
+TURN_AT = ' '.join(f'({turn_at(i).strip()})' for i in range(len(TURN)))
+LEFT = turn_at(3)
 RF = ['call', 'mark', 'a', 'b', 'c', 'd', 'e']
 GHOST = '(((κ, (κ₂, (κ₁, tt))), (q, (q₂, (q₁, tt))), tt, a, vals), tt)'
 
@@ -29,14 +34,16 @@ use Rattle.player.specs.declared.Part.{Part}
 use Rattle.player.specs.Place.{Point, Reached, pointAt, reached, Playing, PlayedPart, LinePut}
 use Rattle.player.proofs.Laws.{Going, going-first, going-more, going-done, line-played, record-step, step-few, line-told}
 use Rattle.kernel.proofs.Laws.{runs-so}
+use Rattle.lending.proofs.Slices.{slice-lent, slice-kept, lends-slice, slice-back}
 use Rattle.player.proofs.Relent.{Relent, slice-again, slice-returns}
 use Rattle.scope.specs.Step.{answered}
 use Rattle.text.specs.Records.{recordAt}
-use Rattle.text.specs.Lines.{replyBy}
+use Rattle.text.specs.Lines.{longestLine, replyBy}
+use Rattle.scope.specs.Script.{messageAt}
 use Rattle.scope.specs.Listing.{lineOf}
 use Rattle.scope.specs.Views.{runningTask}
 use Rattle.scope.specs.declared.Answer.{Answer}
-use Rattle.answers.specs.Outcomes.{answerOf, nowRuns}
+use Rattle.answers.specs.Outcomes.{answerShown, nowRuns}
 use Rattle.answers.proofs.Outcome as O
 use Rattle.answers.proofs.Outcome.Laws as O′
 use Rattle.text.proofs.Record as RC
@@ -58,7 +65,7 @@ ptval p = LL.val PT.the-type PT′.the-laws p
 abbrev IsO : Outcome → Type 0
 IsO r = Is O.the-row r (LL.vals O.the-type O′.the-laws r)
 
-''' + WAKES + '''-- the types of the locals
+''' + WAKES + MESSAGE + '''-- the types of the locals
 abbrev oTy : Ty
 oTy = spell code.Mir.table (pointee (O.the-row .written))
 
@@ -98,11 +105,23 @@ refW = tyRef erased mut wTy
 abbrev refI : Ty
 refI = tyRef erased imm wTy
 
+abbrev refV : Ty
+refV = tyRef erased mut mTy
+
+abbrev refM : Ty
+refM = tyRef erased imm mTy
+
+abbrev slI : Ty
+slI = sliceTy (tyRef erased imm (tyInt w8))
+
 abbrev refB : Ty
 refB = tyRef erased mut (tyInt w8)
 
 abbrev csW : List Col
 csW = record { row = Q; at = 0 } ∷ []
+
+abbrev csV : List Col
+csV = record { row = Bytes; at = 0 } ∷ []
 
 abbrev stayed : Stays (h.ended .signature .params) (h.ended .kept)
 stayed = (stay-none-slice (0 ∷ []) tt (plain (λ _. u8)) yes, (stay-ref (1 ∷ []) tt (plain (λ _. R)), (stay-none (λ _. PL.the-row) yes, (stay-slice (2 ∷ []) tt (plain (λ _. u8)), tt))))
@@ -153,7 +172,6 @@ def facts(W):
       owned ! PT.the-row (Is PT.the-row) (LL.makes PT.the-type PT′.the-plain 𝓤 H A) r _ isR $ move ! (1 ∷ 0 ∷ []) $ done !
 
 ''')
-    vs = '(v .0) (v .1 .0) (v .1 .1 .0) (v .1 .1 .1 .0) (v .1 .1 .1 .1 .0) (v .1 .1 .1 .1 .1 .0) (v .1 .1 .1 .1 .1 .1)'
     w(f'''  module _ (𝓣 : Tables 𝓤 H) (fm : FmC 𝓤 H (W .laws) (𝓣 .C)){known(CALL)} ({LS} : ℕ) where
     abbrev C : Calls 𝓤 H
     C = 𝓣 .C
@@ -164,9 +182,9 @@ def facts(W):
     abbrev En : Env 𝓤 H
     En = {' ∷ '.join(f'({TYPES[i]}, l{i})' for i in range(N))} ∷ []
 
-    -- before a turn: the state, the wake list, the records left, the next one's number and place, the bytes written, the lines
-    abbrev At : State → List ℕ → ℕ → ℕ → ℕ → ℕ → List ℕ → List (Item 𝓤)
-    At d ws m n t k out = {' ∷ '.join(cell(n) for n in NAMES)}
+    -- before a turn: the state, the wake list, the message shown, the records left, the next one's number and place, the bytes written, the lines
+    abbrev At : {' → '.join(TURN)} → List (Item 𝓤)
+    At d ws sh m n t k out = {' ∷ '.join(cell(n) for n in NAMES)}
         ∷ ‵ (flft κ q) ∷ ‵ (flft κ₂ q₂) ∷ ‵ (flft κ₁ q₁) ∷ ‵ scr ∷ ‵ (own d) ∷ ‵ (obs out) ∷ ‵ (bor out) ∷ {' ∷ '.join(f'‵ (fdies {TYPES[i]} l{i})' for i in range(N))} ∷ []
 
     abbrev pl : ℕ → ℕ → ℕ → Place
@@ -175,26 +193,27 @@ def facts(W):
     abbrev pt : State → ℕ → ℕ → ℕ → Point
     pt d m n t = pointAt d (pl m n t)
 
-    record Facts (d : State) (ws : List ℕ) (m n t k : ℕ) (out : List ℕ) : Type 0 where
+    record Facts (d : State) (ws sh : List ℕ) (m n t k : ℕ) (out : List ℕ) : Type 0 where
       isW : IsW ws
+      isV : IsV sh
       going : Going ys (pointAt d₀ p) zs out (pt d m n t) k
 
     abbrev Vs : Type 0
-    Vs = State × (List ℕ × (ℕ × (ℕ × (ℕ × (ℕ × List ℕ)))))
+    Vs = {' × ('.join(TURN) + ')' * (len(TURN) - 1)}
 
     abbrev Ok : ℕ → Vs → Type 0
-    Ok u v = (v .1 .1 .0 ≡ u) × Facts {vs}
+    Ok u v = ({LEFT} ≡ u) × Facts {TURN_AT}
 
     abbrev Inv : ℕ → SProp 𝓤
-    Inv u = ex 𝓤 (λ (v : Vs). guard 𝓤 (Ok u v) (⋆ 𝓤 H A (At {vs})))
+    Inv u = ex 𝓤 (λ (v : Vs). guard 𝓤 (Ok u v) (⋆ 𝓤 H A (At {TURN_AT})))
 
     abbrev Below : ℕ → SProp 𝓤
     Below u = ex 𝓤 (λ (u′ : ℕ). guard 𝓤 (u′ < u) (Inv u′))
 
     abbrev Left : Out → SProp 𝓤
-    Left = afterBlock 𝓤 H (afterSeq 𝓤 H (Wp 𝓤 H C Λ En code.Mir.t-7 (atReturn 𝓤 H En Post)) (atReturn 𝓤 H En Post))
+    Left = afterBlock 𝓤 H (afterSeq 𝓤 H (Wp 𝓤 H C Λ En code.Mir.t-8 (atReturn 𝓤 H En Post)) (atReturn 𝓤 H En Post))
 
-    module _ (d : State) (ws : List ℕ) (m n t k : ℕ) (out : List ℕ) (f : Facts d ws m n t k out) where
+    module _ (d : State) (ws sh : List ℕ) (m n t k : ℕ) (out : List ℕ) (f : Facts d ws sh m n t k out) where
       gout : Room u8 (length out)
       gout = subst (λ (i : ℕ). Room u8 i) (sym (f .going .same)) gz
 
@@ -211,10 +230,10 @@ def facts(W):
       k-fits = let g : length out < 2 ^ 64 = gout .0 in omega (arith, f .going .room)
 
       abbrev Yes : Bool → Type 0
-      Yes y = y ≡ true → (1 ≤ m) × (k + 782 ≤ length out)
+      Yes y = y ≡ true → (1 ≤ m) × (k + longestLine ≤ length out)
 
       abbrev No : Bool → Type 0
-      No y = y ≡ false → 1 ≤ m → length out < k + 782
+      No y = y ≡ false → 1 ≤ m → length out < k + longestLine
 
       abbrev to-go : Ggo 𝓤 H A at-mem run .Ghost
       to-go = ((tt, tt, tt, (m, (k, (length out, tt))), (vint w32 m ∷ [], (vint w64 k ∷ [], (vint w64 (length out) ∷ [], tt)))), tt)
@@ -222,9 +241,12 @@ def facts(W):
       abbrev to-rd : Grd 𝓤 H A at-mem run .Ghost
       to-rd = (((κ, tt), (q, tt), tt, (sc, (t, tt)), (sliceVal (b, o) (length ys) ∷ [], (vint w64 t ∷ [], tt))), tt)
 
+      abbrev to-me : Gme 𝓤 H A at-mem run .Ghost
+      to-me = (((κ, tt), (q, tt), tt, (sc, (t, tt)), (sliceVal (b, o) (length ys) ∷ [], (vint w64 t ∷ [], tt))), tt)
+
 ''')
     sevenv = chain([f'rec .{x}' for x in RF]); sevenw = chain([f'vint w32 (rec .{x}) ∷ []' for x in RF])
-    lw = f'l{I["wakes"]}'
+    lw = f'l{I["wakes"]}'; lv = f'l{I["shown"]}'; lm = f'l{I["message"]}'
     w(f'''      -- the state lent on, under a name of its own
       abbrev lent : State → ℕ → GName → Fml
       lent e α γ₃ = MutRef erased (α ∷ []) R .own (record {{ ptr = (b₂, o₂); name = γ₃; now = e }}) (vptr b₂ o₂ ∷ [])
@@ -232,39 +254,54 @@ def facts(W):
       abbrev held : State → ℕ → GName → Fml
       held e α γ₃ = LentAgain R κ₂ (α ∷ []) q₂ γ₂ b₂ o₂ γ₃ e
 
-      module _ (rec : Record) where
+      module _ (rec : Record) (msg : List ℕ) where
         abbrev T0 : Fml
         T0 = owns (u32 ∷ u32 ∷ u32 ∷ u32 ∷ u32 ∷ u32 ∷ u32 ∷ []) {sevenv} {sevenw}
 
         abbrev L0 : Fml
-        L0 = {trues(7)}
+        L0 = {trues(8)}
 
         abbrev Z : Type 0
-        Z = State × (List ℕ × ({units(7)}))
+        Z = State × (List ℕ × (List ℕ × ({units(8)})))
 
         abbrev Said : Z → Outcome → Type 0
-        Said z r = (answerOf (z .0) (z .1 .0) r ≡ answered d {' '.join(f'(rec .{x})' for x in RF)}) × (z .0 .running ≡ r .runs)
+        Said z r = (answerShown (z .0) (z .1 .0) (z .1 .1 .0) r ≡ answered d {' '.join(f'(rec .{x})' for x in RF)} msg) × (z .0 .running ≡ r .runs)
 
-        module _ (kW : Keys csW) (α : ℕ) (γ₃ : GName) where
-          abbrev pfA : Fml
-          pfA = fsep (flft (α ∷ []) fullShare) (tokens csW kW ftrue)
+        -- the message lent under β, then what is shown
+        abbrev P0 : ℕ → Fml
+        P0 β = fsep (flft (β ∷ []) fullShare) ftrue
 
-          abbrev pfO : Fml
-          pfO = fsep (lent d α γ₃) (refs {lw} csW (ws, tt) kW T0)
+        abbrev T1 : ℕ → GName → Fml
+        T1 β γm = fsep (slice-lent u8 β {lm} 0 msg γm) T0
 
-          abbrev pfL : Z → Fml
-          pfL z = fsep (fres γ₃ (R .coded .code (z .0))) (lasts csW (z .1 .0, tt) kW L0)
+        module _ (β : ℕ) (γm : GName) (kV : Keys csV) where
+          abbrev P1 : Fml
+          P1 = tokens csV kV (P0 β)
 
-          abbrev to-pf : Gpf 𝓤 H A at-mem run .Ghost
-          to-pf = (((α ∷ [], (kW .0 .0 ∷ [], tt)), (fullShare, (fullShare, tt)), tt, (record {{ ptr = (b₂, o₂); name = γ₃; now = d }}, (record {{ ptr = ({lw}, 0); name = kW .0 .1; now = ws }}, {sevenv})), (vptr b₂ o₂ ∷ [], (vptr {lw} 0 ∷ [], {sevenw}))), tt)
+          abbrev T2 : Fml
+          T2 = refs {lv} csV (sh, tt) kV (T1 β γm)
+
+          -- then the wake list, and the state
+          module _ (kW : Keys csW) (α : ℕ) (γ₃ : GName) where
+            abbrev pfA : Fml
+            pfA = fsep (flft (α ∷ []) fullShare) (tokens csW kW P1)
+
+            abbrev pfO : Fml
+            pfO = fsep (lent d α γ₃) (refs {lw} csW (ws, tt) kW T2)
+
+            abbrev pfL : Z → Fml
+            pfL z = fsep (fres γ₃ (R .coded .code (z .0))) (lasts csW (z .1 .0, tt) kW (lasts csV (z .1 .1 .0, tt) kV L0))
+
+            abbrev to-pf : Gpf 𝓤 H A at-mem run .Ghost
+            to-pf = (((α ∷ [], (kW .0 .0 ∷ [], (kV .0 .0 ∷ [], (β ∷ [], tt)))), (fullShare, (fullShare, (fullShare, (fullShare, tt)))), tt, (record {{ ptr = (b₂, o₂); name = γ₃; now = d }}, (record {{ ptr = ({lw}, 0); name = kW .0 .1; now = ws }}, (record {{ ptr = ({lv}, 0); name = kV .0 .1; now = sh }}, (record {{ ptr = ({lm}, 0); name = γm; now = msg }}, {sevenv})))), (vptr b₂ o₂ ∷ [], (vptr {lw} 0 ∷ [], (vptr {lv} 0 ∷ [], (sliceVal ({lm}, 0) (length msg) ∷ [], {sevenw}))))), tt)
 
       abbrev to-ru : State → ℕ → GName → Gru 𝓤 H A at-mem run .Ghost
       to-ru e α γ₃ = (((α ∷ [], tt), (fullShare, tt), tt, (record {{ ptr = (b₂, o₂); name = γ₃; now = e }}, tt), (vptr b₂ o₂ ∷ [], tt)), tt)
 
       -- the line: the outcome r, the wake list xs, who runs
       module _ (r : Outcome) (xs : List ℕ) (id : ℕ) (α : ℕ) (γ₃ : GName) (kW : Keys csW) where
-        abbrev T2 : Fml
-        T2 = owns (u32 ∷ []) (id, tt) (vint w32 id ∷ [], tt)
+        abbrev T3 : Fml
+        T3 = owns (u32 ∷ []) (id, tt) (vint w32 id ∷ [], tt)
 
         abbrev to-pu : Gpu 𝓤 H A at-mem run .Ghost
         to-pu = (((α ∷ [], (kW .0 .0 ∷ [], tt)), (fullShare, (fullShare, tt)), tt, (record {{ ptr = (b₁, o₁); name = γ₃; now = out }}, (k, (n, (r, (record {{ ptr = ({lw}, 0); name = kW .0 .1; now = xs }}, (id, tt)))))), (sliceVal (b₁, o₁) (length out) ∷ [], (vint w64 k ∷ [], (vint w32 n ∷ [], (LL.vals O.the-type O′.the-laws r, (vptr {lw} 0 ∷ [], (vint w32 id ∷ [], tt))))))), tt)
@@ -273,24 +310,24 @@ def facts(W):
         puA = fsep (flft (α ∷ []) fullShare) (tokens csW kW ftrue)
 
         abbrev puO : Fml
-        puO = fsep (MutSlice erased (α ∷ []) u8 .own (record {{ ptr = (b₁, o₁); name = γ₃; now = out }}) (sliceVal (b₁, o₁) (length out) ∷ [])) (fsep (usize .own k (vint w64 k ∷ [])) (fsep (u32 .own n (vint w32 n ∷ [])) (fsep (O.the-row .own r (LL.vals O.the-type O′.the-laws r)) (shared {lw} csW (xs, tt) kW T2))))
+        puO = fsep (MutSlice erased (α ∷ []) u8 .own (record {{ ptr = (b₁, o₁); name = γ₃; now = out }}) (sliceVal (b₁, o₁) (length out) ∷ [])) (fsep (usize .own k (vint w64 k ∷ [])) (fsep (u32 .own n (vint w32 n ∷ [])) (fsep (O.the-row .own r (LL.vals O.the-type O′.the-laws r)) (shared {lw} csW (xs, tt) kW T3))))
 
         abbrev puL : List ℕ → Fml
         puL nu = fsep (fsep (finally u8 γ₃ nu) (feq ℕ (length nu) (length out))) ({trues(5)})
 
         abbrev Line : List ℕ → ℕ → Type 0
-        Line nu wr = (wr ≡ k + length (lineOf n (replyBy xs r id))) × (take wr nu ≡ take k out ++ lineOf n (replyBy xs r id))
+        Line nu wr = (vs : List ℕ) → (wr ≡ k + length (lineOf n (replyBy xs vs r id))) × (take wr nu ≡ take k out ++ lineOf n (replyBy xs vs r id))
 
       -- what a turn gives
-      after-line : (rec : Record) (e : State) (xs : List ℕ) (r : Outcome) (id wr : ℕ) (nu : List ℕ) → 1 ≤ m → k + 782 ≤ length out → rec ≡ recordAt ys t → Said rec (e, (xs, {chain(['tt'] * 7)})) r → id ≡ runningTask e → Line r xs id 0 0 ((0, 0), tt) nu wr → length nu ≡ length out → IsW xs → Facts e xs (m - 1) (n + 1) (t + 28) wr nu
-      after-line rec e xs r id wr nu left-some room is said who put same isX =
-          let lp : LinePut ys t n d out k (nowRuns e (r .runs)) nu wr = line-told ys t n k id d e xs r out nu wr (record-step ys t d (f .going .playing .state) rec is (said .0)) (subst (λ (x : State). id ≡ runningTask x) (sym (runs-so e (r .runs) (said .1))) who) put in
-          let lq : LinePut ys t n d out k e nu wr = subst (λ (x : State). LinePut ys t n d out k x nu wr) (runs-so e (r .runs) (said .1)) lp in
-          record {{ isW = isX; going = going-more ys (pointAt d₀ p) zs out nu (pt d m n t) k (record {{ place = pt e (m - 1) (n + 1) (t + 28); written = wr }}) (f .going) (line-played ys (pt d m n t) e out nu k wr (f .going .playing) left-some room same lq) same }}
+      after-line : (rec : Record) (msg : List ℕ) (z : Z rec msg) (r : Outcome) (id wr : ℕ) (nu : List ℕ) → 1 ≤ m → k + longestLine ≤ length out → rec ≡ recordAt ys t → msg ≡ messageAt ys t → Said rec msg z r → id ≡ runningTask (z .0) → Line r (z .1 .0) id 0 0 ((0, 0), tt) nu wr → length nu ≡ length out → IsW (z .1 .0) → IsV (z .1 .1 .0) → Facts (z .0) (z .1 .0) (z .1 .1 .0) (m - 1) (n + 1) (t + 28) wr nu
+      after-line rec msg z r id wr nu left-some room is lent-is said who put same isX isY =
+          let lp : LinePut ys t n d out k (nowRuns (z .0) (r .runs)) nu wr = line-told ys t n k id d (z .0) (z .1 .0) (z .1 .1 .0) r out nu wr (record-step ys t d (f .going .playing .state) rec msg is lent-is (said .0)) (subst (λ (x : State). id ≡ runningTask x) (sym (runs-so (z .0) (r .runs) (said .1))) who) (put (z .1 .1 .0)) in
+          let lq : LinePut ys t n d out k (z .0) nu wr = subst (λ (x : State). LinePut ys t n d out k x nu wr) (runs-so (z .0) (r .runs) (said .1)) lp in
+          record {{ isW = isX; isV = isY; going = going-more ys (pointAt d₀ p) zs out nu (pt d m n t) k (record {{ place = pt (z .0) (m - 1) (n + 1) (t + 28); written = wr }}) (f .going) (line-played ys (pt d m n t) (z .0) out nu k wr (f .going .playing) left-some room same lq) same }}
 
-      few : (rec : Record) (e : State) (xs : List ℕ) (r : Outcome) → rec ≡ recordAt ys t → Said rec (e, (xs, {chain(['tt'] * 7)})) r → r .woken ≤ 32
-      unfolding answerOf
-      few rec e xs r is said = subst (λ (x : Answer). x .woken ≤ 32) (sym (record-step ys t d (f .going .playing .state) rec is (said .0))) (step-few ys t d (f .going .playing .state))
+      few : (rec : Record) (msg : List ℕ) (z : Z rec msg) (r : Outcome) → rec ≡ recordAt ys t → msg ≡ messageAt ys t → Said rec msg z r → r .woken ≤ 32
+      unfolding answerShown
+      few rec msg z r is lent-is said = subst (λ (x : Answer). x .woken ≤ 32) (sym (record-step ys t d (f .going .playing .state) rec msg is lent-is (said .0))) (step-few ys t d (f .going .playing .state))
 
       isQ : IsP (pl m n t)
       isQ = LL.owes PL.the-type PL′.the-laws (pl m n t) ((refl, m-fits), ((refl, n-fits), ((refl, t-fits), tt)))
@@ -307,13 +344,13 @@ def facts(W):
 def turn(W, st):
     w = W.w
     L = lambda n: W.L(I[n]); ld = lambda n: W.ld(I[n]); ldf = lambda n, k: W.ldf(I[n], k)
-    lw = f'l{I["wakes"]}'
+    lw = f'l{I["wakes"]}'; lv = f'l{I["shown"]}'; lm = f'l{I["message"]}'
     put = lambda n: f'(from ! (stop !)) (init ! {L(n)} refl'
     W.ctx = list(st)
-    w(f'''      turn : (X : SProp 𝓤) → ((e : State) (xs : List ℕ) (wr : ℕ) (nu : List ℕ) → 1 ≤ m → Facts e xs (m - 1) (n + 1) (t + 28) wr nu → ent 𝓤 (⋆ 𝓤 H A (At e xs (m - 1) (n + 1) (t + 28) wr nu)) X) → ent 𝓤 (⋆ 𝓤 H A (At d ws m n t k out)) (Wp 𝓤 H C Λ En code.Mir.turn-1 (afterTurn 𝓤 H X Left))
+    w(f'''      turn : (X : SProp 𝓤) → ((e : State) (xs vs : List ℕ) (wr : ℕ) (nu : List ℕ) → 1 ≤ m → Facts e xs vs (m - 1) (n + 1) (t + 28) wr nu → ent 𝓤 (⋆ 𝓤 H A (At e xs vs (m - 1) (n + 1) (t + 28) wr nu)) X) → ent 𝓤 (⋆ 𝓤 H A (At d ws sh m n t k out)) (Wp 𝓤 H C Λ En code.Mir.turn-1 (afterTurn 𝓤 H X Left))
       unfolding afterTurn
       turn X next =
-          qed W (At d ws m n t k out) ∵ exec ! C Λ En code.Mir.turn-1 (anyQ (afterTurn 𝓤 H X Left)) $
+          qed W (At d ws sh m n t k out) ∵ exec ! C Λ En code.Mir.turn-1 (anyQ (afterTurn 𝓤 H X Left)) $
           assigns ! (of-opd ! {ldf('lines', 1)}) {put('len')} (tt, record {{ fits = gout .0 }})) $
           nothing ! $ {u64own('(length out)', 'gout .0')}{u64own('k', 'k-fits')}{u32own('m', 'm-fits')}nothing ! $
           use2 W (raw (Ggo 𝓤 H A at-mem run .pre to-go)) (qed W (‵ ftrue ∷ ‵ (owns (u32 ∷ usize ∷ usize ∷ []) (m, (k, (length out, tt))) (vint w32 m ∷ [], (vint w64 k ∷ [], (vint w64 (length out) ∷ [], tt)))) ∷ []) ∵ join ! $ frame ! $ done !) $
@@ -326,30 +363,51 @@ def turn(W, st):
           land ! {put('test')} (bool-lawful 𝓤 H A W .typed y _ isB .0)) $ rewrite ! {L('test')} (λ (u : Val). ‵ (fat fullShare tyBool l{I['test']} 0 u)) (ap only (bool-tells y (v₁ ∷ []) isB)) refl $ drop ! $
 ''')
     W.ctx.pop(0); opened = 6
-    w(f'          tests ! {ld("test")} (λ go-on. let yes-h : (1 ≤ m) × (k + 782 ≤ length out) = yes-y (true-is y go-on) in\n')
+    w(f'          tests ! {ld("test")} (λ go-on. let yes-h : (1 ≤ m) × (k + longestLine ≤ length out) = yes-y (true-is y go-on) in\n')
     save = list(W.ctx)
-    # the record
-    w('          '); W.move('scr'); w('use1 W (‵ scr ⊛ ‵ scr) (shr-slice-copy 𝓤 H A W (named 0) κ u8 .twice sc (sliceVal (b, o) (length ys) ∷ [])) $ split ! $ '); W.head(1, 'scr', 'scr2')
-    w('nothing ! $ ' + u64own('t', 't-fits')); W.push('ow')
-    W.join('scr2', 'ow', 'ow'); w('nothing ! $ '); W.push('tt'); W.join('tk', 'tt', 'al'); W.move('al', 'ow')
+    # the record and its message
     within = '(let q2 : 1 ≤ m = yes-h .0 in omega (arith, f .going .playing .within))'
-    w(f'''
-          use2 W (raw (Grd 𝓤 H A at-mem run .pre to-rd)) (qed W (‵ (fsep (flft κ q) ftrue) ∷ ‵ (fsep scr (fsep (usize .own t (vint w64 t ∷ [])) ftrue)) ∷ []) ∵ says ! {within} $ done !) $
+
+    def reads(nm, v, x, type_, row, rel, said):
+        w('          '); W.move('scr'); w('use1 W (‵ scr ⊛ ‵ scr) (shr-slice-copy 𝓤 H A W (named 0) κ u8 .twice sc (sliceVal (b, o) (length ys) ∷ [])) $ split ! $ '); W.head(1, 'scr', 'scr2')
+        w('nothing ! $ ' + u64own('t', 't-fits')); W.push('ow')
+        W.join('scr2', 'ow', 'ow'); w('nothing ! $ '); W.push('tt'); W.join('tk', 'tt', 'al'); W.move('al', 'ow')
+        w(f'''
+          use2 W (raw (G{nm} 𝓤 H A at-mem run .pre to-{nm})) (qed W (‵ (fsep (flft κ q) ftrue) ∷ ‵ (fsep scr (fsep (usize .own t (vint w64 t ∷ [])) ftrue)) ∷ []) ∵ says ! {within} $ done !) $
 '''); W.head(2, 'pre')
-    w(f'''          calls-at ! fm (Grd 𝓤 H A at-mem run) known-rd to-rd {ands([ld('script'), ld('at')])} (λ v₂.
-          use1 W (later (some (λ (rec : Record). (‵ (fsep (flft κ q) ftrue) ⊛ ‵ (RC.the-row .own rec (v₂ ∷ []))) ⊛ raw (ensured 𝓤 H A rd.ended (rd.clauses 𝓤 H A at-mem run) (κ, tt) (sc, (t, tt)) tt rec)))) (id⊢ 𝓤 _) $ await ! tt $ pick ! (λ rec.
-          split ! $ move ! (1 ∷ []) $ use1 W (some (λ (z : {units(2)}). ‵ ({trues(2)}) ⊛ raw (fact 𝓤 (rec ≡ recordAt ys t)))) (id⊢ 𝓤 _) $ pick ! (λ z₂. split ! $ drop ! $ heard ! (rec ≡ recordAt ys t) (λ rec-is.
-          split ! $ fsplit ! $ move ! (1 ∷ []) $ drop ! $ move ! (1 ∷ []) $ peeks ! RC.the-row (Is RC.the-row) (shows 𝓤 H A RC.the-row) rec (v₂ ∷ []) (λ isR.
-'''); W.head(1, 'own1', 'tk'); close = 5
+        w(f'''          calls-at ! fm (G{nm} 𝓤 H A at-mem run) known-{nm} to-{nm} {ands([ld('script'), ld('at')])} (λ {v}.
+          use1 W (later (some (λ ({x} : {type_}). (‵ (fsep (flft κ q) ftrue) ⊛ ‵ ({row} .own {x} ({v} ∷ []))) ⊛ raw (ensured 𝓤 H A {nm}.ended ({nm}.clauses 𝓤 H A at-mem run) (κ, tt) (sc, (t, tt)) tt {x})))) (id⊢ 𝓤 _) $ await ! tt $ pick ! (λ {x}.
+          split ! $ move ! (1 ∷ []) $ use1 W (some (λ (z : {units(2)}). ‵ ({trues(2)}) ⊛ raw (fact 𝓤 ({x} ≡ {said})))) (id⊢ 𝓤 _) $ pick ! (λ z-{nm}. split ! $ drop ! $ heard ! ({x} ≡ {said}) (λ {x}-is.
+          split ! $ fsplit ! $ move ! (1 ∷ []) $ drop ! $ move ! (1 ∷ []) $ peeks ! {row} (Is {row}) (shows 𝓤 H A {row}) {x} ({v} ∷ []) (λ {rel}.
+'''); W.head(1, 'own1', 'tk')
+        return 5
+    close = reads('rd', 'v₂', 'rec', 'Record', 'RC.the-row', 'isR', 'recordAt ys t')
     recfit = lambda i: '(LL.owed RC.the-type RC′.the-laws rec _ isR ' + path(i) + ' .1)'
     w(f'''          land ! {put('rec')} (LL.lawful RC.the-type RC′.the-laws 𝓤 H A W .typed rec _ isR .0)) $ rewrite ! {L('rec')} (λ (u : Val). ‵ (fat fullShare RC′.mir l{I['rec']} 0 u)) (ap only (LL.tells RC.the-type RC′.the-laws rec _ isR)) refl $ drop ! $
 '''); W.ctx.pop(0)
-    # the step: the wake list is lent, and the state lent on
-    w(f'          assigns ! (addr ! (from ! (hop ! (look ! {L("s")} refl) (stop !)))) {put("sref")} (tt, tt)) $ assigns ! (addr ! (from ! (stop !))) {put("wref")} (tt, tt)) $\n          ')
-    W.move('l%d' % I['wakes']); w(f'use1 W (‵ (mem Q .lies ws {lw} 0)) (array-in u32 32 wval wtells 𝓤 H A W (wmakes 𝓤 H A W) {lw} 0 ws (f .isW)) $ nothing ! $ move ! (1 ∷ 0 ∷ []) $ fjoin ! $ '); W.head(1, 'lie')
+    close += reads('me', 'v₆', 'msg', 'List ℕ', 'Bytes', 'isM₀', 'messageAt ys t')
+    w(f'''          let isM : IsV msg = subst (λ (us : List Val). Is Bytes msg us) (mtells msg (v₆ ∷ []) isM₀) isM₀ in let long : length msg ≡ 64 = isM .1 .0 .1 in
+          land ! {put('read')} (mlawful 𝓤 H A W .typed msg _ isM₀ .0)) $ rewrite ! {L('read')} (λ (u : Val). ‵ (fat fullShare mTy l{I['read']} 0 u)) (ap only (mtells msg (v₆ ∷ []) isM₀)) refl $ drop ! $
+'''); W.ctx.pop(0)
+    w(f"          assigns ! (of-opd ! {ld('read')}) {put('message')} (mlawful 𝓤 H A W .typed msg _ isM .0)) $\n")
+    # the step: the message, the place of the one shown and the wake list are lent, and the state lent on
+    addr = lambda n: f'assigns ! (addr ! (from ! (stop !))) {put(n)} (tt, tt)) $ '
+    w(f'          assigns ! (addr ! (from ! (hop ! (look ! {L("s")} refl) (stop !)))) {put("sref")} (tt, tt)) $ ' + addr('wref') + addr('vref') + addr('mref') + '\n')
+    w(f'''          assigns ! (agg ! {ands([ld('mref'), '(lit ! tt)'])}) {put('mslice')} (tt, (tt, (record {{ fits = lit< tt }}, tt)))) $ rewrite ! {L('mslice')} (λ (i : ℕ). ‵ (fat fullShare slI l{I['mslice']} 0 (sliceVal ({lm}, 0) i))) (sym long) refl $
+          ''')
     w('nothing ! $ ' + ''.join(u32own(f'(rec .{RF[i]})', recfit(i)) for i in reversed(range(7)))); W.push('T')
-    w('nothing ! $ '); W.push('P'); W.move('lie', 'P', 'T')
-    w(f'\n          use3 W (later (some (λ (k : Keys csW). ‵ (tokens csW k ftrue) ⊛ ‵ (refs {lw} csW (ws, tt) k (T0 rec)) ⊛ ‵ (kept {lw} csW k)))) (lends {lw} 𝓤 H A W ftrue (T0 rec) csW (ws, tt)) $ await ! tt $ pick ! (λ kW. split3 ! $\n          '); W.head(3, 'P', 'T', 'keptW'); close += 1
+    w('lft-new ! tt (λ β. '); W.push('tβ'); close += 1
+    W.move(lm); w(f'use1 W (‵ (mem Bytes .lies msg {lm} 0)) (array-in u8 64 mval mtells 𝓤 H A W (mmakes 𝓤 H A W) {lm} 0 msg isM) $\n          use1 W (later (some (λ (γm : GName). ‵ (slice-lent u8 β {lm} 0 msg γm) ⊛ ‵ (slice-kept u8 β {lm} 0 msg)))) (lends-slice u8 β {lm} 0 msg 𝓤 H A W 64 long tt (room-of 64 (length msg) long (lit< tt, lit< tt))) $ await ! tt $ pick ! (λ γm. split ! $\n          '); W.head(1, 'msl', 'keptM'); close += 1
+    W.join('msl', 'T', 'T'); w('nothing ! $ '); W.push('tt'); W.join('tβ', 'tt', 'P')
+
+    def lends(l, cs, xs, key, P, T, kept):
+        W.move('lie', 'P', 'T')
+        w(f'\n          use3 W (later (some (λ (k : Keys {cs}). ‵ (tokens {cs} k ({P})) ⊛ ‵ (refs {l} {cs} ({xs}, tt) k ({T})) ⊛ ‵ (kept {l} {cs} k)))) (lends {l} 𝓤 H A W ({P}) ({T}) {cs} ({xs}, tt)) $ await ! tt $ pick ! (λ {key}. split3 ! $\n          '); W.head(3, 'P', 'T', kept)
+        return 1
+    W.move(lv); w(f'use1 W (‵ (mem Bytes .lies sh {lv} 0)) (array-in u8 64 mval mtells 𝓤 H A W (mmakes 𝓤 H A W) {lv} 0 sh (f .isV)) $ nothing ! $ move ! (1 ∷ 0 ∷ []) $ fjoin ! $ '); W.head(1, 'lie')
+    close += lends(lv, 'csV', 'sh', 'kV', 'P0 rec msg β', 'T1 rec msg β γm', 'keptV')
+    W.move(lw); w(f'use1 W (‵ (mem Q .lies ws {lw} 0)) (array-in u32 32 wval wtells 𝓤 H A W (wmakes 𝓤 H A W) {lw} 0 ws (f .isW)) $ nothing ! $ move ! (1 ∷ 0 ∷ []) $ fjoin ! $ '); W.head(1, 'lie')
+    close += lends(lw, 'csW', 'ws', 'kW', 'P1 rec msg β γm kV', 'T2 rec msg β γm kV', 'keptW')
 
     def lend(e, α, γ):
         w(f'lft-new ! tt (λ {α}. '); W.push('tα'); W.move('own', 'tk2')
@@ -361,19 +419,27 @@ def turn(W, st):
         w(f'use3 W (later (‵ (own {n}) ⊛ ‵ (flft κ₂ q₂))) (comes-back 𝓤 H A W R (named 1) κ₂ ({α} ∷ []) q₂ γ₂ b₂ o₂ {γ} {e} {n}) $ await ! tt $ split ! $\n          '); W.head(3, 'own', 'tk2')
     close += lend('d', 'α', 'γ₃')
     W.join('tα', 'P', 'al'); W.join('lent', 'T', 'ow'); W.move('al', 'ow')
-    pa = 'rec kW α γ₃'
+    pa = 'rec msg β γm kV kW α γ₃'
     w(f'use2 W (raw (Gpf 𝓤 H A at-mem run .pre (to-pf {pa}))) (qed W (‵ (pfA {pa}) ∷ ‵ (pfO {pa}) ∷ []) ∵ join ! $ frame ! $ done !) $\n'); W.head(2, 'pre')
-    w(f'''          calls-at ! fm (Gpf 𝓤 H A at-mem run) known-pf (to-pf {pa}) {ands([ld('sref'), ld('wref')] + [ldf('rec', i) for i in range(7)])} (λ v₃.
+    w(f'''          calls-at ! fm (Gpf 𝓤 H A at-mem run) known-pf (to-pf {pa}) {ands([ld('sref'), ld('wref'), ld('vref'), ld('mslice')] + [ldf('rec', i) for i in range(7)])} (λ v₃.
           use1 W (later (some (λ (r : Outcome). (‵ (pfA {pa}) ⊛ ‵ (O.the-row .own r (v₃ ∷ []))) ⊛ raw (ensured 𝓤 H A pf.ended (pf.clauses 𝓤 H A at-mem run) (to-pf {pa} .0 .0) (to-pf {pa} .0 .3) tt r)))) (id⊢ 𝓤 _) $ await ! tt $ pick ! (λ r.
-          split ! $ move ! (1 ∷ []) $ use1 W (some (λ (z : Z rec). ‵ (pfL {pa} z) ⊛ raw (fact 𝓤 (Said rec z r)))) (id⊢ 𝓤 _) $ pick ! (λ z.
-          split ! $ move ! (1 ∷ []) $ heard ! (Said rec z r) (λ said. move ! (1 ∷ []) $ split ! $ move ! (1 ∷ []) $ peeks ! O.the-row (Is O.the-row) (shows 𝓤 H A O.the-row) r (v₃ ∷ []) (λ isO₀. let isO : IsO r = LL.owes O.the-type O′.the-laws r (LL.owed O.the-type O′.the-laws r _ isO₀) in
+          split ! $ move ! (1 ∷ []) $ use1 W (some (λ (z : Z rec msg). ‵ (pfL {pa} z) ⊛ raw (fact 𝓤 (Said rec msg z r)))) (id⊢ 𝓤 _) $ pick ! (λ z.
+          split ! $ move ! (1 ∷ []) $ heard ! (Said rec msg z r) (λ said. move ! (1 ∷ []) $ split ! $ move ! (1 ∷ []) $ peeks ! O.the-row (Is O.the-row) (shows 𝓤 H A O.the-row) r (v₃ ∷ []) (λ isO₀. let isO : IsO r = LL.owes O.the-type O′.the-laws r (LL.owed O.the-type O′.the-laws r _ isO₀) in
 '''); W.head(1, 'own1', 'al', 'ends'); close += 5
     w(f'''          land ! {put('o')} (LL.lawful O.the-type O′.the-laws 𝓤 H A W .typed r _ isO₀ .0)) $ rewrite ! {L('o')} (λ (u : Val). ‵ (fat fullShare O′.mir l{I['o']} 0 u)) (ap only (LL.tells O.the-type O′.the-laws r _ isO₀)) refl $ drop ! $
           '''); W.ctx.pop(0)
     W.move('al'); w('fsplit ! $ '); W.head(1, 'tα', 'P'); W.move('ends'); w('fsplit ! $ '); W.head(1, 'resS', 'T')
     back('d', '(z .0)', 'α', 'γ₃')
-    W.move('P', 'keptW', 'T'); w(f'use3 W (later (‵ (lie {lw} csW (z .1 .0, tt)) ⊛ ‵ ftrue ⊛ ‵ (L0 rec))) (backs {lw} 𝓤 H A W ftrue (L0 rec) csW (z .1 .0, tt) kW) $ await ! tt $ split3 ! $ fsplit ! $ '); W.head(3, lw, 'tt2', 'tt3', 'tt4')
-    w(f'use1 W (given (IsW (z .1 .0)) (‵ (fat fullShare wTy {lw} 0 (wval (z .1 .0))))) (array-out u32 32 wval wtells 𝓤 H A W (wmakes 𝓤 H A W) {lw} 0 (z .1 .0)) $ learn ! (λ isX.\n'); close += 1
+
+    def backs(l, cs, xs, key, P, T, kept):
+        W.move('P', kept, 'T'); w(f'use3 W (later (‵ (lie {l} {cs} ({xs}, tt)) ⊛ ‵ ({P}) ⊛ ‵ ({T}))) (backs {l} 𝓤 H A W ({P}) ({T}) {cs} ({xs}, tt) {key}) $ await ! tt $ split3 ! $ fsplit ! $ '); W.head(3, l, f'none-{l}', 'P', 'T')
+    backs(lw, 'csW', 'z .1 .0', 'kW', 'P1 rec msg β γm kV', 'lasts csV (z .1 .1 .0, tt) kV (L0 rec msg)', 'keptW')
+    w(f'use1 W (given (IsW (z .1 .0)) (‵ (fat fullShare wTy {lw} 0 (wval (z .1 .0))))) (array-out u32 32 wval wtells 𝓤 H A W (wmakes 𝓤 H A W) {lw} 0 (z .1 .0)) $ learn ! (λ isX.\n          '); close += 1
+    backs(lv, 'csV', 'z .1 .1 .0', 'kV', 'P0 rec msg β', 'L0 rec msg', 'keptV')
+    w(f'use1 W (given (IsV (z .1 .1 .0)) (‵ (fat fullShare mTy {lv} 0 (mval (z .1 .1 .0))))) (array-out u8 64 mval mtells 𝓤 H A W (mmakes 𝓤 H A W) {lv} 0 (z .1 .1 .0)) $ learn ! (λ isY.\n          '); close += 1
+    W.ctx[W.at('T')] = 'tt2'
+    W.move('P'); w('fsplit ! $ '); W.head(1, 'tβ', 'tt3'); w('lft-end ! tt $ '); W.head(1, 'dead'); W.move('dead', 'keptM')
+    w(f'use2 W (later (‵ (mem Bytes .lies msg {lm} 0))) (slice-back u8 β {lm} 0 msg 𝓤 H A W 64 long) $ await ! tt $ use1 W (given (IsV msg) (‵ (fat fullShare mTy {lm} 0 (mval msg)))) (array-out u8 64 mval mtells 𝓤 H A W (mmakes 𝓤 H A W) {lm} 0 msg) $ learn ! (λ isM₂.\n'); W.head(2, lm); close += 1
     # who runs
     w(f'          assigns ! (addr ! (from ! (hop ! (look ! {L("s")} refl) (stop !)))) {put("uref")} (tt, tt)) $\n          ')
     close += lend('(z .0)', 'β', 'γ₄')
@@ -406,7 +472,7 @@ def turn(W, st):
     W.join('sl', 'T', 'ow'); W.move('al', 'ow')
     pa = 'r (z .1 .0) id δ γ₅ kV'
     w(f'''
-          use2 W (raw (Gpu 𝓤 H A at-mem run .pre (to-pu {pa}))) (qed W (‵ (puA {pa}) ∷ ‵ (puO {pa}) ∷ []) ∵ says ! (yes-h .1, few rec (z .0) (z .1 .0) r rec-is said) $ done !) $
+          use2 W (raw (Gpu 𝓤 H A at-mem run .pre (to-pu {pa}))) (qed W (‵ (puA {pa}) ∷ ‵ (puO {pa}) ∷ []) ∵ says ! (yes-h .1, few rec msg z r rec-is msg-is said) $ done !) $
 '''); W.head(2, 'pre')
     w(f'''          calls-at ! fm (Gpu 𝓤 H A at-mem run) known-pu (to-pu {pa}) {ands([ld('lslice'), ld('k'), ld('number'), ld('o'), ld('wshr'), ld('id')])} (λ v₅.
           use1 W (later (some (λ (wr : ℕ). (‵ (puA {pa}) ⊛ ‵ (usize .own wr (v₅ ∷ []))) ⊛ raw (ensured 𝓤 H A pu.ended (pu.clauses 𝓤 H A at-mem run) (to-pu {pa} .0 .0) (to-pu {pa} .0 .3) tt wr)))) (id⊢ 𝓤 _) $ await ! tt $ pick ! (λ wr.
@@ -428,17 +494,17 @@ def turn(W, st):
     w(f'''          assigns ! (bin ! {ld('more')} (lit ! tt) (yes-h .0)) (from ! (stop !)) (store ! {L('more')} refl (tt, record {{ fits = {m1} }})) $
           assigns ! (bin ! {ld('number')} (lit ! tt) (record {{ fits = {n1} }})) (from ! (stop !)) (store ! {L('number')} refl (tt, record {{ fits = {n1} }})) $
           assigns-last ! (bin ! {ld('at')} (lit ! tt) (record {{ fits = {t1} }})) (from ! (stop !)) (store ! {L('at')} refl (tt, record {{ fits = {t1} }})) $
-          ''' + ''.join(f'forget ! {L(i)} refl $ ' for i in 'rec o id test len sref wref uref lref lslice wshr'.split()) + '\n          ')
+          ''' + ''.join(f'forget ! {L(i)} refl $ ' for i in 'rec message o id test len read sref wref vref mref mslice uref lref lslice wshr'.split()) + '\n          ')
     w('keep ! (' + ' ∷ '.join(str(W.at(x)) for x in st) + ' ∷ []) $ ')
-    w('by ! (next (z .0) (z .1 .0) wr (y₅ .0) (yes-h .0) (after-line rec (z .0) (z .1 .0) r id wr (y₅ .0) (yes-h .0) (yes-h .1) rec-is said (who .0) line longs isX))' + ')' * close + ')\n')
+    w('by ! (next (z .0) (z .1 .0) (z .1 .1 .0) wr (y₅ .0) (yes-h .0) (after-line rec msg z r id wr (y₅ .0) (yes-h .0) (yes-h .1) rec-is msg-is said (who .0) line longs isX isY))' + ')' * close + ')\n')
     # no more
     W.ctx = save
-    w('          (λ no-more-y. let no-h : 1 ≤ m → length out < k + 782 = no-y (false-is y no-more-y) in exec ! C Λ En code.Mir.t-7 (atRet En Post) $\n')
+    w('          (λ no-more-y. let no-h : 1 ≤ m → length out < k + longestLine = no-y (false-is y no-more-y) in exec ! C Λ En code.Mir.t-8 (atRet En Post) $\n')
     w(f'''          assigns ! (agg ! {ands([ld('more'), ld('number'), ld('at')])}) {put('q')} (LL.lawful PL.the-type PL′.the-laws 𝓤 H A W .typed (pl m n t) _ isQ .0)) $
 ''')
     w(f'''          assigns ! (agg ! {ands([ld('q'), ld('k')])}) {put('res')} (LL.lawful PT.the-type PT′.the-laws 𝓤 H A W .typed res _ isT .0)) $
           returns ! (look ! {L('res')} refl) $ ''')
-    W.leave(N, [I[x] for x in 'res script s p lines wakes more number at k q test len'.split()])
+    W.leave(N, [I[x] for x in 'res script s p lines wakes shown more number at k q test len'.split()])
     assert W.ctx == ['tk', 'tk2', 'tk1', 'scr', 'own', 'obs', 'bor'], W.ctx
     w('by ! (exits res d out isT (f .going .same) (going-done ys (pointAt d₀ p) zs out (pt d m n t) k (reached d res) (f .going) no-h refl refl)))' + ')' * opened + '\n\n')
 
@@ -446,7 +512,7 @@ def turn(W, st):
 def rounds(W, st):
     w = W.w
     L = lambda n: W.L(I[n]); ldf = lambda n, k: W.ldf(I[n], k)
-    va = '(v .0) (v .1 .0) (v .1 .1 .0) (v .1 .1 .1 .0) (v .1 .1 .1 .1 .0) (v .1 .1 .1 .1 .1 .0) (v .1 .1 .1 .1 .1 .1)'
+    va = TURN_AT
     kv = ' '.join(f'known-{c[0]}' for c in CALL)
     w(f'''    below : (u : ℕ) (v : Vs) → Ok u v → ent 𝓤 (⋆ 𝓤 H A (At {va})) (Inv u)
     below u v f = via 𝓤 (guard 𝓤 (Ok u v) (⋆ 𝓤 H A (At {va}))) (guardI 𝓤 (Ok u v) (⋆ 𝓤 H A (At {va})) f) (exI 𝓤 (λ (v : Vs). guard 𝓤 (Ok u v) (⋆ 𝓤 H A (At {va}))) v)
@@ -459,10 +525,10 @@ def rounds(W, st):
 
     turns : (u : ℕ) → ent 𝓤 (Inv u) (Wp 𝓤 H C Λ En code.Mir.turn-1 (afterTurn 𝓤 H (Below u) Left))
     turns u = exE 𝓤 (λ (v : Vs). guard 𝓤 (Ok u v) (⋆ 𝓤 H A (At {va}))) (λ v. guardE 𝓤 (Ok u v) (⋆ 𝓤 H A (At {va})) (λ f.
-        turn {va} (f .1) (Below u) (λ e xs wr nu left-some g. via 𝓤 (Inv (v .1 .1 .0 - 1)) (below (v .1 .1 .0 - 1) (e, (xs, (v .1 .1 .0 - 1, (v .1 .1 .1 .0 + 1, (v .1 .1 .1 .1 .0 + 28, (wr, nu)))))) (refl, g)) (lower u (v .1 .1 .0 - 1) (less u (v .1 .1 .0) (f .0) left-some)))))
+        turn {va} (f .1) (Below u) (λ e xs vs wr nu left-some g. via 𝓤 (Inv ({LEFT} - 1)) (below ({LEFT} - 1) (e, (xs, (vs, ({LEFT} - 1, ({turn_at(4)} + 1, ({turn_at(5)} + 28, (wr, nu))))))) (refl, g)) (lower u ({LEFT} - 1) (less u ({LEFT}) (f .0) left-some)))))
 
-    loops : (ws : List ℕ) → Facts d₀ ws (p .left) (p .number) (p .at) 0 zs → ent 𝓤 (⋆ 𝓤 H A (At d₀ ws (p .left) (p .number) (p .at) 0 zs)) (Wp 𝓤 H C Λ En (loop code.Mir.turn-1) Left)
-    loops ws f = via 𝓤 (Inv (p .left)) (below (p .left) (d₀, (ws, (p .left, (p .number, (p .at, (0, zs)))))) (refl, f)) (loop-rule 𝓤 H (W .laws) 𝓣 _<_ (Nat·lt-wfRel .wf) En code.Mir.turn-1 Left Inv turns (p .left))
+    loops : (ws sh : List ℕ) → Facts d₀ ws sh (p .left) (p .number) (p .at) 0 zs → ent 𝓤 (⋆ 𝓤 H A (At d₀ ws sh (p .left) (p .number) (p .at) 0 zs)) (Wp 𝓤 H C Λ En (loop code.Mir.turn-1) Left)
+    loops ws sh f = via 𝓤 (Inv (p .left)) (below (p .left) (d₀, (ws, (sh, (p .left, (p .number, (p .at, (0, zs))))))) (refl, f)) (loop-rule 𝓤 H (W .laws) 𝓣 _<_ (Nat·lt-wfRel .wf) En code.Mir.turn-1 Left Inv turns (p .left))
 
 ''')
     W.entered(N, 'al', 'ow')
@@ -475,6 +541,7 @@ def rounds(W, st):
       qed W (‵ (fsep (flft κ q) (fsep (flft κ₂ q₂) (fsep (flft κ₁ q₁) ftrue))) ∷ ‵ (owns (ShrSlice (named 0) κ u8 ∷ MutRef (named 1) κ₂ R ∷ PL.the-row ∷ MutSlice (named 2) κ₁ u8 ∷ []) a vals) ∷ []) ∵ enter ! (𝓣 .C) (𝓣 .Λ) code.function ({flat}) _ $
       {''.join(f'alloc1 ! (λ l{i}. ' for i in range(N))}alloc0 ! $ params1 ! $ pass1 ! (init ! {L('script')} refl (tt, (tt, (record {{ fits = gy .0 }}, tt)))) $ pass1 ! (init ! {L('s')} refl (tt, tt)) $ pass1 ! (init ! {L('p')} refl (LL.lawful PL.the-type PL′.the-laws 𝓤 H A W .typed p _ isP .0)) $ pass1 ! (init ! {L('lines')} refl (tt, (tt, (record {{ fits = gz .0 }}, tt)))) $ pass0 ! $
       assigns ! (rep ! 32 (lit ! tt)) {put('wakes')} (wlawful 𝓤 H A W .typed nulls _ isNulls .0)) $
+      assigns ! (rep ! 64 (lit ! tt)) {put('shown')} (mlawful 𝓤 H A W .typed blanks _ isBlanks .0)) $
       assigns ! (of-opd ! {ldf('p', 0)}) {put('more')} (tt, record {{ fits = {owed} .0 .1 }})) $
       assigns ! (of-opd ! {ldf('p', 1)}) {put('number')} (tt, record {{ fits = {owed} .1 .0 .1 }})) $
       assigns ! (of-opd ! {ldf('p', 2)}) {put('at')} (tt, record {{ fits = {owed} .1 .1 .0 .1 }})) $
@@ -482,7 +549,7 @@ def rounds(W, st):
       ''')
     W.move('al'); w('fsplit ! $ '); W.head(1, 'tk', 'x'); W.move('x'); w('fsplit ! $ '); W.head(1, 'tk2', 'x'); W.move('x'); w('fsplit ! $ '); W.head(1, 'tk1', 't1')
     W.move('ow'); w('fsplit ! $ '); W.head(1, 'scr', 'y'); W.move('y'); w('fsplit ! $ '); W.head(1, 'own', 'y'); W.move('y'); w('fsplit ! $ '); W.head(1, 'pp', 'y'); W.move('y'); w('fsplit ! $ '); W.head(1, 'sl', 't2'); w('fsplit ! $ '); W.head(1, 'ats', 'ob'); W.move('ob'); w('fsplit ! $ '); W.head(1, 'obs', 'bor')
-    w('\n      keep ! (' + ' ∷ '.join(str(W.at(x)) for x in st) + f' ∷ []) $ by ! (loops 𝓣 fm {kv} {LS} nulls (record {{ isW = isNulls; going = going-first ys (pointAt d₀ p) zs req }}))' + ')' * N + '\n')
+    w('\n      keep ! (' + ' ∷ '.join(str(W.at(x)) for x in st) + f' ∷ []) $ by ! (loops 𝓣 fm {kv} {LS} nulls blanks (record {{ isW = isNulls; isV = isBlanks; going = going-first ys (pointAt d₀ p) zs req }}))' + ')' * N + '\n')
 
 
 def walk():

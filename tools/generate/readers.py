@@ -21,7 +21,7 @@ def source():
             o += '    let running = s.running;\n'
             lent.append('running')
         line = f'    {r["crate"]}::{r["callee"]}({", ".join(lent)})\n'
-        o += line if len(lent) < 3 else f'    {r["crate"]}::{r["callee"]}(\n' + ''.join(f'        {x},\n' for x in lent) + '    )\n'
+        o += line if len(', '.join(lent)) <= 60 else f'    {r["crate"]}::{r["callee"]}(\n' + ''.join(f'        {x},\n' for x in lent) + '    )\n'
         o += '}\n'
     return o
 
@@ -84,7 +84,7 @@ use Rattle.{CRATE}.proofs.Lending.{{Col, Keys, With, columns, lfts, who
 use Rattle.{CRATE}.proofs.Columns.{{{names}}}
 use Rattle.{crate}.proofs.{callee} as inner
 use Rattle.{crate}.proofs.{callee}.Symbol as inner-def
-use Rattle.{crate}.proofs.{callee}.Symbol.{{name as #{sym}}}
+use Rattle.{crate}.proofs.{callee}.Symbol.{{name as #inner}}
 use Rattle.{crate}.proofs.{callee}.Met as inner-thm
 use Rattle.{CRATE}.proofs.{n}.Key.{{name as #{CRATE}·{n}}}
 use Rattle.{CRATE}.proofs.{n} as outer
@@ -179,7 +179,7 @@ is-so : (d : State) (r : {D}) → Said d r → r ≡ {r["is"].format("d")}
       says ! (is-so d r said, refl) $ move ! (2 ∷ 3 ∷ []) $ join ! $ frame ! $ move ! (2 ∷ []) $ drop ! $
       nothing ! $ move ! (1 ∷ 2 ∷ []) $ feqI ! (List Val) (vptr b o ∷ []) (vptr b o ∷ []) refl $ fjoin3 ! $ fjoin ! $ done !
 
-  module _ (C : Calls 𝓤 H) (Λ : Loops 𝓤 H) (fm : FmC 𝓤 H (W .laws) C) (known : Triple 𝓤 (C #{sym}) (Inner 𝓤 H A at-mem run)) where
+  module _ (C : Calls 𝓤 H) (Λ : Loops 𝓤 H) (fm : FmC 𝓤 H (W .laws) C) (known : Triple 𝓤 (C #inner) (Inner 𝓤 H A at-mem run)) where
     walk : ent 𝓤 (onEntry 𝓤 H A outer.signature (κ, tt) (q, tt) a vals) (WpFn 𝓤 H C Λ code.function flatly Post)
     walk =
         qed W ((‵ (flft κ q) ⊛ ‵ ftrue) ∷ ‵ (owns (MutRef (named 0) κ R ∷ []) a vals) ∷ []) ∵ enter ! C Λ code.function flatly _ $
@@ -254,11 +254,11 @@ is-so : (d : State) (r : {D}) → Said d r → r ≡ {r["is"].format("d")}
     dash = n.replace('_', '-')
     w(f'''
 module _ {{M : Type 1}} (𝓤 : URA M) (H : Heap 𝓤) (A : Atoms 𝓤) (W : Given 𝓤 H A) (mem : Memory → SProp 𝓤) (run : Routine → Fun 𝓤) where
-  {dash}-walks : (C : Calls 𝓤 H) (Λ : Loops 𝓤 H) → FmC 𝓤 H (W .laws) C → Triple 𝓤 (C #{sym}) (Inner 𝓤 H A mem run) → Walks 𝓤 H A outer.ended stayed (WpFn 𝓤 H C Λ code.function) (outer.clauses 𝓤 H A mem run)
+  {dash}-walks : (C : Calls 𝓤 H) (Λ : Loops 𝓤 H) → FmC 𝓤 H (W .laws) C → Triple 𝓤 (C #inner) (Inner 𝓤 H A mem run) → Walks 𝓤 H A outer.ended stayed (WpFn 𝓤 H C Λ code.function) (outer.clauses 𝓤 H A mem run)
   {dash}-walks C Λ fm known = walked 𝓤 H A outer.ended stayed (outer.clauses 𝓤 H A mem run) (WpFn 𝓤 H C Λ code.function) (λ κs. (ptr-vals, tt)) (λ κs. (mut-tells (named 0) (κs .0) S.the-row, tt))
       (λ κs qs bounds a _ are. via 𝓤 _ (fst∗ 𝓤 _ (emp 𝓤)) (walk 𝓤 H A W mem run (κs .0) (qs .0) (a .0 .ptr .0) (a .0 .ptr .1) (a .0 .name) (a .0 .now) C Λ fm known))
 
-{dash}-meets : {{M : Type 1}} (𝓤 : URA M) (H : Heap 𝓤) (A : Atoms 𝓤) → Given 𝓤 H A → (mem : Memory → SProp 𝓤) (run : Routine → Fun 𝓤) (𝓣 : Tables 𝓤 H) → Triple 𝓤 (𝓣 .C #{sym}) (Inner 𝓤 H A mem run)
+{dash}-meets : {{M : Type 1}} (𝓤 : URA M) (H : Heap 𝓤) (A : Atoms 𝓤) → Given 𝓤 H A → (mem : Memory → SProp 𝓤) (run : Routine → Fun 𝓤) (𝓣 : Tables 𝓤 H) → Triple 𝓤 (𝓣 .C #inner) (Inner 𝓤 H A mem run)
     → Meets 𝓤 H A outer.signature (WpFn 𝓤 H (𝓣 .C) (𝓣 .Λ) code.function) (outer.spec 𝓤 H A mem run)
 {dash}-meets 𝓤 H A W mem run 𝓣 known =
     walk-meets 𝓤 H A outer.ended stayed W (goes-ref 𝓤 H A W 1 0 tt (plain (λ _. S.the-row)), tt) (outer.clauses 𝓤 H A mem run)
@@ -270,7 +270,7 @@ unfolding code.routine tablesOf
     entered 𝓤 H (tripleOf 𝓤 H (𝓖 .A) outer.signature (outer.spec 𝓤 H (𝓖 .A) (𝓜 .mem) (𝓡 .run)))
     (tables 𝓤 H 𝓜 𝓡 code.env .C) (tables 𝓤 H 𝓜 𝓡 code.env .Λ) #{CRATE}·{n} code.function (code.unfolded 𝓤 H 𝓜 𝓡)
     ({dash}-meets 𝓤 H (𝓖 .A) (givenOf 𝓤 H 𝓜 𝓖) (𝓜 .mem) (𝓡 .run) (tablesOf 𝓤 H 𝓜 (tables 𝓤 H 𝓜 𝓡 code.env))
-    (cited 𝓤 H (Inner 𝓤 H (𝓖 .A) (𝓜 .mem) (𝓡 .run)) 𝓜 𝓡 code.env #{sym} inner-def.routine code.calls-{sym.replace("_", "-")} (inner-thm.met 𝓤 H 𝓜 𝓖 𝓡)))
+    (cited 𝓤 H (Inner 𝓤 H (𝓖 .A) (𝓜 .mem) (𝓡 .run)) 𝓜 𝓡 code.env #inner inner-def.routine code.calls-{sym.replace("_", "-")} (inner-thm.met 𝓤 H 𝓜 𝓖 𝓡)))
 ''')
     return ''.join(W.out)
 

@@ -5,16 +5,19 @@ TABLES = [
     ('K', 'Tasks', 'tasks', 32, [('name', 4), ('serial', 2), ('live', 0), ('started', 0), ('suspended', 0), ('priority', 1)]),
     ('Q', 'Semaphores', 'semaphores', 16, [('name', 4), ('serial', 2), ('units', 2), ('live', 0), ('fifo', 0)]),
     ('P', 'Pools', 'pools', 8, [('out', 8), ('name', 4), ('address', 4), ('length', 4), ('size', 4), ('serial', 2), ('live', 0), ('forced', 0), ('place', 1)]),
-    ('U', 'Queues', 'queues', 8, [('name', 4), ('serial', 2), ('live', 0), ('fifo', 0), ('limits', 1), ('held', 1)]),
+    ('U', 'Queues', 'queues', 8, [('name', 4), ('serial', 2), ('live', 0), ('fifo', 0), ('limits', 1), ('held', 1), ('cells', 1)]),
 ]
 # A column that does not have one place for each slot: table, column, length.
-LENGTHS = {('L', 'rings'): 1, ('P', 'place'): 512, ('U', 'limits'): 16}
+LENGTHS = {('L', 'rings'): 1, ('P', 'place'): 512, ('U', 'limits'): 16, ('U', 'cells'): 8320}
 # A chapter: its calls in words, their crate, their numbers (tools/calls.tsv names them); the last chapter also answers the numbers that no call has.
 CALLS = {
     'tick': ('tick', 'ticks', range(0, 1)),
     'task': ('task call', 'tasks', range(1, 8)),
     'sem': ('semaphore call', 'semaphores', range(8, 14)),
     'pool': ('pool call', 'pools', range(14, 20)),
+    'queue': ('queue call', 'queues', range(20, 23)),
+    'send': ('send', 'queues', range(23, 25)),
+    'receive': ('receive', 'queues', range(25, 27)),
 }
 # name, what the promise is stated with, what is lent in order (table, 'mut' or 'shr', columns or None for all)
 WAKING = ['serial', 'suspended', 'priority']
@@ -23,6 +26,9 @@ LENT = [
     ('task', 'lentTasks', [('L', 'mut', None), ('K', 'mut', None)]),
     ('sem', 'lentSemaphores', [('L', 'mut', None), ('K', 'shr', WAKING), ('Q', 'mut', None)]),
     ('pool', 'lentPools', [('P', 'mut', None)]),
+    ('queue', 'lentQueues', [('L', 'mut', None), ('K', 'shr', WAKING), ('U', 'mut', None)]),
+    ('send', 'lentQueues', [('L', 'mut', None), ('K', 'shr', WAKING), ('U', 'mut', ['serial', 'live', 'limits', 'held', 'cells'])]),
+    ('receive', 'lentQueues', [('L', 'mut', None), ('K', 'shr', ['priority']), ('U', 'mut', ['serial', 'live', 'fifo', 'held', 'cells'])]),
 ]
 # The readers: what is lent them is only read, so all of it is lent shared. `said` is what the callee ensures of the state d, `{}` in it
 # the columns lent; `is` is what the reader promises of the state `{}`.
@@ -46,13 +52,23 @@ READERS = [
      'crate': 'rules', 'callee': 'sems_right', 'lent': [('Q', 'shr', None)], 'running': False,
      'said': 'r ≡ semsRight (d .semaphores)', 'unfolding': '', 'so': 'said', 'uses': 'use Rattle.scope.specs.Rules.{semsRight}\n'},
     {'name': 'queues_right', 'head': "Whether it keeps the queues' rule.", 'type': 'bool', 'is': 'queuesRight ({} .queues)',
-     'crate': 'rules', 'callee': 'queues_right', 'lent': [('U', 'shr', None)], 'running': False,
-     'said': 'r ≡ queuesRight (d .queues)', 'unfolding': '', 'so': 'said', 'uses': 'use Rattle.scope.specs.Rules.{queuesRight}\n'},
+     'crate': 'rules', 'callee': 'queues_right', 'lent': [('U', 'shr', ['name', 'serial', 'live', 'fifo', 'limits', 'held'])], 'running': False,
+     'said': '(cells : List ℕ) → r ≡ queuesRight (queuesOf {} cells)', 'unfolding': '', 'so': 'said (d .queues .cells)',
+     'uses': 'use Rattle.scope.specs.Rules.{queuesRight}\nuse Rattle.answers.specs.Columns.{queuesOf}\n'},
+    {'name': 'messages_right', 'head': 'Whether the messages held are in their one form.', 'type': 'bool', 'is': 'messagesRight ({} .queues)',
+     'crate': 'messages', 'callee': 'all_in_form', 'lent': [('U', 'shr', ['limits', 'held', 'cells'])], 'running': False,
+     'said': 'r ≡ storeRight (storeOf (d .queues)) (d .queues .limits)', 'unfolding': 'messagesRight', 'so': 'said',
+     'uses': 'use Rattle.scope.specs.Rules.{messagesRight}\nuse Rattle.scope.specs.Messages.{storeRight}\nuse Rattle.scope.specs.Queues.{storeOf}\n'},
     {'name': 'pools_kept', 'head': "Whether it keeps the pools' rules.", 'type': 'bool', 'is': 'poolsKept ({} .pools)',
      'crate': 'rules', 'callee': 'pools_kept', 'lent': [('P', 'shr', None)], 'running': False,
      'said': 'r ≡ poolsKept (d .pools)', 'unfolding': '', 'so': 'said', 'uses': 'use Rattle.rules.specs.Lent.{poolsKept}\n'},
 ]
 LAST = LENT[-1][0]
+# What a call may be lent beside columns, in order, and its type.
+BESIDE = {'wakes': '&mut [u32; 32]', 'shown': '&mut [u8; 64]', 'message': '&[u8]'}
+# The chapters that can show a message, and the one that is lent a message.
+SHOWS = ['send', 'receive']
+SENDS = ['send']
 
 # what a chapter requires of the call that it is asked
 def required(name, call='call'):
@@ -63,6 +79,10 @@ def required(name, call='call'):
         return f'{call} ≡ {numbers[0]}'
     return f'({numbers[0]} ≤ {call}) × ({call} < {numbers[-1] + 1})'
 
+# and of all that it is lent: the place of a message shown is blank
+def asks(name, call='call'):
+    return f'({required(name, call)}) × (now shown ≡ noMessage)' if name in SHOWS else required(name, call)
+
 # a chapter's calls in words, one of them
 def head(name):
     words, _, numbers = CALLS[name]
@@ -72,7 +92,7 @@ def head(name):
 def home(name):
     return f'{name}_chapter'
 
-CHAPTERS = [(name, lent, segs, required(name)) for name, lent, segs in LENT]
+CHAPTERS = [(name, lent, segs, asks(name)) for name, lent, segs in LENT]
 NUMS = ['call', 'mark', 'a', 'b', 'c', 'd', 'e']
 
 def table(g):

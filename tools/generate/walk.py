@@ -14,8 +14,9 @@ class Walk:
         self.move(a, b); self.w('fjoin ! $ '); self.head(2, n)
 
 
-# `lending::runner(&mut s)` where the local l{s} holds the state `z .0`: its ghost argument, and the walk of the call, which passes the
-# local l{ref}, puts the identifier `id` into the local l{to} and leaves `who`, what is known of it. Answers how many brackets it opens.
+# `lending::runner(&mut s)` where the local l{s} holds the state d, which is one by `is_`: its ghost argument, and the walk of the call,
+# which passes the local l{ref}, puts the identifier `id` into the local l{to} and leaves `who`, what is known of it. Answers how many
+# brackets it opens.
 def runner_ghost(s):
     return f'''      abbrev to-ru : Keys csS → State → Gru 𝓤 H A at-mem run .Ghost
       to-ru k e = (((k .0 .0 ∷ [], tt), (fullShare, tt), tt, (record {{ ptr = (l{s}, 0); name = k .0 .1; now = e }}, tt), (vptr l{s} 0 ∷ [], tt)), tt)
@@ -24,24 +25,24 @@ def runner_ghost(s):
       goes-ru k e = qed W (‵ (tokens csS k ftrue) ∷ ‵ (refs l{s} csS (e, tt) k ftrue) ∷ []) ∵ join ! $ frame ! $ done !
 '''
 
-def runner_walk(W, s, ref, to):
-    w = W.w
+def runner_walk(W, s, ref, to, d='(z .0)', is_='isE'):
+    w = W.w; e = d.strip('()')
     L = lambda i: W.at(f'l{i}')
     w(f'          assigns ! (addr ! (from ! (stop !))) (from ! (stop !)) (init ! {L(ref)} refl (tt, tt)) $\n          ')
-    W.move(f'l{s}'); w(f'use1 W (‵ (mem R .lies (z .0) l{s} 0)) (local-in S.the-type S′.the-laws S′.the-plain 𝓤 H A W l{s} 0 (z .0) isE) $ nothing ! $ move ! (1 ∷ 0 ∷ []) $ fjoin ! $ nothing ! $ nothing ! $ '); W.head(1, 'P', 'T', 'lie')
+    W.move(f'l{s}'); w(f'use1 W (‵ (mem R .lies {d} l{s} 0)) (local-in S.the-type S′.the-laws S′.the-plain 𝓤 H A W l{s} 0 {d} {is_}) $ nothing ! $ move ! (1 ∷ 0 ∷ []) $ fjoin ! $ nothing ! $ nothing ! $ '); W.head(1, 'P', 'T', 'lie')
     W.move('lie', 'P', 'T')
-    w(f'\n          use3 W (later (some (λ (k : Keys csS). ‵ (tokens csS k ftrue) ⊛ ‵ (refs l{s} csS (z .0, tt) k ftrue) ⊛ ‵ (kept l{s} csS k)))) (lends l{s} 𝓤 H A W ftrue ftrue csS (z .0, tt)) $ await ! tt $ pick ! (λ kR. split3 ! $\n'); W.head(3, 'P', 'T', 'keptS')
-    w('          use2 W (raw (Gru 𝓤 H A at-mem run .pre (to-ru kR (z .0)))) (goes-ru kR (z .0)) $\n'); W.head(2, 'pre')
-    is_ = '((id ≡ runningTask (z .0)) × (z₅ .0 ≡ z .0))'
-    w(f'''          calls-at ! fm (Gru 𝓤 H A at-mem run) known-ru (to-ru kR (z .0)) (and-then ! (load ! (from ! (stop !)) (look ! {L(ref)} refl)) (no-more !)) (λ v₄.
-          use1 W (later (some (λ (id : ℕ). (‵ (tokens csS kR ftrue) ⊛ ‵ (u32 .own id (v₄ ∷ []))) ⊛ raw (ensured 𝓤 H A ru.ended (ru.clauses 𝓤 H A at-mem run) (to-ru kR (z .0) .0 .0) (to-ru kR (z .0) .0 .3) tt id)))) (id⊢ 𝓤 _) $ await ! tt $ pick ! (λ id.
-          split ! $ move ! (1 ∷ []) $ use1 W (some (λ (z₅ : State × Unit {{0}}). ‵ (lasts csS (z₅ .0, tt) kR ftrue) ⊛ raw (fact 𝓤 {is_}))) (id⊢ 𝓤 _) $ pick ! (λ z₅.
-          split ! $ move ! (1 ∷ []) $ heard ! {is_} (λ who. rewrite ! 0 (λ (x : State). ‵ (lasts csS (x, tt) kR ftrue)) (who .1) refl $ move ! (1 ∷ []) $ split ! $ move ! (1 ∷ []) $ peeks ! u32 (Is u32) (shows 𝓤 H A u32) id (v₄ ∷ []) (λ isI.
+    w(f'\n          use3 W (later (some (λ (k : Keys csS). ‵ (tokens csS k ftrue) ⊛ ‵ (refs l{s} csS ({e}, tt) k ftrue) ⊛ ‵ (kept l{s} csS k)))) (lends l{s} 𝓤 H A W ftrue ftrue csS ({e}, tt)) $ await ! tt $ pick ! (λ kR. split3 ! $\n'); W.head(3, 'P', 'T', 'keptS')
+    w(f'          use2 W (raw (Gru 𝓤 H A at-mem run .pre (to-ru kR {d}))) (goes-ru kR {d}) $\n'); W.head(2, 'pre')
+    said = f'((id ≡ runningTask {d}) × (z₅ .0 ≡ {e}))'
+    w(f'''          calls-at ! fm (Gru 𝓤 H A at-mem run) known-ru (to-ru kR {d}) (and-then ! (load ! (from ! (stop !)) (look ! {L(ref)} refl)) (no-more !)) (λ v₄.
+          use1 W (later (some (λ (id : ℕ). (‵ (tokens csS kR ftrue) ⊛ ‵ (u32 .own id (v₄ ∷ []))) ⊛ raw (ensured 𝓤 H A ru.ended (ru.clauses 𝓤 H A at-mem run) (to-ru kR {d} .0 .0) (to-ru kR {d} .0 .3) tt id)))) (id⊢ 𝓤 _) $ await ! tt $ pick ! (λ id.
+          split ! $ move ! (1 ∷ []) $ use1 W (some (λ (z₅ : State × Unit {{0}}). ‵ (lasts csS (z₅ .0, tt) kR ftrue) ⊛ raw (fact 𝓤 {said}))) (id⊢ 𝓤 _) $ pick ! (λ z₅.
+          split ! $ move ! (1 ∷ []) $ heard ! {said} (λ who. rewrite ! 0 (λ (x : State). ‵ (lasts csS (x, tt) kR ftrue)) (who .1) refl $ move ! (1 ∷ []) $ split ! $ move ! (1 ∷ []) $ peeks ! u32 (Is u32) (shows 𝓤 H A u32) id (v₄ ∷ []) (λ isI.
 '''); W.head(1, 'own', 'P', 'T')
     w(f'''          land ! (from ! (stop !)) (init ! {L(to)} refl (uint-lawful 𝓤 H A W w32 .typed id _ isI .0)) $ rewrite ! {L(to)} (λ (u : Val). ‵ (fat fullShare num l{to} 0 u)) (ap only (uint-tells w32 id (v₄ ∷ []) isI)) refl $ drop ! $
           '''); W.ctx.pop(0)
-    W.move('P', 'keptS', 'T'); w(f'use3 W (later (‵ (lie l{s} csS (z .0, tt)) ⊛ ‵ ftrue ⊛ ‵ ftrue)) (backs l{s} 𝓤 H A W ftrue ftrue csS (z .0, tt) kR) $ await ! tt $ split3 ! $ fsplit ! $ '); W.head(3, f'l{s}', 'ttA', 'ttB', 'ttC')
-    w(f'\n          use1 W (given (IsS (z .0)) (‵ (fat fullShare stTy l{s} 0 (val (z .0))))) (local-out S.the-type S′.the-laws S′.the-plain 𝓤 H A W l{s} 0 (z .0)) $ learn ! (λ isE₂.\n')
+    W.move('P', 'keptS', 'T'); w(f'use3 W (later (‵ (lie l{s} csS ({e}, tt)) ⊛ ‵ ftrue ⊛ ‵ ftrue)) (backs l{s} 𝓤 H A W ftrue ftrue csS ({e}, tt) kR) $ await ! tt $ split3 ! $ fsplit ! $ '); W.head(3, f'l{s}', 'ttA', 'ttB', 'ttC')
+    w(f'\n          use1 W (given (IsS {d}) (‵ (fat fullShare stTy l{s} 0 (val {d})))) (local-out S.the-type S′.the-laws S′.the-plain 𝓤 H A W l{s} 0 {d}) $ learn ! (λ isE₂.\n')
     return 7
 
 # A reader of the state, `f(&mut *s)`, inside a walk that has opened the borrow l1 of the state: `lies` is the state d at (b, o), and

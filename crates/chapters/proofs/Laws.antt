@@ -8,6 +8,7 @@ use mathlib.Core.Logic.{⊎-elim}
 use borrow.Author.Tests.{le-leb}
 use Rattle.laws.proofs.Branches.{picked-yes, lt-or-le}
 use mathlib.Core.Bool.{true, false}
+use mathlib.Core.List.{List}
 use lib.Dec.{eqb}
 use borrow.Author.Tests.{eq-eqb, ne-eqb}
 use Rattle.scope.specs.declared.State.{State}
@@ -31,19 +32,19 @@ known-call call mark running e =
     (lt-or-le call knownCalls)
 
 -- the answer by what the caller's test `r` says
-module _ (s : State) (call mark a b c d e r : ℕ) (is : r ≡ callerRefusal call mark (s .running)) where
-  pub answered-refused : {w : Answer} → (r ≡ 0 → ⊥) → w ≡ plain s r → w ≡ answered s call mark a b c d e
+module _ (s : State) (call mark a b c d e r : ℕ) (m : List ℕ) (is : r ≡ callerRefusal call mark (s .running)) where
+  pub answered-refused : {w : Answer} → (r ≡ 0 → ⊥) → w ≡ plain s r → w ≡ answered s call mark a b c d e m
   unfolding answered
   answered-refused {w} ne p =
       subst
-      (λ (x : ℕ). w ≡ elim (eqb x 0) as (λ y. Answer) [ true ↦ callAt call .does s a b c d e | false ↦ plain s x ])
+      (λ (x : ℕ). w ≡ elim (eqb x 0) as (λ y. Answer) [ true ↦ callAt call .does s a b c d e m | false ↦ plain s x ])
       is
       (rw (ne-eqb r 0 ne) p)
 
-  pub answered-does : {w : Answer} → r ≡ 0 → w ≡ callAt call .does s a b c d e → w ≡ answered s call mark a b c d e
+  pub answered-does : {w : Answer} → r ≡ 0 → w ≡ callAt call .does s a b c d e m → w ≡ answered s call mark a b c d e m
   unfolding answered
   answered-does {w} z p =
       subst
-      (λ (x : ℕ). w ≡ elim (eqb x 0) as (λ y. Answer) [ true ↦ callAt call .does s a b c d e | false ↦ plain s x ])
+      (λ (x : ℕ). w ≡ elim (eqb x 0) as (λ y. Answer) [ true ↦ callAt call .does s a b c d e m | false ↦ plain s x ])
       is
       (rw (eq-eqb r 0 z) p)

@@ -3,7 +3,7 @@
 ghost use mathlib.Core.Path.{_≡_};
 ghost use Rattle.scope.specs.Step.{callerRefusal};
 
-// What is asked of a step: "call, caller mark, five arguments".
+// What is asked of a step: "call, caller mark, five arguments"; and the slot of who runs then, 32 if nobody.
 pub struct Asked {
     pub call: u32,
     pub mark: u32,
@@ -12,13 +12,14 @@ pub struct Asked {
     pub c: u32,
     pub d: u32,
     pub e: u32,
+    pub running: usize,
 }
 
 // 25, 24, 2, in that order, by the call table; 0 where none of them is given.
 pub fn caller_refusal(call: u32, mark: u32, running: usize) -> u32
     ensures { λ r. ⌜ r ≡ callerRefusal call mark running ⌝ }
 {
-    if 20 <= call {
+    if 27 <= call {
         return scope::BAD_CALL;
     }
     if 1 < mark {

@@ -9,27 +9,31 @@ use Rattle.scope.specs.Choice.{pick}
 use Rattle.scope.specs.Rules.{sound}
 use Rattle.scope.specs.Step.{answered}
 use Rattle.answers.specs.declared.Outcome.{Outcome}
-use Rattle.answers.specs.Outcomes.{answerOf}
+use Rattle.answers.specs.Outcomes.{answerShown}
 use Rattle.answers.proofs.Outcomes.{outcome-one}
 use Rattle.kernel.specs.Steps.{Steps}
 use Rattle.kernel.proofs.Laws.{runs-so}
 
-module _ (s : State) (call mark a b c d e : ℕ) (n n′ : State) (wakes wakes′ : List ℕ) (r r′ : Outcome) where
-  abbrev Performs : State → List ℕ → Outcome → Type 0
-  Performs x ws o = (answerOf x ws o ≡ answered s call mark a b c d e) × (x .running ≡ o .runs)
+module _ (s : State) (call mark a b c d e : ℕ) (m : List ℕ) (n n′ : State) (wakes wakes′ shown shown′ : List ℕ) (r r′ : Outcome) where
+  abbrev Performs : State → List ℕ → List ℕ → Outcome → Type 0
+  Performs x ws hs o = (answerShown x ws hs o ≡ answered s call mark a b c d e m) × (x .running ≡ o .runs)
 
-  pub perform-one : Performs n wakes r → Performs n′ wakes′ r′ → (n ≡ n′) × (wakes ≡ wakes′) × (r ≡ r′)
+  abbrev Same : Type 0
+  Same = (n ≡ n′) × (wakes ≡ wakes′) × (shown ≡ shown′) × (r ≡ r′)
+
+  pub perform-one : Performs n wakes shown r → Performs n′ wakes′ shown′ r′ → Same
   perform-one p q =
-      let o = outcome-one n n′ wakes wakes′ r r′ (p .0 ∙ sym (q .0)) in
-      (sym (runs-so n (r .runs) (p .1)) ∙ o .0 ∙ runs-so n′ (r′ .runs) (q .1), o .1, o .2)
+      let o = outcome-one n n′ wakes wakes′ shown shown′ r r′ (p .0 ∙ sym (q .0)) in
+      (sym (runs-so n (r .runs) (p .1)) ∙ o .0 ∙ runs-so n′ (r′ .runs) (q .1), o .1, o .2, o .3)
 
-  pub step-one : Steps s call mark a b c d e n wakes r → Steps s call mark a b c d e n′ wakes′ r′ → (n ≡ n′) × (wakes ≡ wakes′) × (r ≡ r′)
+  pub step-one : Steps s call mark a b c d e m n wakes shown r → Steps s call mark a b c d e m n′ wakes′ shown′ r′ → Same
   step-one p q =
       let same = p .0 ∙ sym (q .0) in
       let state : n ≡ n′ = ap (λ (x : Answer). x .state) same in
       let runs : r .runs ≡ r′ .runs = p .1 ∙ ap (λ (x : State). pick (sound s) (x .running) 32) state ∙ sym (q .1) in (
         state,
         ap (λ (x : Answer). x .wakes) same,
+        ap (λ (x : Answer). x .shown) same,
         λ i.
             record {
               status = same i .status;
@@ -38,5 +42,7 @@ module _ (s : State) (call mark a b c d e : ℕ) (n n′ : State) (wakes wakes�
               woken = same i .woken;
               why = same i .why;
               runs = runs i;
+              delivers = same i .delivers;
+              length = same i .length;
             },
       )

@@ -1,4 +1,4 @@
--- A step in place: what it leaves of the state that it is lent and of the wake list, and its outcome.
+-- A step in place: what it leaves of the state that it is lent and of the wake list, the message that it shows, and its outcome.
 -- Assumes nothing.
 use Prim.Native.Nat.{ℕ}
 use mathlib.Core.Path.{_≡_}
@@ -11,8 +11,8 @@ use Rattle.scope.specs.Views.{runningTask}
 use Rattle.answers.specs.declared.Outcome.{Outcome}
 use Rattle.answers.specs.Outcomes.{nowRuns, told}
 
--- From the state s: the state n, the wake list and the outcome r are the answer of `stepped`. "its running task is the present one,
--- or 0 with BAD_STATE": the outcome says who runs, which is who runs in n, or nobody where s breaks a rule (then n is s).
-abbrev pub Steps : State → ℕ → ℕ → ℕ → ℕ → ℕ → ℕ → ℕ → State → List ℕ → Outcome → Type 0
-Steps s call mark a b c d e n wakes r =
-    (told n wakes r (runningTask (nowRuns n (r .runs))) ≡ stepped s call mark a b c d e) × (r .runs ≡ pick (sound s) (n .running) 32)
+-- From the state s, with the message m lent: the state n, the wake list, the message shown and the outcome r are the answer of `stepped`.
+-- "its running task is the present one, or 0 with BAD_STATE": the outcome says who runs, which is who runs in n, or nobody where s breaks a rule (then n is s).
+abbrev pub Steps : State → ℕ → ℕ → ℕ → ℕ → ℕ → ℕ → ℕ → List ℕ → State → List ℕ → List ℕ → Outcome → Type 0
+Steps s call mark a b c d e m n wakes shown r =
+    (told n wakes shown r (runningTask (nowRuns n (r .runs))) ≡ stepped s call mark a b c d e m) × (r .runs ≡ pick (sound s) (n .running) 32)

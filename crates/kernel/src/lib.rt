@@ -14,8 +14,8 @@ ghost use Rattle.scope.specs.Fresh.{freshTasks, freshLine, noSemaphores, noPool
 ghost use Rattle.scope.specs.Rules.{sound};
 ghost use Rattle.scope.specs.Step.{answered};
 ghost use Rattle.scope.specs.Statuses.{BAD-STATE};
-ghost use Rattle.scope.specs.Answers.{noWakes};
-ghost use Rattle.answers.specs.Outcomes.{answerOf, outcome};
+ghost use Rattle.scope.specs.Answers.{noWakes, noMessage};
+ghost use Rattle.answers.specs.Outcomes.{answerShown, outcome};
 ghost use Rattle.kernel.specs.Steps.{Steps};
 
 fn fresh_tasks(priority: u8) -> Tasks
@@ -95,6 +95,7 @@ fn no_queues() -> Queues
         fifo: [false; 8],
         limits: [0; 16],
         held: [0; 8],
+        cells: [0; 8320],
     }
 }
 
@@ -140,10 +141,13 @@ pub fn fresh(s: &mut State, priority: u32) -> u32
     fresh_status(priority)
 }
 
-// The step of a state that is known to be sound: the state is not checked. The chapter of the call is chosen.
+// The step of a state that is known to be sound: the state is not checked. The chapter of the call is chosen; only sends and receives show
+// a message.
 pub fn perform(
     s: &mut State,
     wakes: &mut [u32; 32],
+    shown: &mut [u8; 64],
+    message: &[u8],
     call: u32,
     mark: u32,
     a: u32,
@@ -152,8 +156,10 @@ pub fn perform(
     d: u32,
     e: u32,
 ) -> Outcome
-    ensures { λ r. ⌜ (answerOf (now (s .exit)) (now (wakes .exit)) r ≡ answered (now (s .entry)) call mark a b c d e) × (now (s .exit) .running ≡ r .runs) ⌝ }
+    ensures { λ r. ⌜ (answerShown (now (s .exit)) (now (wakes .exit)) (now (shown .exit)) r
+        ≡ answered (now (s .entry)) call mark a b c d e (now (message .entry))) × (now (s .exit) .running ≡ r .runs) ⌝ }
 {
+    *shown = [0; 64];
     if call == 0 {
         return tick_chapter::tick(s, wakes, call, mark, a, b, c, d, e);
     }
@@ -163,14 +169,24 @@ pub fn perform(
     if call < 14 {
         return sem_chapter::sem(s, wakes, call, mark, a, b, c, d, e);
     }
-    pool_chapter::pool(s, wakes, call, mark, a, b, c, d, e)
+    if call < 20 {
+        return pool_chapter::pool(s, wakes, call, mark, a, b, c, d, e);
+    }
+    if call < 23 {
+        return queue_chapter::queue(s, wakes, call, mark, a, b, c, d, e);
+    }
+    if call < 25 {
+        return send_chapter::send(s, wakes, shown, message, call, mark, a, b, c, d, e);
+    }
+    receive_chapter::receive(s, wakes, shown, call, mark, a, b, c, d, e)
 }
 
 // "its running task is the present one, or 0 with BAD_STATE"
-fn bad_state(wakes: &mut [u32; 32]) -> Outcome
-    ensures { λ r. ⌜ (now (wakes .exit) ≡ noWakes) × (r ≡ outcome BAD-STATE 0 0 0 0 false 32) ⌝ }
+fn bad_state(wakes: &mut [u32; 32], shown: &mut [u8; 64]) -> Outcome
+    ensures { λ r. ⌜ (now (wakes .exit) ≡ noWakes) × ((now (shown .exit) ≡ noMessage) × (r ≡ outcome BAD-STATE 0 0 0 0 false 32)) ⌝ }
 {
     *wakes = [0; 32];
+    *shown = [0; 64];
     answers::plain(scope::BAD_STATE, 32)
 }
 
@@ -182,6 +198,7 @@ pub fn is_sound(s: &mut State) -> bool
         & lending::tasks_right(s)
         & lending::sems_right(s)
         & lending::queues_right(s)
+        & lending::messages_right(s)
         & lending::pools_kept(s)
 }
 
@@ -189,6 +206,8 @@ pub fn is_sound(s: &mut State) -> bool
 pub fn step(
     s: &mut State,
     wakes: &mut [u32; 32],
+    shown: &mut [u8; 64],
+    message: &[u8],
     call: u32,
     mark: u32,
     a: u32,
@@ -197,10 +216,10 @@ pub fn step(
     d: u32,
     e: u32,
 ) -> Outcome
-    ensures { λ r. ⌜ Steps (now (s .entry)) call mark a b c d e (now (s .exit)) (now (wakes .exit)) r ⌝ }
+    ensures { λ r. ⌜ Steps (now (s .entry)) call mark a b c d e (now (message .entry)) (now (s .exit)) (now (wakes .exit)) (now (shown .exit)) r ⌝ }
 {
     if is_sound(s) {
-        return perform(s, wakes, call, mark, a, b, c, d, e);
+        return perform(s, wakes, shown, message, call, mark, a, b, c, d, e);
     }
-    bad_state(wakes)
+    bad_state(wakes, shown)
 }

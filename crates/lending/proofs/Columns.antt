@@ -118,16 +118,16 @@ abbrev pub csU : ℕ → List Col
 csU o = columns msU 0 (o + 1448)
 
 abbrev pub XsU : Type 0
-XsU = List ℕ × (List ℕ × (List Bool × (List Bool × (List ℕ × (List ℕ × Unit {0})))))
+XsU = List ℕ × (List ℕ × (List Bool × (List Bool × (List ℕ × (List ℕ × (List ℕ × Unit {0}))))))
 
 abbrev pub heldU : Queues → XsU
-heldU x = (x .name, (x .serial, (x .live, (x .fifo, (x .limits, (x .held, tt))))))
+heldU x = (x .name, (x .serial, (x .live, (x .fifo, (x .limits, (x .held, (x .cells, tt)))))))
 
 abbrev pub madeU : XsU → Queues
-madeU x = record { name = x .0; serial = x .1 .0; live = x .1 .1 .0; fifo = x .1 .1 .1 .0; limits = x .1 .1 .1 .1 .0; held = x .1 .1 .1 .1 .1 .0 }
+madeU x = record { name = x .0; serial = x .1 .0; live = x .1 .1 .0; fifo = x .1 .1 .1 .0; limits = x .1 .1 .1 .1 .0; held = x .1 .1 .1 .1 .1 .0; cells = x .1 .1 .1 .1 .1 .1 .0 }
 
 pub isU : (x : Queues) → U.the-type .to x ≡ heldU x
-isU x = λ i. (same (x .name) i, (same (x .serial) i, (same (x .live) i, (same (x .fifo) i, (same (x .limits) i, (same (x .held) i, tt))))))
+isU x = λ i. (same (x .name) i, (same (x .serial) i, (same (x .live) i, (same (x .fifo) i, (same (x .limits) i, (same (x .held) i, (same (x .cells) i, tt)))))))
 
 module _ {M : Type 1} (𝓤 : URA M) (H : Heap 𝓤) (A : Atoms 𝓤) (W : Given 𝓤 H A) (b o : ℕ) where
   abbrev pub Back : SProp 𝓤

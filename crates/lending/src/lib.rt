@@ -2,7 +2,7 @@
 // once. What these walks share with the chapters' stands in proofs/. Printed by tools/generate/run, from its table of columns.
 use scope::State;
 ghost use mathlib.Core.Path.{_≡_};
-ghost use Rattle.scope.specs.Rules.{keeps, orderRules, tasksRight, semsRight, queuesRight};
+ghost use Rattle.scope.specs.Rules.{keeps, orderRules, tasksRight, semsRight, queuesRight, messagesRight};
 ghost use Rattle.scope.specs.Views.{runningTask};
 ghost use Rattle.rules.specs.Lent.{poolsKept};
 
@@ -77,6 +77,13 @@ pub fn queues_right(s: &mut State) -> bool
         &s.queues.limits,
         &s.queues.held,
     )
+}
+
+// Whether the messages held are in their one form.
+pub fn messages_right(s: &mut State) -> bool
+    ensures { λ r. ⌜ (r ≡ messagesRight (now (s .entry) .queues)) × (now (s .exit) ≡ now (s .entry)) ⌝ }
+{
+    messages::all_in_form(&s.queues.limits, &s.queues.held, &s.queues.cells)
 }
 
 // Whether it keeps the pools' rules.

@@ -5,8 +5,9 @@ use answers::Outcome;
 use chapters::Asked;
 use scope::State;
 ghost use mathlib.Core.Path.{_≡_};
-ghost use Prim.Native.Nat.{_<_, _≤_};
-ghost use Rattle.scope.specs.Calls.{knownCalls, callAt};
+ghost use Prim.Native.Nat.{ℕ, _<_, _≤_};
+ghost use mathlib.Core.List.{List};
+ghost use Rattle.scope.specs.Calls.{callAt};
 ghost use Rattle.scope.specs.Step.{answered};
 ghost use Rattle.scope.specs.declared.State.{State};
 ghost use Rattle.scope.specs.Answers.{noWakes};
@@ -24,20 +25,15 @@ fn pool_call(
     live: &mut [bool; 8],
     forced: &mut [bool; 8],
     place: &mut [u8; 512],
-    running: usize,
-    call: u32,
-    a: u32,
-    b: u32,
-    c: u32,
-    d: u32,
-    e: u32,
+    x: Asked,
 ) -> Outcome
-    requires { ⌜ (14 ≤ call) × (call < knownCalls) ⌝ }
-    ensures { λ r. ⌜ ((s : State) → answerOf (lentPools s (now (out .exit)) (now (name .exit)) (now (address .exit)) (now (length .exit))
-        (now (size .exit)) (now (serial .exit)) (now (live .exit)) (now (forced .exit)) (now (place .exit)) running) noWakes r
-        ≡ callAt call .does (lentPools s (now (out .entry)) (now (name .entry)) (now (address .entry)) (now (length .entry)) (now (size .entry))
-        (now (serial .entry)) (now (live .entry)) (now (forced .entry)) (now (place .entry)) running) a b c d e) ⌝ }
+    requires { ⌜ (14 ≤ x .call) × (x .call < 20) ⌝ }
+    ensures { λ r. ⌜ ((s : State) (m : List ℕ) → answerOf (lentPools s (now (out .exit)) (now (name .exit)) (now (address .exit)) (now (length .exit))
+        (now (size .exit)) (now (serial .exit)) (now (live .exit)) (now (forced .exit)) (now (place .exit)) (x .running)) noWakes r
+        ≡ callAt (x .call) .does (lentPools s (now (out .entry)) (now (name .entry)) (now (address .entry)) (now (length .entry)) (now (size .entry))
+        (now (serial .entry)) (now (live .entry)) (now (forced .entry)) (now (place .entry)) (x .running)) (x .a) (x .b) (x .c) (x .d) (x .e) m) ⌝ }
 {
+    let call = x.call;
     match call {
         14 => pools::pool_create(
             out,
@@ -49,12 +45,12 @@ fn pool_call(
             live,
             forced,
             place,
-            running,
-            a,
-            b,
-            c,
-            d,
-            e,
+            x.running,
+            x.a,
+            x.b,
+            x.c,
+            x.d,
+            x.e,
         ),
         15 => pools::pool_delete(
             out,
@@ -66,11 +62,21 @@ fn pool_call(
             live,
             forced,
             place,
-            running,
-            a,
+            x.running,
+            x.a,
         ),
-        16 => pools::pool_ident(name, serial, live, running, a),
-        17 => pools::pool_get_buff(out, address, length, size, serial, live, place, running, a),
+        16 => pools::pool_ident(name, serial, live, x.running, x.a),
+        17 => pools::pool_get_buff(
+            out,
+            address,
+            length,
+            size,
+            serial,
+            live,
+            place,
+            x.running,
+            x.a,
+        ),
         18 => pools::pool_ret_buff(
             out,
             address,
@@ -79,15 +85,15 @@ fn pool_call(
             serial,
             live,
             place,
-            running,
-            a,
-            b,
+            x.running,
+            x.a,
+            x.b,
         ),
-        _ => pools::pool_info(out, length, size, serial, live, forced, running, a),
+        _ => pools::pool_info(out, length, size, serial, live, forced, x.running, x.a),
     }
 }
 
-// A pool call, or none of the table.
+// A pool call.
 fn pool_part(
     out: &mut [u64; 8],
     name: &mut [u32; 8],
@@ -99,20 +105,19 @@ fn pool_part(
     forced: &mut [bool; 8],
     place: &mut [u8; 512],
     wakes: &mut [u32; 32],
-    running: usize,
     x: Asked,
 ) -> Outcome
-    requires { ⌜ 14 ≤ x .call ⌝ }
-    ensures { λ r. ⌜ ((s : State) → answerOf (lentPools s (now (out .exit)) (now (name .exit)) (now (address .exit)) (now (length .exit))
-        (now (size .exit)) (now (serial .exit)) (now (live .exit)) (now (forced .exit)) (now (place .exit)) running) (now (wakes .exit)) r
+    requires { ⌜ (14 ≤ x .call) × (x .call < 20) ⌝ }
+    ensures { λ r. ⌜ ((s : State) (m : List ℕ) → answerOf (lentPools s (now (out .exit)) (now (name .exit)) (now (address .exit)) (now (length .exit))
+        (now (size .exit)) (now (serial .exit)) (now (live .exit)) (now (forced .exit)) (now (place .exit)) (x .running)) (now (wakes .exit)) r
         ≡ answered (lentPools s (now (out .entry)) (now (name .entry)) (now (address .entry)) (now (length .entry)) (now (size .entry))
-        (now (serial .entry)) (now (live .entry)) (now (forced .entry)) (now (place .entry)) running)
-        (x .call) (x .mark) (x .a) (x .b) (x .c) (x .d) (x .e)) ⌝ }
+        (now (serial .entry)) (now (live .entry)) (now (forced .entry)) (now (place .entry)) (x .running)) (x .call) (x .mark) (x .a) (x .b) (x .c)
+        (x .d) (x .e) m) ⌝ }
 {
     *wakes = [0; 32];
-    let refusal = chapters::caller_refusal(x.call, x.mark, running);
+    let refusal = chapters::caller_refusal(x.call, x.mark, x.running);
     if refusal != scope::OK {
-        return answers::plain(refusal, running);
+        return answers::plain(refusal, x.running);
     }
     pool_call(
         out,
@@ -124,17 +129,11 @@ fn pool_part(
         live,
         forced,
         place,
-        running,
-        x.call,
-        x.a,
-        x.b,
-        x.c,
-        x.d,
-        x.e,
+        x,
     )
 }
 
-// A pool call, or none of the table, on a state lent as one thing.
+// A pool call, on a state lent as one thing.
 pub fn pool(
     s: &mut State,
     wakes: &mut [u32; 32],
@@ -146,8 +145,8 @@ pub fn pool(
     d: u32,
     e: u32,
 ) -> Outcome
-    requires { ⌜ 14 ≤ call ⌝ }
-    ensures { λ r. ⌜ (answerOf (now (s .exit)) (now (wakes .exit)) r ≡ answered (now (s .entry)) call mark a b c d e) × (now (s .exit) .running ≡ r .runs) ⌝ }
+    requires { ⌜ (14 ≤ call) × (call < 20) ⌝ }
+    ensures { λ r. ⌜ ((m : List ℕ) → answerOf (now (s .exit)) (now (wakes .exit)) r ≡ answered (now (s .entry)) call mark a b c d e m) × (now (s .exit) .running ≡ r .runs) ⌝ }
 {
     let running = s.running;
     let x = Asked {
@@ -158,6 +157,7 @@ pub fn pool(
         c: c,
         d: d,
         e: e,
+        running: running,
     };
     let o = pool_part(
         &mut s.pools.out,
@@ -170,7 +170,6 @@ pub fn pool(
         &mut s.pools.forced,
         &mut s.pools.place,
         wakes,
-        running,
         x,
     );
     s.running = o.runs;

@@ -6,6 +6,7 @@ use chapters::Asked;
 use scope::State;
 ghost use mathlib.Core.Path.{_≡_};
 ghost use Prim.Native.Nat.{ℕ, _<_, _≤_};
+ghost use mathlib.Core.List.{List};
 ghost use Rattle.scope.specs.Calls.{callAt};
 ghost use Rattle.scope.specs.Step.{answered};
 ghost use Rattle.scope.specs.declared.State.{State};
@@ -28,21 +29,20 @@ fn sem_call(
     live: &mut [bool; 16],
     fifo: &mut [bool; 16],
     wakes: &mut [u32; 32],
-    running: usize,
     x: Asked,
 ) -> Outcome
     requires { ⌜ (8 ≤ x .call) × (x .call < 14) ⌝ }
     requires { ⌜ now wakes ≡ noWakes ⌝ }
-    ensures { λ r. ⌜ ((s : State) (d e : ℕ) → answerOf (lentSemaphores s (now (left .exit)) (now (seat .exit)) (now (joined .exit))
+    ensures { λ r. ⌜ ((s : State) (m : List ℕ) → answerOf (lentSemaphores s (now (left .exit)) (now (seat .exit)) (now (joined .exit))
         (now (rings .exit)) (now (waker .entry)) (now (suspended .entry)) (now (priority .entry)) (now (name .exit)) (now (serial .exit))
-        (now (units .exit)) (now (live .exit)) (now (fifo .exit)) running) (now (wakes .exit)) r
+        (now (units .exit)) (now (live .exit)) (now (fifo .exit)) (x .running)) (now (wakes .exit)) r
         ≡ callAt (x .call) .does (lentSemaphores s (now (left .entry)) (now (seat .entry)) (now (joined .entry)) (now (rings .entry))
         (now (waker .entry)) (now (suspended .entry)) (now (priority .entry)) (now (name .entry)) (now (serial .entry)) (now (units .entry))
-        (now (live .entry)) (now (fifo .entry)) running) (x .a) (x .b) (x .c) d e) ⌝ }
+        (now (live .entry)) (now (fifo .entry)) (x .running)) (x .a) (x .b) (x .c) (x .d) (x .e) m) ⌝ }
 {
     let call = x.call;
     match call {
-        8 => semaphores::sem_create(name, serial, units, live, fifo, running, x.a, x.b, x.c),
+        8 => semaphores::sem_create(name, serial, units, live, fifo, x.running, x.a, x.b, x.c),
         9 => semaphores::sem_delete(
             left,
             seat,
@@ -57,10 +57,10 @@ fn sem_call(
             live,
             fifo,
             wakes,
-            running,
+            x.running,
             x.a,
         ),
-        10 => semaphores::sem_ident(name, serial, live, running, x.a),
+        10 => semaphores::sem_ident(name, serial, live, x.running, x.a),
         11 => semaphores::sem_claim(
             left,
             seat,
@@ -71,7 +71,7 @@ fn sem_call(
             units,
             live,
             fifo,
-            running,
+            x.running,
             x.a,
             x.b,
             x.c,
@@ -88,10 +88,10 @@ fn sem_call(
             units,
             live,
             wakes,
-            running,
+            x.running,
             x.a,
         ),
-        _ => semaphores::sem_info(seat, serial, units, live, fifo, running, x.a),
+        _ => semaphores::sem_info(seat, serial, units, live, fifo, x.running, x.a),
     }
 }
 
@@ -110,21 +110,20 @@ fn sem_part(
     live: &mut [bool; 16],
     fifo: &mut [bool; 16],
     wakes: &mut [u32; 32],
-    running: usize,
     x: Asked,
 ) -> Outcome
     requires { ⌜ (8 ≤ x .call) × (x .call < 14) ⌝ }
-    ensures { λ r. ⌜ ((s : State) → answerOf (lentSemaphores s (now (left .exit)) (now (seat .exit)) (now (joined .exit)) (now (rings .exit))
-        (now (waker .entry)) (now (suspended .entry)) (now (priority .entry)) (now (name .exit)) (now (serial .exit)) (now (units .exit))
-        (now (live .exit)) (now (fifo .exit)) running) (now (wakes .exit)) r
+    ensures { λ r. ⌜ ((s : State) (m : List ℕ) → answerOf (lentSemaphores s (now (left .exit)) (now (seat .exit)) (now (joined .exit))
+        (now (rings .exit)) (now (waker .entry)) (now (suspended .entry)) (now (priority .entry)) (now (name .exit)) (now (serial .exit))
+        (now (units .exit)) (now (live .exit)) (now (fifo .exit)) (x .running)) (now (wakes .exit)) r
         ≡ answered (lentSemaphores s (now (left .entry)) (now (seat .entry)) (now (joined .entry)) (now (rings .entry)) (now (waker .entry))
         (now (suspended .entry)) (now (priority .entry)) (now (name .entry)) (now (serial .entry)) (now (units .entry)) (now (live .entry))
-        (now (fifo .entry)) running) (x .call) (x .mark) (x .a) (x .b) (x .c) (x .d) (x .e)) ⌝ }
+        (now (fifo .entry)) (x .running)) (x .call) (x .mark) (x .a) (x .b) (x .c) (x .d) (x .e) m) ⌝ }
 {
     *wakes = [0; 32];
-    let refusal = chapters::caller_refusal(x.call, x.mark, running);
+    let refusal = chapters::caller_refusal(x.call, x.mark, x.running);
     if refusal != scope::OK {
-        return answers::plain(refusal, running);
+        return answers::plain(refusal, x.running);
     }
     sem_call(
         left,
@@ -140,7 +139,6 @@ fn sem_part(
         live,
         fifo,
         wakes,
-        running,
         x,
     )
 }
@@ -158,7 +156,7 @@ pub fn sem(
     e: u32,
 ) -> Outcome
     requires { ⌜ (8 ≤ call) × (call < 14) ⌝ }
-    ensures { λ r. ⌜ (answerOf (now (s .exit)) (now (wakes .exit)) r ≡ answered (now (s .entry)) call mark a b c d e) × (now (s .exit) .running ≡ r .runs) ⌝ }
+    ensures { λ r. ⌜ ((m : List ℕ) → answerOf (now (s .exit)) (now (wakes .exit)) r ≡ answered (now (s .entry)) call mark a b c d e m) × (now (s .exit) .running ≡ r .runs) ⌝ }
 {
     let running = s.running;
     let x = Asked {
@@ -169,6 +167,7 @@ pub fn sem(
         c: c,
         d: d,
         e: e,
+        running: running,
     };
     let o = sem_part(
         &mut s.line.left,
@@ -184,7 +183,6 @@ pub fn sem(
         &mut s.semaphores.live,
         &mut s.semaphores.fifo,
         wakes,
-        running,
         x,
     );
     s.running = o.runs;

@@ -6,6 +6,7 @@ use chapters::Asked;
 use scope::State;
 ghost use mathlib.Core.Path.{_≡_};
 ghost use Prim.Native.Nat.{ℕ, _<_, _≤_};
+ghost use mathlib.Core.List.{List};
 ghost use Rattle.scope.specs.Calls.{callAt};
 ghost use Rattle.scope.specs.Step.{answered};
 ghost use Rattle.scope.specs.declared.State.{State};
@@ -25,18 +26,17 @@ fn task_call(
     started: &mut [bool; 32],
     suspended: &mut [bool; 32],
     priority: &mut [u8; 32],
-    running: usize,
-    call: u32,
-    a: u32,
-    b: u32,
+    x: Asked,
 ) -> Outcome
-    requires { ⌜ (1 ≤ call) × (call < 8) ⌝ }
-    ensures { λ r. ⌜ ((s : State) (c d e : ℕ) → answerOf (lentTasks s (now (left .exit)) (now (seat .exit)) (now (joined .exit)) (now (rings .exit))
-        (now (name .exit)) (now (serial .exit)) (now (live .exit)) (now (started .exit)) (now (suspended .exit)) (now (priority .exit)) running)
+    requires { ⌜ (1 ≤ x .call) × (x .call < 8) ⌝ }
+    ensures { λ r. ⌜ ((s : State) (m : List ℕ) → answerOf (lentTasks s (now (left .exit)) (now (seat .exit)) (now (joined .exit)) (now (rings .exit))
+        (now (name .exit)) (now (serial .exit)) (now (live .exit)) (now (started .exit)) (now (suspended .exit)) (now (priority .exit)) (x .running))
         noWakes r
-        ≡ callAt call .does (lentTasks s (now (left .entry)) (now (seat .entry)) (now (joined .entry)) (now (rings .entry)) (now (name .entry))
-        (now (serial .entry)) (now (live .entry)) (now (started .entry)) (now (suspended .entry)) (now (priority .entry)) running) a b c d e) ⌝ }
+        ≡ callAt (x .call) .does (lentTasks s (now (left .entry)) (now (seat .entry)) (now (joined .entry)) (now (rings .entry)) (now (name .entry))
+        (now (serial .entry)) (now (live .entry)) (now (started .entry)) (now (suspended .entry)) (now (priority .entry)) (x .running)) (x .a) (x .b)
+        (x .c) (x .d) (x .e) m) ⌝ }
 {
+    let call = x.call;
     match call {
         1 => tasks::task_create(
             name,
@@ -45,9 +45,9 @@ fn task_call(
             started,
             suspended,
             priority,
-            running,
-            a,
-            b,
+            x.running,
+            x.a,
+            x.b,
         ),
         2 => tasks::task_delete(
             left,
@@ -60,10 +60,10 @@ fn task_call(
             started,
             suspended,
             priority,
-            running,
-            a,
+            x.running,
+            x.a,
         ),
-        3 => tasks::task_ident(name, serial, live, running, a),
+        3 => tasks::task_ident(name, serial, live, x.running, x.a),
         4 => tasks::task_start(
             seat,
             joined,
@@ -72,10 +72,19 @@ fn task_call(
             live,
             started,
             priority,
-            running,
-            a,
+            x.running,
+            x.a,
         ),
-        5 => tasks::task_suspend(seat, rings, serial, live, started, suspended, running, a),
+        5 => tasks::task_suspend(
+            seat,
+            rings,
+            serial,
+            live,
+            started,
+            suspended,
+            x.running,
+            x.a,
+        ),
         6 => tasks::task_resume(
             seat,
             joined,
@@ -85,8 +94,8 @@ fn task_call(
             started,
             suspended,
             priority,
-            running,
-            a,
+            x.running,
+            x.a,
         ),
         _ => tasks::task_set_priority(
             seat,
@@ -97,9 +106,9 @@ fn task_call(
             started,
             suspended,
             priority,
-            running,
-            a,
-            b,
+            x.running,
+            x.a,
+            x.b,
         ),
     }
 }
@@ -117,21 +126,20 @@ fn task_part(
     suspended: &mut [bool; 32],
     priority: &mut [u8; 32],
     wakes: &mut [u32; 32],
-    running: usize,
     x: Asked,
 ) -> Outcome
     requires { ⌜ (1 ≤ x .call) × (x .call < 8) ⌝ }
-    ensures { λ r. ⌜ ((s : State) → answerOf (lentTasks s (now (left .exit)) (now (seat .exit)) (now (joined .exit)) (now (rings .exit))
-        (now (name .exit)) (now (serial .exit)) (now (live .exit)) (now (started .exit)) (now (suspended .exit)) (now (priority .exit)) running)
+    ensures { λ r. ⌜ ((s : State) (m : List ℕ) → answerOf (lentTasks s (now (left .exit)) (now (seat .exit)) (now (joined .exit)) (now (rings .exit))
+        (now (name .exit)) (now (serial .exit)) (now (live .exit)) (now (started .exit)) (now (suspended .exit)) (now (priority .exit)) (x .running))
         (now (wakes .exit)) r
         ≡ answered (lentTasks s (now (left .entry)) (now (seat .entry)) (now (joined .entry)) (now (rings .entry)) (now (name .entry))
-        (now (serial .entry)) (now (live .entry)) (now (started .entry)) (now (suspended .entry)) (now (priority .entry)) running)
-        (x .call) (x .mark) (x .a) (x .b) (x .c) (x .d) (x .e)) ⌝ }
+        (now (serial .entry)) (now (live .entry)) (now (started .entry)) (now (suspended .entry)) (now (priority .entry)) (x .running)) (x .call)
+        (x .mark) (x .a) (x .b) (x .c) (x .d) (x .e) m) ⌝ }
 {
     *wakes = [0; 32];
-    let refusal = chapters::caller_refusal(x.call, x.mark, running);
+    let refusal = chapters::caller_refusal(x.call, x.mark, x.running);
     if refusal != scope::OK {
-        return answers::plain(refusal, running);
+        return answers::plain(refusal, x.running);
     }
     task_call(
         left,
@@ -144,10 +152,7 @@ fn task_part(
         started,
         suspended,
         priority,
-        running,
-        x.call,
-        x.a,
-        x.b,
+        x,
     )
 }
 
@@ -164,7 +169,7 @@ pub fn task(
     e: u32,
 ) -> Outcome
     requires { ⌜ (1 ≤ call) × (call < 8) ⌝ }
-    ensures { λ r. ⌜ (answerOf (now (s .exit)) (now (wakes .exit)) r ≡ answered (now (s .entry)) call mark a b c d e) × (now (s .exit) .running ≡ r .runs) ⌝ }
+    ensures { λ r. ⌜ ((m : List ℕ) → answerOf (now (s .exit)) (now (wakes .exit)) r ≡ answered (now (s .entry)) call mark a b c d e m) × (now (s .exit) .running ≡ r .runs) ⌝ }
 {
     let running = s.running;
     let x = Asked {
@@ -175,6 +180,7 @@ pub fn task(
         c: c,
         d: d,
         e: e,
+        running: running,
     };
     let o = task_part(
         &mut s.line.left,
@@ -188,7 +194,6 @@ pub fn task(
         &mut s.tasks.suspended,
         &mut s.tasks.priority,
         wakes,
-        running,
         x,
     );
     s.running = o.runs;

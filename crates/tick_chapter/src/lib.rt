@@ -5,6 +5,8 @@ use answers::Outcome;
 use chapters::Asked;
 use scope::State;
 ghost use mathlib.Core.Path.{_≡_};
+ghost use Prim.Native.Nat.{ℕ};
+ghost use mathlib.Core.List.{List};
 ghost use Rattle.scope.specs.Step.{answered};
 ghost use Rattle.scope.specs.declared.State.{State};
 ghost use Rattle.answers.specs.Outcomes.{answerOf};
@@ -20,19 +22,18 @@ fn tick_part(
     suspended: &[bool; 32],
     priority: &[u8; 32],
     wakes: &mut [u32; 32],
-    running: usize,
     x: Asked,
 ) -> Outcome
     requires { ⌜ x .call ≡ 0 ⌝ }
-    ensures { λ r. ⌜ ((s : State) → answerOf (lentLine s (now (left .exit)) (now (seat .exit)) (now (joined .exit)) (now (rings .exit))
-        (now (waker .entry)) (now (suspended .entry)) (now (priority .entry)) running) (now (wakes .exit)) r
+    ensures { λ r. ⌜ ((s : State) (m : List ℕ) → answerOf (lentLine s (now (left .exit)) (now (seat .exit)) (now (joined .exit)) (now (rings .exit))
+        (now (waker .entry)) (now (suspended .entry)) (now (priority .entry)) (x .running)) (now (wakes .exit)) r
         ≡ answered (lentLine s (now (left .entry)) (now (seat .entry)) (now (joined .entry)) (now (rings .entry)) (now (waker .entry))
-        (now (suspended .entry)) (now (priority .entry)) running) (x .call) (x .mark) (x .a) (x .b) (x .c) (x .d) (x .e)) ⌝ }
+        (now (suspended .entry)) (now (priority .entry)) (x .running)) (x .call) (x .mark) (x .a) (x .b) (x .c) (x .d) (x .e) m) ⌝ }
 {
     *wakes = [0; 32];
-    let refusal = chapters::caller_refusal(x.call, x.mark, running);
+    let refusal = chapters::caller_refusal(x.call, x.mark, x.running);
     if refusal != scope::OK {
-        return answers::plain(refusal, running);
+        return answers::plain(refusal, x.running);
     }
     ticks::tick(left, seat, joined, rings, waker, suspended, priority, wakes)
 }
@@ -50,7 +51,7 @@ pub fn tick(
     e: u32,
 ) -> Outcome
     requires { ⌜ call ≡ 0 ⌝ }
-    ensures { λ r. ⌜ (answerOf (now (s .exit)) (now (wakes .exit)) r ≡ answered (now (s .entry)) call mark a b c d e) × (now (s .exit) .running ≡ r .runs) ⌝ }
+    ensures { λ r. ⌜ ((m : List ℕ) → answerOf (now (s .exit)) (now (wakes .exit)) r ≡ answered (now (s .entry)) call mark a b c d e m) × (now (s .exit) .running ≡ r .runs) ⌝ }
 {
     let running = s.running;
     let x = Asked {
@@ -61,6 +62,7 @@ pub fn tick(
         c: c,
         d: d,
         e: e,
+        running: running,
     };
     let o = tick_part(
         &mut s.line.left,
@@ -71,7 +73,6 @@ pub fn tick(
         &s.tasks.suspended,
         &s.tasks.priority,
         wakes,
-        running,
         x,
     );
     s.running = o.runs;

@@ -36,7 +36,7 @@ use denote.Triple.Table.{entered, cited}
 use denote.Triple.Walked.{says, Stays, stay-ref, walkOf, goes-ref, Walks, ends-at, walked, walk-meets}
 use denote.Signature.{plain}
 use Rattle.scope.specs.declared.State.{State}
-use Rattle.scope.specs.Rules.{keeps, orderRules, tasksRight, semsRight, queuesRight, sound as isSound}
+use Rattle.scope.specs.Rules.{keeps, orderRules, tasksRight, semsRight, queuesRight, messagesRight, sound as isSound}
 use Rattle.rules.specs.Lent.{poolsKept}
 use Rattle.scope.proofs.State as S
 use Rattle.lending.proofs.Lending.{Col, Keys, tokens, lasts, lie, refs, kept, lends, backs}
@@ -57,6 +57,10 @@ use Rattle.lending.proofs.queues_right as qr
 use Rattle.lending.proofs.queues_right.Symbol as qr-def
 use Rattle.lending.proofs.queues_right.Symbol.{name as #qr}
 use Rattle.lending.proofs.queues_right.Met as qr-thm
+use Rattle.lending.proofs.messages_right as mr
+use Rattle.lending.proofs.messages_right.Symbol as mr-def
+use Rattle.lending.proofs.messages_right.Symbol.{name as #mr}
+use Rattle.lending.proofs.messages_right.Met as mr-thm
 use Rattle.lending.proofs.pools_kept as pk
 use Rattle.lending.proofs.pools_kept.Symbol as pk-def
 use Rattle.lending.proofs.pools_kept.Symbol.{name as #pk}
@@ -86,6 +90,9 @@ Gsr 𝓤 H A mem run = tripleOf 𝓤 H A sr.signature (sr.spec 𝓤 H A mem run)
 
 abbrev Gqr : {M : Type 1} (𝓤 : URA M) (H : Heap 𝓤) (A : Atoms 𝓤) (mem : Memory → SProp 𝓤) (run : Routine → Fun 𝓤) → Contract 𝓤
 Gqr 𝓤 H A mem run = tripleOf 𝓤 H A qr.signature (qr.spec 𝓤 H A mem run)
+
+abbrev Gmr : {M : Type 1} (𝓤 : URA M) (H : Heap 𝓤) (A : Atoms 𝓤) (mem : Memory → SProp 𝓤) (run : Routine → Fun 𝓤) → Contract 𝓤
+Gmr 𝓤 H A mem run = tripleOf 𝓤 H A mr.signature (mr.spec 𝓤 H A mem run)
 
 abbrev Gpk : {M : Type 1} (𝓤 : URA M) (H : Heap 𝓤) (A : Atoms 𝓤) (mem : Memory → SProp 𝓤) (run : Routine → Fun 𝓤) → Contract 𝓤
 Gpk 𝓤 H A mem run = tripleOf 𝓤 H A pk.signature (pk.spec 𝓤 H A mem run)
@@ -131,62 +138,79 @@ module _ {M : Type 1} (𝓤 : URA M) (H : Heap 𝓤) (A : Atoms 𝓤) (W : Given
   goes-qr : (k : Keys (csS o)) → ent 𝓤 (sep 𝓤 (sem 𝓤 H A (tokens (csS o) k ftrue)) (sem 𝓤 H A (refs b (csS o) (d, tt) k ftrue))) (Gqr 𝓤 H A at-mem run .pre (to-qr k))
   goes-qr k = qed W (‵ (tokens (csS o) k ftrue) ∷ ‵ (refs b (csS o) (d, tt) k ftrue) ∷ []) ∵ join ! $ frame ! $ done !
 
+  abbrev to-mr : Keys (csS o) → Gmr 𝓤 H A at-mem run .Ghost
+  to-mr k = (((k .0 .0 ∷ [], tt), (fullShare, tt), tt, (record { ptr = (b, o); name = k .0 .1; now = d }, tt), (vptr b o ∷ [], tt)), tt)
+
+  goes-mr : (k : Keys (csS o)) → ent 𝓤 (sep 𝓤 (sem 𝓤 H A (tokens (csS o) k ftrue)) (sem 𝓤 H A (refs b (csS o) (d, tt) k ftrue))) (Gmr 𝓤 H A at-mem run .pre (to-mr k))
+  goes-mr k = qed W (‵ (tokens (csS o) k ftrue) ∷ ‵ (refs b (csS o) (d, tt) k ftrue) ∷ []) ∵ join ! $ frame ! $ done !
+
   abbrev to-pk : Keys (csS o) → Gpk 𝓤 H A at-mem run .Ghost
   to-pk k = (((k .0 .0 ∷ [], tt), (fullShare, tt), tt, (record { ptr = (b, o); name = k .0 .1; now = d }, tt), (vptr b o ∷ [], tt)), tt)
 
   goes-pk : (k : Keys (csS o)) → ent 𝓤 (sep 𝓤 (sem 𝓤 H A (tokens (csS o) k ftrue)) (sem 𝓤 H A (refs b (csS o) (d, tt) k ftrue))) (Gpk 𝓤 H A at-mem run .pre (to-pk k))
   goes-pk k = qed W (‵ (tokens (csS o) k ftrue) ∷ ‵ (refs b (csS o) (d, tt) k ftrue) ∷ []) ∵ join ! $ frame ! $ done !
 
-  module _ (C : Calls 𝓤 H) (Λ : Loops 𝓤 H) (fm : FmC 𝓤 H (W .laws) C) (known-ok : Triple 𝓤 (C #ok) (Gok 𝓤 H A at-mem run)) (known-tr : Triple 𝓤 (C #tr) (Gtr 𝓤 H A at-mem run)) (known-sr : Triple 𝓤 (C #sr) (Gsr 𝓤 H A at-mem run)) (known-qr : Triple 𝓤 (C #qr) (Gqr 𝓤 H A at-mem run)) (known-pk : Triple 𝓤 (C #pk) (Gpk 𝓤 H A at-mem run)) where
+  module _ (C : Calls 𝓤 H) (Λ : Loops 𝓤 H) (fm : FmC 𝓤 H (W .laws) C) (known-ok : Triple 𝓤 (C #ok) (Gok 𝓤 H A at-mem run)) (known-tr : Triple 𝓤 (C #tr) (Gtr 𝓤 H A at-mem run)) (known-sr : Triple 𝓤 (C #sr) (Gsr 𝓤 H A at-mem run)) (known-qr : Triple 𝓤 (C #qr) (Gqr 𝓤 H A at-mem run)) (known-mr : Triple 𝓤 (C #mr) (Gmr 𝓤 H A at-mem run)) (known-pk : Triple 𝓤 (C #pk) (Gpk 𝓤 H A at-mem run)) where
     walk : ent 𝓤 (onEntry 𝓤 H A outer.signature (κ, tt) (q, tt) a vals) (WpFn 𝓤 H C Λ code.function (vptr b o ∷ []) Post)
     walk =
         qed W ((‵ (flft κ q) ⊛ ‵ ftrue) ∷ ‵ (owns (MutRef (named 0) κ R ∷ []) a vals) ∷ []) ∵ enter ! C Λ code.function (vptr b o ∷ []) _ $
-        alloc1 ! (λ l0. alloc1 ! (λ l1. alloc1 ! (λ l2. alloc1 ! (λ l3. alloc1 ! (λ l4. alloc1 ! (λ l5. alloc1 ! (λ l6. alloc1 ! (λ l7. alloc1 ! (λ l8. alloc1 ! (λ l9. alloc1 ! (λ l10. alloc1 ! (λ l11. alloc1 ! (λ l12. alloc1 ! (λ l13. alloc1 ! (λ l14. alloc0 ! $ params1 ! $ pass1 ! (init ! 26 refl (tt, tt)) $ pass0 ! $
-        move ! (31 ∷ []) $ fsplit ! $ fsplit3 ! $ drop ! $ move ! (2 ∷ []) $ drop ! $ move ! (32 ∷ []) $ split ! $ move ! (2 ∷ 3 ∷ 0 ∷ []) $ open-ref ! tt (mem R) {x = d} {b = b} {o = o} $
-        assigns ! (addr ! (from ! (hop ! (look ! 31 refl) (stop !)))) (from ! (stop !)) (init ! 27 refl (tt, tt)) $
+        alloc1 ! (λ l0. alloc1 ! (λ l1. alloc1 ! (λ l2. alloc1 ! (λ l3. alloc1 ! (λ l4. alloc1 ! (λ l5. alloc1 ! (λ l6. alloc1 ! (λ l7. alloc1 ! (λ l8. alloc1 ! (λ l9. alloc1 ! (λ l10. alloc1 ! (λ l11. alloc1 ! (λ l12. alloc1 ! (λ l13. alloc1 ! (λ l14. alloc1 ! (λ l15. alloc1 ! (λ l16. alloc1 ! (λ l17. alloc0 ! $ params1 ! $ pass1 ! (init ! 32 refl (tt, tt)) $ pass0 ! $
+        move ! (37 ∷ []) $ fsplit ! $ fsplit3 ! $ drop ! $ move ! (2 ∷ []) $ drop ! $ move ! (38 ∷ []) $ split ! $ move ! (2 ∷ 3 ∷ 0 ∷ []) $ open-ref ! tt (mem R) {x = d} {b = b} {o = o} $
+        assigns ! (addr ! (from ! (hop ! (look ! 37 refl) (stop !)))) (from ! (stop !)) (init ! 33 refl (tt, tt)) $
         move ! (0 ∷ []) $ nothing ! $ move ! (1 ∷ 0 ∷ []) $ fjoin ! $ nothing ! $ nothing ! $ move ! (2 ∷ 0 ∷ 1 ∷ []) $
         use3 W (later (some (λ (k : Keys (csS o)). ‵ (tokens (csS o) k ftrue) ⊛ ‵ (refs b (csS o) (d, tt) k ftrue) ⊛ ‵ (kept b (csS o) k)))) (lends b 𝓤 H A W ftrue ftrue (csS o) (d, tt)) $ await ! tt $ pick ! (λ k-ok. split3 ! $
         use2 W (raw (Gok 𝓤 H A at-mem run .pre (to-ok k-ok))) (goes-ok k-ok) $
-        calls-at ! fm (Gok 𝓤 H A at-mem run) known-ok (to-ok k-ok) (and-then ! (load ! (from ! (stop !)) (look ! 28 refl)) (no-more !)) (λ u-ok.
+        calls-at ! fm (Gok 𝓤 H A at-mem run) known-ok (to-ok k-ok) (and-then ! (load ! (from ! (stop !)) (look ! 34 refl)) (no-more !)) (λ u-ok.
         use1 W (later (some (λ (y-ok : Bool). (‵ (tokens (csS o) k-ok ftrue) ⊛ ‵ (Boolean .own y-ok (u-ok ∷ []))) ⊛ raw (ensured 𝓤 H A ok.ended (ok.clauses 𝓤 H A at-mem run) (to-ok k-ok .0 .0) (to-ok k-ok .0 .3) tt y-ok)))) (id⊢ 𝓤 _) $ await ! tt $ pick ! (λ y-ok.
         split ! $ move ! (1 ∷ []) $ use1 W (some (λ (e-ok : State × Unit {0}). ‵ (lasts (csS o) (e-ok .0, tt) k-ok ftrue) ⊛ raw (fact 𝓤 ((y-ok ≡ keeps orderRules d) × (e-ok .0 ≡ d))))) (id⊢ 𝓤 _) $ pick ! (λ e-ok.
         split ! $ move ! (1 ∷ []) $ heard ! ((y-ok ≡ keeps orderRules d) × (e-ok .0 ≡ d)) (λ is-ok. rewrite ! 0 (λ (x : State). ‵ (lasts (csS o) (x, tt) k-ok ftrue)) (is-ok .1) refl $ move ! (1 ∷ []) $ split ! $ move ! (1 ∷ []) $ peeks ! Boolean (Is Boolean) (shows 𝓤 H A Boolean) y-ok (u-ok ∷ []) (λ isB-ok.
-        land ! (from ! (stop !)) (init ! 32 refl (bool-lawful 𝓤 H A W .typed y-ok _ isB-ok .0)) $ rewrite ! 32 (λ (v : Val). ‵ (fat fullShare tyBool l2 0 v)) (ap only (bool-tells y-ok (u-ok ∷ []) isB-ok)) refl $ drop ! $
+        land ! (from ! (stop !)) (init ! 38 refl (bool-lawful 𝓤 H A W .typed y-ok _ isB-ok .0)) $ rewrite ! 38 (λ (v : Val). ‵ (fat fullShare tyBool l2 0 v)) (ap only (bool-tells y-ok (u-ok ∷ []) isB-ok)) refl $ drop ! $
         move ! (0 ∷ 2 ∷ 1 ∷ []) $ use3 W (later (‵ (lie b (csS o) (d, tt)) ⊛ ‵ ftrue ⊛ ‵ ftrue)) (backs b 𝓤 H A W ftrue ftrue (csS o) (d, tt) k-ok) $ await ! tt $ split3 ! $ fsplit ! $ move ! (1 ∷ []) $ drop ! $ move ! (1 ∷ []) $ drop ! $ move ! (1 ∷ []) $ drop ! $
-        assigns ! (addr ! (from ! (hop ! (look ! 31 refl) (stop !)))) (from ! (stop !)) (init ! 23 refl (tt, tt)) $
+        assigns ! (addr ! (from ! (hop ! (look ! 37 refl) (stop !)))) (from ! (stop !)) (init ! 29 refl (tt, tt)) $
         move ! (0 ∷ []) $ nothing ! $ move ! (1 ∷ 0 ∷ []) $ fjoin ! $ nothing ! $ nothing ! $ move ! (2 ∷ 0 ∷ 1 ∷ []) $
         use3 W (later (some (λ (k : Keys (csS o)). ‵ (tokens (csS o) k ftrue) ⊛ ‵ (refs b (csS o) (d, tt) k ftrue) ⊛ ‵ (kept b (csS o) k)))) (lends b 𝓤 H A W ftrue ftrue (csS o) (d, tt)) $ await ! tt $ pick ! (λ k-tr. split3 ! $
         use2 W (raw (Gtr 𝓤 H A at-mem run .pre (to-tr k-tr))) (goes-tr k-tr) $
-        calls-at ! fm (Gtr 𝓤 H A at-mem run) known-tr (to-tr k-tr) (and-then ! (load ! (from ! (stop !)) (look ! 24 refl)) (no-more !)) (λ u-tr.
+        calls-at ! fm (Gtr 𝓤 H A at-mem run) known-tr (to-tr k-tr) (and-then ! (load ! (from ! (stop !)) (look ! 30 refl)) (no-more !)) (λ u-tr.
         use1 W (later (some (λ (y-tr : Bool). (‵ (tokens (csS o) k-tr ftrue) ⊛ ‵ (Boolean .own y-tr (u-tr ∷ []))) ⊛ raw (ensured 𝓤 H A tr.ended (tr.clauses 𝓤 H A at-mem run) (to-tr k-tr .0 .0) (to-tr k-tr .0 .3) tt y-tr)))) (id⊢ 𝓤 _) $ await ! tt $ pick ! (λ y-tr.
         split ! $ move ! (1 ∷ []) $ use1 W (some (λ (e-tr : State × Unit {0}). ‵ (lasts (csS o) (e-tr .0, tt) k-tr ftrue) ⊛ raw (fact 𝓤 ((y-tr ≡ tasksRight (d .tasks)) × (e-tr .0 ≡ d))))) (id⊢ 𝓤 _) $ pick ! (λ e-tr.
         split ! $ move ! (1 ∷ []) $ heard ! ((y-tr ≡ tasksRight (d .tasks)) × (e-tr .0 ≡ d)) (λ is-tr. rewrite ! 0 (λ (x : State). ‵ (lasts (csS o) (x, tt) k-tr ftrue)) (is-tr .1) refl $ move ! (1 ∷ []) $ split ! $ move ! (1 ∷ []) $ peeks ! Boolean (Is Boolean) (shows 𝓤 H A Boolean) y-tr (u-tr ∷ []) (λ isB-tr.
-        land ! (from ! (stop !)) (init ! 28 refl (bool-lawful 𝓤 H A W .typed y-tr _ isB-tr .0)) $ rewrite ! 28 (λ (v : Val). ‵ (fat fullShare tyBool l4 0 v)) (ap only (bool-tells y-tr (u-tr ∷ []) isB-tr)) refl $ drop ! $
+        land ! (from ! (stop !)) (init ! 34 refl (bool-lawful 𝓤 H A W .typed y-tr _ isB-tr .0)) $ rewrite ! 34 (λ (v : Val). ‵ (fat fullShare tyBool l4 0 v)) (ap only (bool-tells y-tr (u-tr ∷ []) isB-tr)) refl $ drop ! $
         move ! (0 ∷ 2 ∷ 1 ∷ []) $ use3 W (later (‵ (lie b (csS o) (d, tt)) ⊛ ‵ ftrue ⊛ ‵ ftrue)) (backs b 𝓤 H A W ftrue ftrue (csS o) (d, tt) k-tr) $ await ! tt $ split3 ! $ fsplit ! $ move ! (1 ∷ []) $ drop ! $ move ! (1 ∷ []) $ drop ! $ move ! (1 ∷ []) $ drop ! $
-        assigns ! (bin ! (load ! (from ! (stop !)) (look ! 29 refl)) (load ! (from ! (stop !)) (look ! 25 refl)) tt) (from ! (stop !)) (init ! 21 refl (tt, tt)) $
-        assigns ! (addr ! (from ! (hop ! (look ! 31 refl) (stop !)))) (from ! (stop !)) (init ! 17 refl (tt, tt)) $
+        assigns ! (bin ! (load ! (from ! (stop !)) (look ! 35 refl)) (load ! (from ! (stop !)) (look ! 31 refl)) tt) (from ! (stop !)) (init ! 27 refl (tt, tt)) $
+        assigns ! (addr ! (from ! (hop ! (look ! 37 refl) (stop !)))) (from ! (stop !)) (init ! 23 refl (tt, tt)) $
         move ! (0 ∷ []) $ nothing ! $ move ! (1 ∷ 0 ∷ []) $ fjoin ! $ nothing ! $ nothing ! $ move ! (2 ∷ 0 ∷ 1 ∷ []) $
         use3 W (later (some (λ (k : Keys (csS o)). ‵ (tokens (csS o) k ftrue) ⊛ ‵ (refs b (csS o) (d, tt) k ftrue) ⊛ ‵ (kept b (csS o) k)))) (lends b 𝓤 H A W ftrue ftrue (csS o) (d, tt)) $ await ! tt $ pick ! (λ k-sr. split3 ! $
         use2 W (raw (Gsr 𝓤 H A at-mem run .pre (to-sr k-sr))) (goes-sr k-sr) $
-        calls-at ! fm (Gsr 𝓤 H A at-mem run) known-sr (to-sr k-sr) (and-then ! (load ! (from ! (stop !)) (look ! 18 refl)) (no-more !)) (λ u-sr.
+        calls-at ! fm (Gsr 𝓤 H A at-mem run) known-sr (to-sr k-sr) (and-then ! (load ! (from ! (stop !)) (look ! 24 refl)) (no-more !)) (λ u-sr.
         use1 W (later (some (λ (y-sr : Bool). (‵ (tokens (csS o) k-sr ftrue) ⊛ ‵ (Boolean .own y-sr (u-sr ∷ []))) ⊛ raw (ensured 𝓤 H A sr.ended (sr.clauses 𝓤 H A at-mem run) (to-sr k-sr .0 .0) (to-sr k-sr .0 .3) tt y-sr)))) (id⊢ 𝓤 _) $ await ! tt $ pick ! (λ y-sr.
         split ! $ move ! (1 ∷ []) $ use1 W (some (λ (e-sr : State × Unit {0}). ‵ (lasts (csS o) (e-sr .0, tt) k-sr ftrue) ⊛ raw (fact 𝓤 ((y-sr ≡ semsRight (d .semaphores)) × (e-sr .0 ≡ d))))) (id⊢ 𝓤 _) $ pick ! (λ e-sr.
         split ! $ move ! (1 ∷ []) $ heard ! ((y-sr ≡ semsRight (d .semaphores)) × (e-sr .0 ≡ d)) (λ is-sr. rewrite ! 0 (λ (x : State). ‵ (lasts (csS o) (x, tt) k-sr ftrue)) (is-sr .1) refl $ move ! (1 ∷ []) $ split ! $ move ! (1 ∷ []) $ peeks ! Boolean (Is Boolean) (shows 𝓤 H A Boolean) y-sr (u-sr ∷ []) (λ isB-sr.
-        land ! (from ! (stop !)) (init ! 22 refl (bool-lawful 𝓤 H A W .typed y-sr _ isB-sr .0)) $ rewrite ! 22 (λ (v : Val). ‵ (fat fullShare tyBool l7 0 v)) (ap only (bool-tells y-sr (u-sr ∷ []) isB-sr)) refl $ drop ! $
+        land ! (from ! (stop !)) (init ! 28 refl (bool-lawful 𝓤 H A W .typed y-sr _ isB-sr .0)) $ rewrite ! 28 (λ (v : Val). ‵ (fat fullShare tyBool l7 0 v)) (ap only (bool-tells y-sr (u-sr ∷ []) isB-sr)) refl $ drop ! $
         move ! (0 ∷ 2 ∷ 1 ∷ []) $ use3 W (later (‵ (lie b (csS o) (d, tt)) ⊛ ‵ ftrue ⊛ ‵ ftrue)) (backs b 𝓤 H A W ftrue ftrue (csS o) (d, tt) k-sr) $ await ! tt $ split3 ! $ fsplit ! $ move ! (1 ∷ []) $ drop ! $ move ! (1 ∷ []) $ drop ! $ move ! (1 ∷ []) $ drop ! $
-        assigns ! (bin ! (load ! (from ! (stop !)) (look ! 21 refl)) (load ! (from ! (stop !)) (look ! 19 refl)) tt) (from ! (stop !)) (init ! 15 refl (tt, tt)) $
-        assigns ! (addr ! (from ! (hop ! (look ! 31 refl) (stop !)))) (from ! (stop !)) (init ! 11 refl (tt, tt)) $
+        assigns ! (bin ! (load ! (from ! (stop !)) (look ! 27 refl)) (load ! (from ! (stop !)) (look ! 25 refl)) tt) (from ! (stop !)) (init ! 21 refl (tt, tt)) $
+        assigns ! (addr ! (from ! (hop ! (look ! 37 refl) (stop !)))) (from ! (stop !)) (init ! 17 refl (tt, tt)) $
         move ! (0 ∷ []) $ nothing ! $ move ! (1 ∷ 0 ∷ []) $ fjoin ! $ nothing ! $ nothing ! $ move ! (2 ∷ 0 ∷ 1 ∷ []) $
         use3 W (later (some (λ (k : Keys (csS o)). ‵ (tokens (csS o) k ftrue) ⊛ ‵ (refs b (csS o) (d, tt) k ftrue) ⊛ ‵ (kept b (csS o) k)))) (lends b 𝓤 H A W ftrue ftrue (csS o) (d, tt)) $ await ! tt $ pick ! (λ k-qr. split3 ! $
         use2 W (raw (Gqr 𝓤 H A at-mem run .pre (to-qr k-qr))) (goes-qr k-qr) $
-        calls-at ! fm (Gqr 𝓤 H A at-mem run) known-qr (to-qr k-qr) (and-then ! (load ! (from ! (stop !)) (look ! 12 refl)) (no-more !)) (λ u-qr.
+        calls-at ! fm (Gqr 𝓤 H A at-mem run) known-qr (to-qr k-qr) (and-then ! (load ! (from ! (stop !)) (look ! 18 refl)) (no-more !)) (λ u-qr.
         use1 W (later (some (λ (y-qr : Bool). (‵ (tokens (csS o) k-qr ftrue) ⊛ ‵ (Boolean .own y-qr (u-qr ∷ []))) ⊛ raw (ensured 𝓤 H A qr.ended (qr.clauses 𝓤 H A at-mem run) (to-qr k-qr .0 .0) (to-qr k-qr .0 .3) tt y-qr)))) (id⊢ 𝓤 _) $ await ! tt $ pick ! (λ y-qr.
         split ! $ move ! (1 ∷ []) $ use1 W (some (λ (e-qr : State × Unit {0}). ‵ (lasts (csS o) (e-qr .0, tt) k-qr ftrue) ⊛ raw (fact 𝓤 ((y-qr ≡ queuesRight (d .queues)) × (e-qr .0 ≡ d))))) (id⊢ 𝓤 _) $ pick ! (λ e-qr.
         split ! $ move ! (1 ∷ []) $ heard ! ((y-qr ≡ queuesRight (d .queues)) × (e-qr .0 ≡ d)) (λ is-qr. rewrite ! 0 (λ (x : State). ‵ (lasts (csS o) (x, tt) k-qr ftrue)) (is-qr .1) refl $ move ! (1 ∷ []) $ split ! $ move ! (1 ∷ []) $ peeks ! Boolean (Is Boolean) (shows 𝓤 H A Boolean) y-qr (u-qr ∷ []) (λ isB-qr.
-        land ! (from ! (stop !)) (init ! 16 refl (bool-lawful 𝓤 H A W .typed y-qr _ isB-qr .0)) $ rewrite ! 16 (λ (v : Val). ‵ (fat fullShare tyBool l10 0 v)) (ap only (bool-tells y-qr (u-qr ∷ []) isB-qr)) refl $ drop ! $
+        land ! (from ! (stop !)) (init ! 22 refl (bool-lawful 𝓤 H A W .typed y-qr _ isB-qr .0)) $ rewrite ! 22 (λ (v : Val). ‵ (fat fullShare tyBool l10 0 v)) (ap only (bool-tells y-qr (u-qr ∷ []) isB-qr)) refl $ drop ! $
         move ! (0 ∷ 2 ∷ 1 ∷ []) $ use3 W (later (‵ (lie b (csS o) (d, tt)) ⊛ ‵ ftrue ⊛ ‵ ftrue)) (backs b 𝓤 H A W ftrue ftrue (csS o) (d, tt) k-qr) $ await ! tt $ split3 ! $ fsplit ! $ move ! (1 ∷ []) $ drop ! $ move ! (1 ∷ []) $ drop ! $ move ! (1 ∷ []) $ drop ! $
+        assigns ! (bin ! (load ! (from ! (stop !)) (look ! 21 refl)) (load ! (from ! (stop !)) (look ! 19 refl)) tt) (from ! (stop !)) (init ! 15 refl (tt, tt)) $
+        assigns ! (addr ! (from ! (hop ! (look ! 37 refl) (stop !)))) (from ! (stop !)) (init ! 11 refl (tt, tt)) $
+        move ! (0 ∷ []) $ nothing ! $ move ! (1 ∷ 0 ∷ []) $ fjoin ! $ nothing ! $ nothing ! $ move ! (2 ∷ 0 ∷ 1 ∷ []) $
+        use3 W (later (some (λ (k : Keys (csS o)). ‵ (tokens (csS o) k ftrue) ⊛ ‵ (refs b (csS o) (d, tt) k ftrue) ⊛ ‵ (kept b (csS o) k)))) (lends b 𝓤 H A W ftrue ftrue (csS o) (d, tt)) $ await ! tt $ pick ! (λ k-mr. split3 ! $
+        use2 W (raw (Gmr 𝓤 H A at-mem run .pre (to-mr k-mr))) (goes-mr k-mr) $
+        calls-at ! fm (Gmr 𝓤 H A at-mem run) known-mr (to-mr k-mr) (and-then ! (load ! (from ! (stop !)) (look ! 12 refl)) (no-more !)) (λ u-mr.
+        use1 W (later (some (λ (y-mr : Bool). (‵ (tokens (csS o) k-mr ftrue) ⊛ ‵ (Boolean .own y-mr (u-mr ∷ []))) ⊛ raw (ensured 𝓤 H A mr.ended (mr.clauses 𝓤 H A at-mem run) (to-mr k-mr .0 .0) (to-mr k-mr .0 .3) tt y-mr)))) (id⊢ 𝓤 _) $ await ! tt $ pick ! (λ y-mr.
+        split ! $ move ! (1 ∷ []) $ use1 W (some (λ (e-mr : State × Unit {0}). ‵ (lasts (csS o) (e-mr .0, tt) k-mr ftrue) ⊛ raw (fact 𝓤 ((y-mr ≡ messagesRight (d .queues)) × (e-mr .0 ≡ d))))) (id⊢ 𝓤 _) $ pick ! (λ e-mr.
+        split ! $ move ! (1 ∷ []) $ heard ! ((y-mr ≡ messagesRight (d .queues)) × (e-mr .0 ≡ d)) (λ is-mr. rewrite ! 0 (λ (x : State). ‵ (lasts (csS o) (x, tt) k-mr ftrue)) (is-mr .1) refl $ move ! (1 ∷ []) $ split ! $ move ! (1 ∷ []) $ peeks ! Boolean (Is Boolean) (shows 𝓤 H A Boolean) y-mr (u-mr ∷ []) (λ isB-mr.
+        land ! (from ! (stop !)) (init ! 16 refl (bool-lawful 𝓤 H A W .typed y-mr _ isB-mr .0)) $ rewrite ! 16 (λ (v : Val). ‵ (fat fullShare tyBool l13 0 v)) (ap only (bool-tells y-mr (u-mr ∷ []) isB-mr)) refl $ drop ! $
+        move ! (0 ∷ 2 ∷ 1 ∷ []) $ use3 W (later (‵ (lie b (csS o) (d, tt)) ⊛ ‵ ftrue ⊛ ‵ ftrue)) (backs b 𝓤 H A W ftrue ftrue (csS o) (d, tt) k-mr) $ await ! tt $ split3 ! $ fsplit ! $ move ! (1 ∷ []) $ drop ! $ move ! (1 ∷ []) $ drop ! $ move ! (1 ∷ []) $ drop ! $
         assigns ! (bin ! (load ! (from ! (stop !)) (look ! 15 refl)) (load ! (from ! (stop !)) (look ! 13 refl)) tt) (from ! (stop !)) (init ! 9 refl (tt, tt)) $
-        assigns ! (addr ! (from ! (hop ! (look ! 31 refl) (stop !)))) (from ! (stop !)) (init ! 5 refl (tt, tt)) $
+        assigns ! (addr ! (from ! (hop ! (look ! 37 refl) (stop !)))) (from ! (stop !)) (init ! 5 refl (tt, tt)) $
         move ! (0 ∷ []) $ nothing ! $ move ! (1 ∷ 0 ∷ []) $ fjoin ! $ nothing ! $ nothing ! $ move ! (2 ∷ 0 ∷ 1 ∷ []) $
         use3 W (later (some (λ (k : Keys (csS o)). ‵ (tokens (csS o) k ftrue) ⊛ ‵ (refs b (csS o) (d, tt) k ftrue) ⊛ ‵ (kept b (csS o) k)))) (lends b 𝓤 H A W ftrue ftrue (csS o) (d, tt)) $ await ! tt $ pick ! (λ k-pk. split3 ! $
         use2 W (raw (Gpk 𝓤 H A at-mem run .pre (to-pk k-pk))) (goes-pk k-pk) $
@@ -194,23 +218,23 @@ module _ {M : Type 1} (𝓤 : URA M) (H : Heap 𝓤) (A : Atoms 𝓤) (W : Given
         use1 W (later (some (λ (y-pk : Bool). (‵ (tokens (csS o) k-pk ftrue) ⊛ ‵ (Boolean .own y-pk (u-pk ∷ []))) ⊛ raw (ensured 𝓤 H A pk.ended (pk.clauses 𝓤 H A at-mem run) (to-pk k-pk .0 .0) (to-pk k-pk .0 .3) tt y-pk)))) (id⊢ 𝓤 _) $ await ! tt $ pick ! (λ y-pk.
         split ! $ move ! (1 ∷ []) $ use1 W (some (λ (e-pk : State × Unit {0}). ‵ (lasts (csS o) (e-pk .0, tt) k-pk ftrue) ⊛ raw (fact 𝓤 ((y-pk ≡ poolsKept (d .pools)) × (e-pk .0 ≡ d))))) (id⊢ 𝓤 _) $ pick ! (λ e-pk.
         split ! $ move ! (1 ∷ []) $ heard ! ((y-pk ≡ poolsKept (d .pools)) × (e-pk .0 ≡ d)) (λ is-pk. rewrite ! 0 (λ (x : State). ‵ (lasts (csS o) (x, tt) k-pk ftrue)) (is-pk .1) refl $ move ! (1 ∷ []) $ split ! $ move ! (1 ∷ []) $ peeks ! Boolean (Is Boolean) (shows 𝓤 H A Boolean) y-pk (u-pk ∷ []) (λ isB-pk.
-        land ! (from ! (stop !)) (init ! 10 refl (bool-lawful 𝓤 H A W .typed y-pk _ isB-pk .0)) $ rewrite ! 10 (λ (v : Val). ‵ (fat fullShare tyBool l13 0 v)) (ap only (bool-tells y-pk (u-pk ∷ []) isB-pk)) refl $ drop ! $
+        land ! (from ! (stop !)) (init ! 10 refl (bool-lawful 𝓤 H A W .typed y-pk _ isB-pk .0)) $ rewrite ! 10 (λ (v : Val). ‵ (fat fullShare tyBool l16 0 v)) (ap only (bool-tells y-pk (u-pk ∷ []) isB-pk)) refl $ drop ! $
         move ! (0 ∷ 2 ∷ 1 ∷ []) $ use3 W (later (‵ (lie b (csS o) (d, tt)) ⊛ ‵ ftrue ⊛ ‵ ftrue)) (backs b 𝓤 H A W ftrue ftrue (csS o) (d, tt) k-pk) $ await ! tt $ split3 ! $ fsplit ! $ move ! (1 ∷ []) $ drop ! $ move ! (1 ∷ []) $ drop ! $ move ! (1 ∷ []) $ drop ! $
-        assigns ! (bin ! (load ! (from ! (stop !)) (look ! 9 refl)) (load ! (from ! (stop !)) (look ! 7 refl)) tt) (from ! (stop !)) (init ! 33 refl (tt, tt)) $
-        move ! (0 ∷ 1 ∷ 2 ∷ 3 ∷ []) $ close-ref ! tt (mem R) d {b = b} {o = o} $ move ! (0 ∷ 1 ∷ 2 ∷ 3 ∷ []) $ returns ! (look ! 32 refl) $ forget ! 32 refl $ forget ! 30 refl $ forget ! 28 refl $ forget ! 26 refl $ forget ! 24 refl $ forget ! 22 refl $ forget ! 20 refl $ forget ! 18 refl $ forget ! 16 refl $ forget ! 14 refl $ forget ! 12 refl $ forget ! 10 refl $ forget ! 8 refl $ forget ! 6 refl $ forget ! 4 refl $
-        move ! (32 ∷ 33 ∷ []) $ free1 ! $ move ! (30 ∷ 31 ∷ []) $ free1 ! $ move ! (28 ∷ 29 ∷ []) $ free1 ! $ move ! (26 ∷ 27 ∷ []) $ free1 ! $ move ! (24 ∷ 25 ∷ []) $ free1 ! $ move ! (22 ∷ 23 ∷ []) $ free1 ! $ move ! (20 ∷ 21 ∷ []) $ free1 ! $ move ! (18 ∷ 19 ∷ []) $ free1 ! $ move ! (16 ∷ 17 ∷ []) $ free1 ! $ move ! (14 ∷ 15 ∷ []) $ free1 ! $ move ! (12 ∷ 13 ∷ []) $ free1 ! $ move ! (10 ∷ 11 ∷ []) $ free1 ! $ move ! (8 ∷ 9 ∷ []) $ free1 ! $ move ! (6 ∷ 7 ∷ []) $ free1 ! $ move ! (4 ∷ 5 ∷ []) $ free1 ! $ free0 ! $
-        by ! (exits ((((y-ok && y-tr) && y-sr) && y-qr) && y-pk) (sound-parts d y-ok y-tr y-sr y-qr y-pk (is-ok .0) (is-tr .0) (is-sr .0) (is-qr .0) (is-pk .0))))))))))))))))))))))))))))))))))))))))))))))))
+        assigns ! (bin ! (load ! (from ! (stop !)) (look ! 9 refl)) (load ! (from ! (stop !)) (look ! 7 refl)) tt) (from ! (stop !)) (init ! 39 refl (tt, tt)) $
+        move ! (0 ∷ 1 ∷ 2 ∷ 3 ∷ []) $ close-ref ! tt (mem R) d {b = b} {o = o} $ move ! (0 ∷ 1 ∷ 2 ∷ 3 ∷ []) $ returns ! (look ! 38 refl) $ forget ! 38 refl $ forget ! 36 refl $ forget ! 34 refl $ forget ! 32 refl $ forget ! 30 refl $ forget ! 28 refl $ forget ! 26 refl $ forget ! 24 refl $ forget ! 22 refl $ forget ! 20 refl $ forget ! 18 refl $ forget ! 16 refl $ forget ! 14 refl $ forget ! 12 refl $ forget ! 10 refl $ forget ! 8 refl $ forget ! 6 refl $ forget ! 4 refl $
+        move ! (38 ∷ 39 ∷ []) $ free1 ! $ move ! (36 ∷ 37 ∷ []) $ free1 ! $ move ! (34 ∷ 35 ∷ []) $ free1 ! $ move ! (32 ∷ 33 ∷ []) $ free1 ! $ move ! (30 ∷ 31 ∷ []) $ free1 ! $ move ! (28 ∷ 29 ∷ []) $ free1 ! $ move ! (26 ∷ 27 ∷ []) $ free1 ! $ move ! (24 ∷ 25 ∷ []) $ free1 ! $ move ! (22 ∷ 23 ∷ []) $ free1 ! $ move ! (20 ∷ 21 ∷ []) $ free1 ! $ move ! (18 ∷ 19 ∷ []) $ free1 ! $ move ! (16 ∷ 17 ∷ []) $ free1 ! $ move ! (14 ∷ 15 ∷ []) $ free1 ! $ move ! (12 ∷ 13 ∷ []) $ free1 ! $ move ! (10 ∷ 11 ∷ []) $ free1 ! $ move ! (8 ∷ 9 ∷ []) $ free1 ! $ move ! (6 ∷ 7 ∷ []) $ free1 ! $ move ! (4 ∷ 5 ∷ []) $ free1 ! $ free0 ! $
+        by ! (exits (((((y-ok && y-tr) && y-sr) && y-qr) && y-mr) && y-pk) (sound-parts d y-ok y-tr y-sr y-qr y-mr y-pk (is-ok .0) (is-tr .0) (is-sr .0) (is-qr .0) (is-mr .0) (is-pk .0)))))))))))))))))))))))))))))))))))))))))))))))))))))))))
 
 module _ {M : Type 1} (𝓤 : URA M) (H : Heap 𝓤) (A : Atoms 𝓤) (W : Given 𝓤 H A) (mem : Memory → SProp 𝓤) (run : Routine → Fun 𝓤) where
-  is-sound-walks : (C : Calls 𝓤 H) (Λ : Loops 𝓤 H) → FmC 𝓤 H (W .laws) C → Triple 𝓤 (C #ok) (Gok 𝓤 H A mem run) → Triple 𝓤 (C #tr) (Gtr 𝓤 H A mem run) → Triple 𝓤 (C #sr) (Gsr 𝓤 H A mem run) → Triple 𝓤 (C #qr) (Gqr 𝓤 H A mem run) → Triple 𝓤 (C #pk) (Gpk 𝓤 H A mem run) → Walks 𝓤 H A outer.ended stayed (WpFn 𝓤 H C Λ code.function) (outer.clauses 𝓤 H A mem run)
-  is-sound-walks C Λ fm known-ok known-tr known-sr known-qr known-pk = walked 𝓤 H A outer.ended stayed (outer.clauses 𝓤 H A mem run) (WpFn 𝓤 H C Λ code.function) (λ κs. (ptr-vals, tt)) (λ κs. (mut-tells (named 0) (κs .0) S.the-row, tt))
-      (λ κs qs bounds a _ are. via 𝓤 _ (fst∗ 𝓤 _ (emp 𝓤)) (walk 𝓤 H A W mem run (κs .0) (qs .0) (a .0 .ptr .0) (a .0 .ptr .1) (a .0 .name) (a .0 .now) C Λ fm known-ok known-tr known-sr known-qr known-pk))
+  is-sound-walks : (C : Calls 𝓤 H) (Λ : Loops 𝓤 H) → FmC 𝓤 H (W .laws) C → Triple 𝓤 (C #ok) (Gok 𝓤 H A mem run) → Triple 𝓤 (C #tr) (Gtr 𝓤 H A mem run) → Triple 𝓤 (C #sr) (Gsr 𝓤 H A mem run) → Triple 𝓤 (C #qr) (Gqr 𝓤 H A mem run) → Triple 𝓤 (C #mr) (Gmr 𝓤 H A mem run) → Triple 𝓤 (C #pk) (Gpk 𝓤 H A mem run) → Walks 𝓤 H A outer.ended stayed (WpFn 𝓤 H C Λ code.function) (outer.clauses 𝓤 H A mem run)
+  is-sound-walks C Λ fm known-ok known-tr known-sr known-qr known-mr known-pk = walked 𝓤 H A outer.ended stayed (outer.clauses 𝓤 H A mem run) (WpFn 𝓤 H C Λ code.function) (λ κs. (ptr-vals, tt)) (λ κs. (mut-tells (named 0) (κs .0) S.the-row, tt))
+      (λ κs qs bounds a _ are. via 𝓤 _ (fst∗ 𝓤 _ (emp 𝓤)) (walk 𝓤 H A W mem run (κs .0) (qs .0) (a .0 .ptr .0) (a .0 .ptr .1) (a .0 .name) (a .0 .now) C Λ fm known-ok known-tr known-sr known-qr known-mr known-pk))
 
-is-sound-meets : {M : Type 1} (𝓤 : URA M) (H : Heap 𝓤) (A : Atoms 𝓤) → Given 𝓤 H A → (mem : Memory → SProp 𝓤) (run : Routine → Fun 𝓤) (𝓣 : Tables 𝓤 H) → Triple 𝓤 (𝓣 .C #ok) (Gok 𝓤 H A mem run) → Triple 𝓤 (𝓣 .C #tr) (Gtr 𝓤 H A mem run) → Triple 𝓤 (𝓣 .C #sr) (Gsr 𝓤 H A mem run) → Triple 𝓤 (𝓣 .C #qr) (Gqr 𝓤 H A mem run) → Triple 𝓤 (𝓣 .C #pk) (Gpk 𝓤 H A mem run)
+is-sound-meets : {M : Type 1} (𝓤 : URA M) (H : Heap 𝓤) (A : Atoms 𝓤) → Given 𝓤 H A → (mem : Memory → SProp 𝓤) (run : Routine → Fun 𝓤) (𝓣 : Tables 𝓤 H) → Triple 𝓤 (𝓣 .C #ok) (Gok 𝓤 H A mem run) → Triple 𝓤 (𝓣 .C #tr) (Gtr 𝓤 H A mem run) → Triple 𝓤 (𝓣 .C #sr) (Gsr 𝓤 H A mem run) → Triple 𝓤 (𝓣 .C #qr) (Gqr 𝓤 H A mem run) → Triple 𝓤 (𝓣 .C #mr) (Gmr 𝓤 H A mem run) → Triple 𝓤 (𝓣 .C #pk) (Gpk 𝓤 H A mem run)
     → Meets 𝓤 H A outer.signature (WpFn 𝓤 H (𝓣 .C) (𝓣 .Λ) code.function) (outer.spec 𝓤 H A mem run)
-is-sound-meets 𝓤 H A W mem run 𝓣 known-ok known-tr known-sr known-qr known-pk =
+is-sound-meets 𝓤 H A W mem run 𝓣 known-ok known-tr known-sr known-qr known-mr known-pk =
     walk-meets 𝓤 H A outer.ended stayed W (goes-ref 𝓤 H A W 1 0 tt (plain (λ _. S.the-row)), tt) (outer.clauses 𝓤 H A mem run)
-    (WpFn 𝓤 H (𝓣 .C) (𝓣 .Λ) code.function) (WpFn-mono 𝓤 H (W .laws) 𝓣 code.function) (is-sound-walks 𝓤 H A W mem run (𝓣 .C) (𝓣 .Λ) (fmOf 𝓤 H (W .laws) 𝓣) known-ok known-tr known-sr known-qr known-pk)
+    (WpFn 𝓤 H (𝓣 .C) (𝓣 .Λ) code.function) (WpFn-mono 𝓤 H (W .laws) 𝓣 code.function) (is-sound-walks 𝓤 H A W mem run (𝓣 .C) (𝓣 .Λ) (fmOf 𝓤 H (W .laws) 𝓣) known-ok known-tr known-sr known-qr known-mr known-pk)
 
 pub is-sound-spec : {M : Type 1} → stated.statement M
 unfolding code.routine tablesOf
@@ -222,4 +246,5 @@ is-sound-spec 𝓤 H 𝓜 𝓖 𝓡 =
     (cited 𝓤 H (Gtr 𝓤 H (𝓖 .A) (𝓜 .mem) (𝓡 .run)) 𝓜 𝓡 code.env #tr tr-def.routine code.calls-lending·tasks-right (tr-thm.met 𝓤 H 𝓜 𝓖 𝓡))
     (cited 𝓤 H (Gsr 𝓤 H (𝓖 .A) (𝓜 .mem) (𝓡 .run)) 𝓜 𝓡 code.env #sr sr-def.routine code.calls-lending·sems-right (sr-thm.met 𝓤 H 𝓜 𝓖 𝓡))
     (cited 𝓤 H (Gqr 𝓤 H (𝓖 .A) (𝓜 .mem) (𝓡 .run)) 𝓜 𝓡 code.env #qr qr-def.routine code.calls-lending·queues-right (qr-thm.met 𝓤 H 𝓜 𝓖 𝓡))
+    (cited 𝓤 H (Gmr 𝓤 H (𝓖 .A) (𝓜 .mem) (𝓡 .run)) 𝓜 𝓡 code.env #mr mr-def.routine code.calls-lending·messages-right (mr-thm.met 𝓤 H 𝓜 𝓖 𝓡))
     (cited 𝓤 H (Gpk 𝓤 H (𝓖 .A) (𝓜 .mem) (𝓡 .run)) 𝓜 𝓡 code.env #pk pk-def.routine code.calls-lending·pools-kept (pk-thm.met 𝓤 H 𝓜 𝓖 𝓡)))

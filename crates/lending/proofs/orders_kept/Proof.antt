@@ -49,7 +49,7 @@ use Rattle.lending.proofs.Lending.{Col, Keys, With, columns, lfts, whol
 use Rattle.lending.proofs.Columns.{msS, Back, apart, together, csL, XsL, heldL, isL, BackL, AtL, apartL, togetherL, csK, XsK, heldK, isK, BackK, AtK, apartK, togetherK, csQ, XsQ, heldQ, isQ, BackQ, AtQ, apartQ, togetherQ, csU, XsU, heldU, isU, BackU, AtU, apartU, togetherU}
 use Rattle.rules.proofs.orders_kept as inner
 use Rattle.rules.proofs.orders_kept.Symbol as inner-def
-use Rattle.rules.proofs.orders_kept.Symbol.{name as #rules·orders_kept}
+use Rattle.rules.proofs.orders_kept.Symbol.{name as #inner}
 use Rattle.rules.proofs.orders_kept.Met as inner-thm
 use Rattle.lending.proofs.orders_kept.Key.{name as #lending·orders_kept}
 use Rattle.lending.proofs.orders_kept as outer
@@ -85,7 +85,7 @@ abbrev onQ : ℕ → List Col
 onQ o = chosen maskQ (csQ o)
 
 abbrev maskU : List Bool
-maskU = false ∷ false ∷ true ∷ true ∷ true ∷ true ∷ []
+maskU = false ∷ false ∷ true ∷ true ∷ true ∷ true ∷ false ∷ []
 
 abbrev onU : ℕ → List Col
 onU o = chosen maskU (csU o)
@@ -177,14 +177,14 @@ module _ {M : Type 1} (𝓤 : URA M) (H : Heap 𝓤) (A : Atoms 𝓤) (W : Given
       says ! (is-so d r said, refl) $ move ! (2 ∷ 3 ∷ []) $ join ! $ frame ! $ move ! (2 ∷ []) $ drop ! $
       nothing ! $ move ! (1 ∷ 2 ∷ []) $ feqI ! (List Val) (vptr b o ∷ []) (vptr b o ∷ []) refl $ fjoin3 ! $ fjoin ! $ done !
 
-  module _ (C : Calls 𝓤 H) (Λ : Loops 𝓤 H) (fm : FmC 𝓤 H (W .laws) C) (known : Triple 𝓤 (C #rules·orders_kept) (Inner 𝓤 H A at-mem run)) where
+  module _ (C : Calls 𝓤 H) (Λ : Loops 𝓤 H) (fm : FmC 𝓤 H (W .laws) C) (known : Triple 𝓤 (C #inner) (Inner 𝓤 H A at-mem run)) where
     walk : ent 𝓤 (onEntry 𝓤 H A outer.signature (κ, tt) (q, tt) a vals) (WpFn 𝓤 H C Λ code.function flatly Post)
     walk =
         qed W ((‵ (flft κ q) ⊛ ‵ ftrue) ∷ ‵ (owns (MutRef (named 0) κ R ∷ []) a vals) ∷ []) ∵ enter ! C Λ code.function flatly _ $
         alloc1 ! (λ l0. alloc1 ! (λ l1. alloc1 ! (λ l2. alloc1 ! (λ l3. alloc1 ! (λ l4. alloc1 ! (λ l5. alloc1 ! (λ l6. alloc1 ! (λ l7. alloc1 ! (λ l8. alloc1 ! (λ l9. alloc1 ! (λ l10. alloc1 ! (λ l11. alloc1 ! (λ l12. alloc1 ! (λ l13. alloc1 ! (λ l14. alloc1 ! (λ l15. alloc1 ! (λ l16. alloc0 ! $ params1 ! $ pass1 ! (init ! 30 refl (tt, tt)) $ pass0 ! $
         -- the borrow is opened, and the state is taken apart
         move ! (35 ∷ []) $ fsplit ! $ fsplit3 ! $ drop ! $ move ! (37 ∷ []) $ split ! $ move ! (2 ∷ 3 ∷ 0 ∷ []) $ open-ref ! tt (mem R) {x = d} {b = b} {o = o} $ move ! (0 ∷ []) $ use1 W (‵ (lie b (columns msS 0 o) (S.the-type .to d)) ⊛ raw (Back 𝓤 H A W b o)) (apart 𝓤 H A W b o d) $ split ! $ fsplit ! $ move ! (1 ∷ []) $ fsplit ! $ move ! (1 ∷ []) $ fsplit ! $ move ! (1 ∷ []) $ fsplit ! $ move ! (1 ∷ []) $ fsplit ! $ move ! (1 ∷ []) $ fsplit ! $
-        use1 W (given (d .running < 2 ^ 64) (‵ (fat fullShare (tyInt w64) b (o + 1536) (vint w64 (d .running))))) (number-out 𝓤 H A W b (o + 1536) (d .running)) $ learn ! (λ run-fits.
+        use1 W (given (d .running < 2 ^ 64) (‵ (fat fullShare (tyInt w64) b (o + 9856) (vint w64 (d .running))))) (number-out 𝓤 H A W b (o + 9856) (d .running)) $ learn ! (λ run-fits.
         assigns ! (of-opd ! (load ! (from ! (hop ! (look ! 43 refl) (fld ! refl (stop !)))) (look ! 0 refl))) (from ! (stop !)) (init ! 41 refl (tt, record { fits = run-fits })) $
         -- the columns' addresses
         assigns ! (addr ! (from ! (hop ! (look ! 43 refl) (fld ! refl (fld ! refl (stop !)))))) (from ! (stop !)) (init ! 39 refl (tt, tt)) $
@@ -230,18 +230,18 @@ module _ {M : Type 1} (𝓤 : URA M) (H : Heap 𝓤) (A : Atoms 𝓤) (W : Given
         move ! (1 ∷ 6 ∷ 2 ∷ []) $ use3 W (later (‵ (lie b (onU o) (chosenXs maskU (csU o) (heldU (d .queues)))) ⊛ ‵ P₀ ⊛ ‵ L₀)) (backs-shared b 𝓤 H A W P₀ L₀ (onU o) (chosenXs maskU (csU o) (heldU (d .queues))) kU) $ await ! tt $ split3 ! $
         move ! (0 ∷ 7 ∷ []) $ use2 W (‵ (lie b (csU o) (heldU (d .queues)))) (unparted b 𝓤 H A W maskU (csU o) (heldU (d .queues))) $ rewrite ! 0 (λ (xs : XsU). ‵ (lie b (csU o) xs)) (sym (isU (d .queues))) refl $ move ! (0 ∷ 7 ∷ []) $ use2 W (‵ (AtU 𝓤 H A W b o (d .queues))) (togetherU 𝓤 H A W b o (d .queues)) $
         -- the state is put together, and the borrow is closed
-        move ! (7 ∷ []) $ use1 W (‵ (mem usize .lies (d .running) b (o + 1536))) (number-in 𝓤 H A W b (o + 1536) (d .running) run-fits) $ move ! (0 ∷ 8 ∷ []) $ fjoin ! $ move ! (1 ∷ 0 ∷ []) $ fjoin ! $ move ! (7 ∷ 0 ∷ []) $ fjoin ! $ move ! (3 ∷ 0 ∷ []) $ fjoin ! $ move ! (3 ∷ 0 ∷ []) $ fjoin ! $ move ! (3 ∷ 0 ∷ []) $ fjoin ! $
+        move ! (7 ∷ []) $ use1 W (‵ (mem usize .lies (d .running) b (o + 9856))) (number-in 𝓤 H A W b (o + 9856) (d .running) run-fits) $ move ! (0 ∷ 8 ∷ []) $ fjoin ! $ move ! (1 ∷ 0 ∷ []) $ fjoin ! $ move ! (7 ∷ 0 ∷ []) $ fjoin ! $ move ! (3 ∷ 0 ∷ []) $ fjoin ! $ move ! (3 ∷ 0 ∷ []) $ fjoin ! $ move ! (3 ∷ 0 ∷ []) $ fjoin ! $
         move ! (0 ∷ 4 ∷ []) $ use2 W (‵ (mem R .lies d b o)) (together 𝓤 H A W b o d) $ move ! (0 ∷ 4 ∷ 5 ∷ 6 ∷ []) $ close-ref ! tt (mem R) d {b = b} {o = o} $
         move ! (0 ∷ 1 ∷ 2 ∷ 3 ∷ 4 ∷ 5 ∷ []) $ returns ! (look ! 38 refl) $ forget ! 38 refl $ forget ! 36 refl $ forget ! 34 refl $ forget ! 32 refl $ forget ! 30 refl $ forget ! 28 refl $ forget ! 26 refl $ forget ! 24 refl $ forget ! 22 refl $ forget ! 20 refl $ forget ! 18 refl $ forget ! 16 refl $ forget ! 14 refl $ forget ! 12 refl $ forget ! 10 refl $ forget ! 8 refl $ forget ! 6 refl $
         move ! (38 ∷ 39 ∷ []) $ free1 ! $ move ! (36 ∷ 37 ∷ []) $ free1 ! $ move ! (34 ∷ 35 ∷ []) $ free1 ! $ move ! (32 ∷ 33 ∷ []) $ free1 ! $ move ! (30 ∷ 31 ∷ []) $ free1 ! $ move ! (28 ∷ 29 ∷ []) $ free1 ! $ move ! (26 ∷ 27 ∷ []) $ free1 ! $ move ! (24 ∷ 25 ∷ []) $ free1 ! $ move ! (22 ∷ 23 ∷ []) $ free1 ! $ move ! (20 ∷ 21 ∷ []) $ free1 ! $ move ! (18 ∷ 19 ∷ []) $ free1 ! $ move ! (16 ∷ 17 ∷ []) $ free1 ! $ move ! (14 ∷ 15 ∷ []) $ free1 ! $ move ! (12 ∷ 13 ∷ []) $ free1 ! $ move ! (10 ∷ 11 ∷ []) $ free1 ! $ move ! (8 ∷ 9 ∷ []) $ free1 ! $ move ! (6 ∷ 7 ∷ []) $ free1 ! $ free0 ! $
         by ! (exits r _ said))))))))))))))))))))))))))))
 
 module _ {M : Type 1} (𝓤 : URA M) (H : Heap 𝓤) (A : Atoms 𝓤) (W : Given 𝓤 H A) (mem : Memory → SProp 𝓤) (run : Routine → Fun 𝓤) where
-  orders-kept-walks : (C : Calls 𝓤 H) (Λ : Loops 𝓤 H) → FmC 𝓤 H (W .laws) C → Triple 𝓤 (C #rules·orders_kept) (Inner 𝓤 H A mem run) → Walks 𝓤 H A outer.ended stayed (WpFn 𝓤 H C Λ code.function) (outer.clauses 𝓤 H A mem run)
+  orders-kept-walks : (C : Calls 𝓤 H) (Λ : Loops 𝓤 H) → FmC 𝓤 H (W .laws) C → Triple 𝓤 (C #inner) (Inner 𝓤 H A mem run) → Walks 𝓤 H A outer.ended stayed (WpFn 𝓤 H C Λ code.function) (outer.clauses 𝓤 H A mem run)
   orders-kept-walks C Λ fm known = walked 𝓤 H A outer.ended stayed (outer.clauses 𝓤 H A mem run) (WpFn 𝓤 H C Λ code.function) (λ κs. (ptr-vals, tt)) (λ κs. (mut-tells (named 0) (κs .0) S.the-row, tt))
       (λ κs qs bounds a _ are. via 𝓤 _ (fst∗ 𝓤 _ (emp 𝓤)) (walk 𝓤 H A W mem run (κs .0) (qs .0) (a .0 .ptr .0) (a .0 .ptr .1) (a .0 .name) (a .0 .now) C Λ fm known))
 
-orders-kept-meets : {M : Type 1} (𝓤 : URA M) (H : Heap 𝓤) (A : Atoms 𝓤) → Given 𝓤 H A → (mem : Memory → SProp 𝓤) (run : Routine → Fun 𝓤) (𝓣 : Tables 𝓤 H) → Triple 𝓤 (𝓣 .C #rules·orders_kept) (Inner 𝓤 H A mem run)
+orders-kept-meets : {M : Type 1} (𝓤 : URA M) (H : Heap 𝓤) (A : Atoms 𝓤) → Given 𝓤 H A → (mem : Memory → SProp 𝓤) (run : Routine → Fun 𝓤) (𝓣 : Tables 𝓤 H) → Triple 𝓤 (𝓣 .C #inner) (Inner 𝓤 H A mem run)
     → Meets 𝓤 H A outer.signature (WpFn 𝓤 H (𝓣 .C) (𝓣 .Λ) code.function) (outer.spec 𝓤 H A mem run)
 orders-kept-meets 𝓤 H A W mem run 𝓣 known =
     walk-meets 𝓤 H A outer.ended stayed W (goes-ref 𝓤 H A W 1 0 tt (plain (λ _. S.the-row)), tt) (outer.clauses 𝓤 H A mem run)
@@ -253,4 +253,4 @@ orders-kept-spec 𝓤 H 𝓜 𝓖 𝓡 =
     entered 𝓤 H (tripleOf 𝓤 H (𝓖 .A) outer.signature (outer.spec 𝓤 H (𝓖 .A) (𝓜 .mem) (𝓡 .run)))
     (tables 𝓤 H 𝓜 𝓡 code.env .C) (tables 𝓤 H 𝓜 𝓡 code.env .Λ) #lending·orders_kept code.function (code.unfolded 𝓤 H 𝓜 𝓡)
     (orders-kept-meets 𝓤 H (𝓖 .A) (givenOf 𝓤 H 𝓜 𝓖) (𝓜 .mem) (𝓡 .run) (tablesOf 𝓤 H 𝓜 (tables 𝓤 H 𝓜 𝓡 code.env))
-    (cited 𝓤 H (Inner 𝓤 H (𝓖 .A) (𝓜 .mem) (𝓡 .run)) 𝓜 𝓡 code.env #rules·orders_kept inner-def.routine code.calls-rules·orders-kept (inner-thm.met 𝓤 H 𝓜 𝓖 𝓡)))
+    (cited 𝓤 H (Inner 𝓤 H (𝓖 .A) (𝓜 .mem) (𝓡 .run)) 𝓜 𝓡 code.env #inner inner-def.routine code.calls-rules·orders-kept (inner-thm.met 𝓤 H 𝓜 𝓖 𝓡)))

@@ -48,7 +48,7 @@ use Rattle.lending.proofs.Lending.{Col, Keys, With, columns, lfts, whol
 use Rattle.lending.proofs.Columns.{msS, Back, apart, together, csK, XsK, heldK, isK, BackK, AtK, apartK, togetherK}
 use Rattle.answers.proofs.running_task as inner
 use Rattle.answers.proofs.running_task.Symbol as inner-def
-use Rattle.answers.proofs.running_task.Symbol.{name as #answers·running_task}
+use Rattle.answers.proofs.running_task.Symbol.{name as #inner}
 use Rattle.answers.proofs.running_task.Met as inner-thm
 use Rattle.lending.proofs.runner.Key.{name as #lending·runner}
 use Rattle.lending.proofs.runner as outer
@@ -126,14 +126,14 @@ module _ {M : Type 1} (𝓤 : URA M) (H : Heap 𝓤) (A : Atoms 𝓤) (W : Given
       says ! (is-so d r said, refl) $ move ! (2 ∷ 3 ∷ []) $ join ! $ frame ! $ move ! (2 ∷ []) $ drop ! $
       nothing ! $ move ! (1 ∷ 2 ∷ []) $ feqI ! (List Val) (vptr b o ∷ []) (vptr b o ∷ []) refl $ fjoin3 ! $ fjoin ! $ done !
 
-  module _ (C : Calls 𝓤 H) (Λ : Loops 𝓤 H) (fm : FmC 𝓤 H (W .laws) C) (known : Triple 𝓤 (C #answers·running_task) (Inner 𝓤 H A at-mem run)) where
+  module _ (C : Calls 𝓤 H) (Λ : Loops 𝓤 H) (fm : FmC 𝓤 H (W .laws) C) (known : Triple 𝓤 (C #inner) (Inner 𝓤 H A at-mem run)) where
     walk : ent 𝓤 (onEntry 𝓤 H A outer.signature (κ, tt) (q, tt) a vals) (WpFn 𝓤 H C Λ code.function flatly Post)
     walk =
         qed W ((‵ (flft κ q) ⊛ ‵ ftrue) ∷ ‵ (owns (MutRef (named 0) κ R ∷ []) a vals) ∷ []) ∵ enter ! C Λ code.function flatly _ $
         alloc1 ! (λ l0. alloc1 ! (λ l1. alloc1 ! (λ l2. alloc1 ! (λ l3. alloc0 ! $ params1 ! $ pass1 ! (init ! 4 refl (tt, tt)) $ pass0 ! $
         -- the borrow is opened, and the state is taken apart
         move ! (9 ∷ []) $ fsplit ! $ fsplit3 ! $ drop ! $ move ! (11 ∷ []) $ split ! $ move ! (2 ∷ 3 ∷ 0 ∷ []) $ open-ref ! tt (mem R) {x = d} {b = b} {o = o} $ move ! (0 ∷ []) $ use1 W (‵ (lie b (columns msS 0 o) (S.the-type .to d)) ⊛ raw (Back 𝓤 H A W b o)) (apart 𝓤 H A W b o d) $ split ! $ fsplit ! $ move ! (1 ∷ []) $ fsplit ! $ move ! (1 ∷ []) $ fsplit ! $ move ! (1 ∷ []) $ fsplit ! $ move ! (1 ∷ []) $ fsplit ! $ move ! (1 ∷ []) $ fsplit ! $
-        use1 W (given (d .running < 2 ^ 64) (‵ (fat fullShare (tyInt w64) b (o + 1536) (vint w64 (d .running))))) (number-out 𝓤 H A W b (o + 1536) (d .running)) $ learn ! (λ run-fits.
+        use1 W (given (d .running < 2 ^ 64) (‵ (fat fullShare (tyInt w64) b (o + 9856) (vint w64 (d .running))))) (number-out 𝓤 H A W b (o + 9856) (d .running)) $ learn ! (λ run-fits.
         assigns ! (of-opd ! (load ! (from ! (hop ! (look ! 17 refl) (fld ! refl (stop !)))) (look ! 0 refl))) (from ! (stop !)) (init ! 15 refl (tt, record { fits = run-fits })) $
         -- the columns' addresses
         assigns ! (addr ! (from ! (hop ! (look ! 17 refl) (fld ! refl (fld ! refl (stop !)))))) (from ! (stop !)) (init ! 13 refl (tt, tt)) $
@@ -152,18 +152,18 @@ module _ {M : Type 1} (𝓤 : URA M) (H : Heap 𝓤) (A : Atoms 𝓤) (W : Given
         move ! (1 ∷ 3 ∷ 2 ∷ []) $ use3 W (later (‵ (lie b (onK o) (chosenXs maskK (csK o) (heldK (d .tasks)))) ⊛ ‵ P₀ ⊛ ‵ L₀)) (backs-shared b 𝓤 H A W P₀ L₀ (onK o) (chosenXs maskK (csK o) (heldK (d .tasks))) kK) $ await ! tt $ split3 ! $
         move ! (0 ∷ 4 ∷ []) $ use2 W (‵ (lie b (csK o) (heldK (d .tasks)))) (unparted b 𝓤 H A W maskK (csK o) (heldK (d .tasks))) $ rewrite ! 0 (λ (xs : XsK). ‵ (lie b (csK o) xs)) (sym (isK (d .tasks))) refl $ move ! (0 ∷ 4 ∷ []) $ use2 W (‵ (AtK 𝓤 H A W b o (d .tasks))) (togetherK 𝓤 H A W b o (d .tasks)) $
         -- the state is put together, and the borrow is closed
-        move ! (4 ∷ []) $ use1 W (‵ (mem usize .lies (d .running) b (o + 1536))) (number-in 𝓤 H A W b (o + 1536) (d .running) run-fits) $ move ! (0 ∷ 5 ∷ []) $ fjoin ! $ move ! (5 ∷ 0 ∷ []) $ fjoin ! $ move ! (5 ∷ 0 ∷ []) $ fjoin ! $ move ! (5 ∷ 0 ∷ []) $ fjoin ! $ move ! (1 ∷ 0 ∷ []) $ fjoin ! $ move ! (4 ∷ 0 ∷ []) $ fjoin ! $
+        move ! (4 ∷ []) $ use1 W (‵ (mem usize .lies (d .running) b (o + 9856))) (number-in 𝓤 H A W b (o + 9856) (d .running) run-fits) $ move ! (0 ∷ 5 ∷ []) $ fjoin ! $ move ! (5 ∷ 0 ∷ []) $ fjoin ! $ move ! (5 ∷ 0 ∷ []) $ fjoin ! $ move ! (5 ∷ 0 ∷ []) $ fjoin ! $ move ! (1 ∷ 0 ∷ []) $ fjoin ! $ move ! (4 ∷ 0 ∷ []) $ fjoin ! $
         move ! (0 ∷ 4 ∷ []) $ use2 W (‵ (mem R .lies d b o)) (together 𝓤 H A W b o d) $ move ! (0 ∷ 4 ∷ 5 ∷ 6 ∷ []) $ close-ref ! tt (mem R) d {b = b} {o = o} $
         move ! (0 ∷ 1 ∷ 2 ∷ 3 ∷ 4 ∷ 5 ∷ []) $ returns ! (look ! 12 refl) $ forget ! 12 refl $ forget ! 10 refl $ forget ! 8 refl $ forget ! 6 refl $
         move ! (12 ∷ 13 ∷ []) $ free1 ! $ move ! (10 ∷ 11 ∷ []) $ free1 ! $ move ! (8 ∷ 9 ∷ []) $ free1 ! $ move ! (6 ∷ 7 ∷ []) $ free1 ! $ free0 ! $
         by ! (exits r _ said))))))))))))
 
 module _ {M : Type 1} (𝓤 : URA M) (H : Heap 𝓤) (A : Atoms 𝓤) (W : Given 𝓤 H A) (mem : Memory → SProp 𝓤) (run : Routine → Fun 𝓤) where
-  runner-walks : (C : Calls 𝓤 H) (Λ : Loops 𝓤 H) → FmC 𝓤 H (W .laws) C → Triple 𝓤 (C #answers·running_task) (Inner 𝓤 H A mem run) → Walks 𝓤 H A outer.ended stayed (WpFn 𝓤 H C Λ code.function) (outer.clauses 𝓤 H A mem run)
+  runner-walks : (C : Calls 𝓤 H) (Λ : Loops 𝓤 H) → FmC 𝓤 H (W .laws) C → Triple 𝓤 (C #inner) (Inner 𝓤 H A mem run) → Walks 𝓤 H A outer.ended stayed (WpFn 𝓤 H C Λ code.function) (outer.clauses 𝓤 H A mem run)
   runner-walks C Λ fm known = walked 𝓤 H A outer.ended stayed (outer.clauses 𝓤 H A mem run) (WpFn 𝓤 H C Λ code.function) (λ κs. (ptr-vals, tt)) (λ κs. (mut-tells (named 0) (κs .0) S.the-row, tt))
       (λ κs qs bounds a _ are. via 𝓤 _ (fst∗ 𝓤 _ (emp 𝓤)) (walk 𝓤 H A W mem run (κs .0) (qs .0) (a .0 .ptr .0) (a .0 .ptr .1) (a .0 .name) (a .0 .now) C Λ fm known))
 
-runner-meets : {M : Type 1} (𝓤 : URA M) (H : Heap 𝓤) (A : Atoms 𝓤) → Given 𝓤 H A → (mem : Memory → SProp 𝓤) (run : Routine → Fun 𝓤) (𝓣 : Tables 𝓤 H) → Triple 𝓤 (𝓣 .C #answers·running_task) (Inner 𝓤 H A mem run)
+runner-meets : {M : Type 1} (𝓤 : URA M) (H : Heap 𝓤) (A : Atoms 𝓤) → Given 𝓤 H A → (mem : Memory → SProp 𝓤) (run : Routine → Fun 𝓤) (𝓣 : Tables 𝓤 H) → Triple 𝓤 (𝓣 .C #inner) (Inner 𝓤 H A mem run)
     → Meets 𝓤 H A outer.signature (WpFn 𝓤 H (𝓣 .C) (𝓣 .Λ) code.function) (outer.spec 𝓤 H A mem run)
 runner-meets 𝓤 H A W mem run 𝓣 known =
     walk-meets 𝓤 H A outer.ended stayed W (goes-ref 𝓤 H A W 1 0 tt (plain (λ _. S.the-row)), tt) (outer.clauses 𝓤 H A mem run)
@@ -175,4 +175,4 @@ runner-spec 𝓤 H 𝓜 𝓖 𝓡 =
     entered 𝓤 H (tripleOf 𝓤 H (𝓖 .A) outer.signature (outer.spec 𝓤 H (𝓖 .A) (𝓜 .mem) (𝓡 .run)))
     (tables 𝓤 H 𝓜 𝓡 code.env .C) (tables 𝓤 H 𝓜 𝓡 code.env .Λ) #lending·runner code.function (code.unfolded 𝓤 H 𝓜 𝓡)
     (runner-meets 𝓤 H (𝓖 .A) (givenOf 𝓤 H 𝓜 𝓖) (𝓜 .mem) (𝓡 .run) (tablesOf 𝓤 H 𝓜 (tables 𝓤 H 𝓜 𝓡 code.env))
-    (cited 𝓤 H (Inner 𝓤 H (𝓖 .A) (𝓜 .mem) (𝓡 .run)) 𝓜 𝓡 code.env #answers·running_task inner-def.routine code.calls-answers·running-task (inner-thm.met 𝓤 H 𝓜 𝓖 𝓡)))
+    (cited 𝓤 H (Inner 𝓤 H (𝓖 .A) (𝓜 .mem) (𝓡 .run)) 𝓜 𝓡 code.env #inner inner-def.routine code.calls-answers·running-task (inner-thm.met 𝓤 H 𝓜 𝓖 𝓡)))

@@ -1,18 +1,17 @@
 -- `pool_chapter::pool_part`: the caller's test first, then the call.
 -- Assumes nothing. Printed by tools/generate/run.
-use mathlib.Core.Path.{sym, _∙_}
 use borrow.Author.Needs.{needs}
 use denote.Ref.{now}
 use Rattle.answers.proofs.Outcomes.{plain-of}
 use Rattle.answers.specs.Columns.{lentPools}
-use Rattle.chapters.proofs.Laws.{answered-refused, answered-does, known-call}
+use Rattle.chapters.proofs.Laws.{answered-refused, answered-does}
 use Rattle.pool_chapter.proofs.pool_part.Statement.{statement}
 use Rattle.pool_chapter.proofs.pool_part.Tie as tie
 use Rattle.scope.specs.declared.State.{State}
 
 -- the state before, out of the columns lent and a state's
 abbrev whole : State → tie.Start → State
-whole s c = lentPools s (now (c .args .out)) (now (c .args .name)) (now (c .args .address)) (now (c .args .length)) (now (c .args .size)) (now (c .args .serial)) (now (c .args .live)) (now (c .args .forced)) (now (c .args .place)) (c .args .running)
+whole s c = lentPools s (now (c .args .out)) (now (c .args .name)) (now (c .args .address)) (now (c .args .length)) (now (c .args .size)) (now (c .args .serial)) (now (c .args .live)) (now (c .args .forced)) (now (c .args .place)) (c .args .x .running)
 
 caller-refusal-requires : tie.Need-caller-refusal-requires
 caller-refusal-requires c κs = search needs
@@ -21,13 +20,13 @@ plain-requires : tie.Need-plain-requires
 plain-requires c κs = search needs
 
 returns : tie.Need-returns
-returns c = λ s. answered-refused (whole s (c .before .before .before .before)) (c .before .before .before .before .args .x .call) (c .before .before .before .before .args .x .mark) (c .before .before .before .before .args .x .a) (c .before .before .before .before .args .x .b) (c .before .before .before .before .args .x .c) (c .before .before .before .before .args .x .d) (c .before .before .before .before .args .x .e) _ (c .before .before .caller-refusal .ensures) (c .before .if1 .taken) (plain-of _ _ _ _ (c .plain .ensures))
+returns c = λ s m. answered-refused (whole s (c .before .before .before .before)) (c .before .before .before .before .args .x .call) (c .before .before .before .before .args .x .mark) (c .before .before .before .before .args .x .a) (c .before .before .before .before .args .x .b) (c .before .before .before .before .args .x .c) (c .before .before .before .before .args .x .d) (c .before .before .before .before .args .x .e) _ m (c .before .before .caller-refusal .ensures) (c .before .if1 .taken) (plain-of _ _ _ _ (c .plain .ensures))
 
 pool-call-requires : tie.Need-pool-call-requires
-pool-call-requires c κs = (search needs, known-call _ _ _ (sym (c .before .before .before .before .before .before .before .before .before .before .caller-refusal .ensures) ∙ c .before .before .before .before .before .before .before .before .before .if1 .left))
+pool-call-requires c κs = search needs
 
 returns-2 : tie.Need-returns-2
-returns-2 c = λ s. answered-does (whole s (c .before .before .before .before .before .before .before .before .before .before .before .before .before)) (c .before .before .before .before .before .before .before .before .before .before .before .before .before .args .x .call) (c .before .before .before .before .before .before .before .before .before .before .before .before .before .args .x .mark) (c .before .before .before .before .before .before .before .before .before .before .before .before .before .args .x .a) (c .before .before .before .before .before .before .before .before .before .before .before .before .before .args .x .b) (c .before .before .before .before .before .before .before .before .before .before .before .before .before .args .x .c) (c .before .before .before .before .before .before .before .before .before .before .before .before .before .args .x .d) (c .before .before .before .before .before .before .before .before .before .before .before .before .before .args .x .e) _ (c .before .before .before .before .before .before .before .before .before .before .before .caller-refusal .ensures) (c .before .before .before .before .before .before .before .before .before .before .if1 .left) (c .pool-call .ensures (whole s (c .before .before .before .before .before .before .before .before .before .before .before .before .before)))
+returns-2 c = λ s m. answered-does (whole s (c .before .before .before .before .before .before .before .before .before .before .before .before .before)) (c .before .before .before .before .before .before .before .before .before .before .before .before .before .args .x .call) (c .before .before .before .before .before .before .before .before .before .before .before .before .before .args .x .mark) (c .before .before .before .before .before .before .before .before .before .before .before .before .before .args .x .a) (c .before .before .before .before .before .before .before .before .before .before .before .before .before .args .x .b) (c .before .before .before .before .before .before .before .before .before .before .before .before .before .args .x .c) (c .before .before .before .before .before .before .before .before .before .before .before .before .before .args .x .d) (c .before .before .before .before .before .before .before .before .before .before .before .before .before .args .x .e) _ m (c .before .before .before .before .before .before .before .before .before .before .before .caller-refusal .ensures) (c .before .before .before .before .before .before .before .before .before .before .if1 .left) (c .pool-call .ensures (whole s (c .before .before .before .before .before .before .before .before .before .before .before .before .before)) m)
 
 pub pool-part-spec : {M : Type 1} → statement M
 pool-part-spec = tie.close (tie.spec caller-refusal-requires plain-requires returns pool-call-requires returns-2)

@@ -12,7 +12,7 @@ use Rattle.scope.specs.declared.State.{State}
 
 -- the state before, out of all the columns lent
 abbrev whole : tie.Start → State → State
-whole c s = lentTasks s (now (c .args .left)) (now (c .args .seat)) (now (c .args .joined)) (now (c .args .rings)) (now (c .args .name)) (now (c .args .serial)) (now (c .args .live)) (now (c .args .started)) (now (c .args .suspended)) (now (c .args .priority)) (c .args .running)
+whole c s = lentTasks s (now (c .args .left)) (now (c .args .seat)) (now (c .args .joined)) (now (c .args .rings)) (now (c .args .name)) (now (c .args .serial)) (now (c .args .live)) (now (c .args .started)) (now (c .args .suspended)) (now (c .args .priority)) (c .args .x .running)
 
 task-create-requires : tie.Need-task-create-requires
 task-create-requires c κs = search needs
@@ -36,25 +36,25 @@ task-set-priority-requires : tie.Need-task-set-priority-requires
 task-set-priority-requires c κs = search needs
 
 returns : tie.Need-returns
-returns c = λ s x d e. rw (c .before .before .before .before .before .before .before .match .keys1) (c .task-create .ensures (whole (c .before .before .before .before .before .before .before .before) s))
+returns c = λ s m. rw (c .before .before .before .before .before .before .before .match .keys1) (c .task-create .ensures (whole (c .before .before .before .before .before .before .before .before) s))
 
 returns-2 : tie.Need-returns-2
-returns-2 c = λ s x d e. rw (c .before .before .before .before .before .before .before .before .before .before .before .match .keys2) (c .task-delete .ensures (whole (c .before .before .before .before .before .before .before .before .before .before .before .before) s))
+returns-2 c = λ s m. rw (c .before .before .before .before .before .before .before .before .before .before .before .match .keys2) (c .task-delete .ensures (whole (c .before .before .before .before .before .before .before .before .before .before .before .before) s))
 
 returns-3 : tie.Need-returns-3
-returns-3 c = λ s x d e. rw (c .before .before .before .before .match .keys3) (c .task-ident .ensures (whole (c .before .before .before .before .before) s))
+returns-3 c = λ s m. rw (c .before .before .before .before .match .keys3) (c .task-ident .ensures (whole (c .before .before .before .before .before) s))
 
 returns-4 : tie.Need-returns-4
-returns-4 c = λ s x d e. rw (c .before .before .before .before .before .before .before .before .match .keys4) (c .task-start .ensures (whole (c .before .before .before .before .before .before .before .before .before) s))
+returns-4 c = λ s m. rw (c .before .before .before .before .before .before .before .before .match .keys4) (c .task-start .ensures (whole (c .before .before .before .before .before .before .before .before .before) s))
 
 returns-5 : tie.Need-returns-5
-returns-5 c = λ s x d e. rw (c .before .before .before .before .before .before .before .match .keys5) (c .task-suspend .ensures (whole (c .before .before .before .before .before .before .before .before) s))
+returns-5 c = λ s m. rw (c .before .before .before .before .before .before .before .match .keys5) (c .task-suspend .ensures (whole (c .before .before .before .before .before .before .before .before) s))
 
 returns-6 : tie.Need-returns-6
-returns-6 c = λ s x d e. rw (c .before .before .before .before .before .before .before .before .before .match .keys6) (c .task-resume .ensures (whole (c .before .before .before .before .before .before .before .before .before .before) s))
+returns-6 c = λ s m. rw (c .before .before .before .before .before .before .before .before .before .match .keys6) (c .task-resume .ensures (whole (c .before .before .before .before .before .before .before .before .before .before) s))
 
 returns-7 : tie.Need-returns-7
-returns-7 c = λ s x d e. let h : c .before .before .before .before .before .before .before .before .before .before .args .call ≡ 7 = only 7 _ (past 6 _ (past 5 _ (past 4 _ (past 3 _ (past 2 _ (past 1 _ (omega arith) (c .before .before .before .before .before .before .before .before .before .match .rest .0 .0 .0 .0 .0 .1)) (c .before .before .before .before .before .before .before .before .before .match .rest .0 .0 .0 .0 .1)) (c .before .before .before .before .before .before .before .before .before .match .rest .0 .0 .0 .1)) (c .before .before .before .before .before .before .before .before .before .match .rest .0 .0 .1)) (c .before .before .before .before .before .before .before .before .before .match .rest .0 .1)) (c .before .before .before .before .before .before .before .before .before .match .rest .1)) (omega arith) in rw h (c .task-set-priority .ensures (whole (c .before .before .before .before .before .before .before .before .before .before) s))
+returns-7 c = λ s m. let h : c .before .before .before .before .before .before .before .before .before .before .args .x .call ≡ 7 = only 7 _ (past 6 _ (past 5 _ (past 4 _ (past 3 _ (past 2 _ (past 1 _ (omega arith) (c .before .before .before .before .before .before .before .before .before .match .rest .0 .0 .0 .0 .0 .1)) (c .before .before .before .before .before .before .before .before .before .match .rest .0 .0 .0 .0 .1)) (c .before .before .before .before .before .before .before .before .before .match .rest .0 .0 .0 .1)) (c .before .before .before .before .before .before .before .before .before .match .rest .0 .0 .1)) (c .before .before .before .before .before .before .before .before .before .match .rest .0 .1)) (c .before .before .before .before .before .before .before .before .before .match .rest .1)) (omega arith) in rw h (c .task-set-priority .ensures (whole (c .before .before .before .before .before .before .before .before .before .before) s))
 
 pub task-call-spec : {M : Type 1} → statement M
 task-call-spec =
