@@ -16,12 +16,12 @@ use Rattle.scope.specs.declared.Queues.{Queues}
 use Rattle.scope.specs.Choice.{pick}
 use Rattle.scope.specs.Seats.{queueSeats, ringSeats}
 use Rattle.scope.specs.Views.{withQueues}
-use Rattle.scope.specs.Answers.{noWakes}
+use Rattle.scope.specs.Answers.{noWakes, noMessage}
 use Rattle.scope.specs.Waiting.{FOREVER}
 use Rattle.scope.specs.Statuses.{OK, BAD-STATE}
 use Rattle.scope.specs.Objects.{queueObject, objectsOf}
 use Rattle.scope.specs.Rules.{seatsRight, ringsRight, readyOrderRight, waitsRight, queuesSorted, countsRight, heldRight, startsRight}
-use Rattle.scope.specs.Rules.{tasksRight, semsRight, queuesRight, poolsRight, ordersRight, poolsApart, runningRight}
+use Rattle.scope.specs.Rules.{tasksRight, semsRight, queuesRight, messagesRight, poolsRight, ordersRight, poolsApart, runningRight}
 use Rattle.scope.specs.Places.{newRow}
 use Rattle.scope.specs.Step.{stepped}
 use Rattle.cases.specs.Cases.{same}
@@ -76,7 +76,8 @@ goodPools =
       place = 0 ∷ 1 ∷ replicate 62 0 ++ (2 ∷ 1 ∷ drop 2 (newRow 64) ++ replicate 384 0);
     }
 
--- queue 0 has waiters and so holds nothing; 1 is FIFO, and holds the two messages that are its most; 2 is deleted
+-- queue 0 has waiters and so holds nothing; 1 is FIFO, and holds the two messages that are its most, one of its longest, 3 bytes, and
+-- one of 1; 2 is deleted
 abbrev goodQueues : Queues
 goodQueues =
     record {
@@ -84,8 +85,9 @@ goodQueues =
       serial = 1 ∷ 1 ∷ 1 ∷ replicate 5 0;
       live = true ∷ true ∷ replicate 6 false;
       fifo = false ∷ true ∷ replicate 6 false;
-      limits = 16 ∷ 64 ∷ 2 ∷ 1 ∷ replicate 12 0;
+      limits = 16 ∷ 64 ∷ 2 ∷ 3 ∷ replicate 12 0;
       held = 0 ∷ 2 ∷ replicate 6 0;
+      cells = replicate 1040 0 ++ (3 ∷ 101 ∷ 102 ∷ 103 ∷ replicate 61 0 ++ (1 ∷ 104 ∷ replicate 7213 0));
     }
 
 abbrev pub good : State
@@ -258,6 +260,7 @@ queuesWith meant i x b =
       fifo = marks meant i b 3 (goodQueues .fifo);
       limits = numbers meant i x 4 (goodQueues .limits);
       held = numbers meant i x 5 (goodQueues .held);
+      cells = numbers meant i x 6 (goodQueues .cells);
     })
 
 abbrev queueName : ℕ → ℕ → State
@@ -280,6 +283,10 @@ longest i x = queuesWith 4 (2 * i + 1) x false
 
 abbrev held : ℕ → ℕ → State
 held i x = queuesWith 5 i x false
+
+-- of byte k of its cell n: the length, and then the bytes
+abbrev cell : ℕ → ℕ → ℕ → ℕ → State
+cell i n k x = queuesWith 6 (i * 1040 + (n * 65 + k)) x false
 
 -- a rule, and states that break it
 pub record Broken : Type 0 where
@@ -330,6 +337,13 @@ broken =
     ∷ breaks (λ s. queuesRight (s .queues))
     (queueSerial 1 0 ∷ queueName 2 1 ∷ queueFifo 2 true ∷ most 2 1 ∷ longest 2 1 ∷ held 2 1 ∷ queueLive 1 false
     ∷ most 0 0 ∷ most 0 17 ∷ longest 0 0 ∷ longest 0 65 ∷ [])
+    -- M-100, "any other only what sends can leave", in its one form: a message longer than the queue's longest, the first held and the
+    -- last, or its longest made shorter; "bytes past it are 0": a byte behind a length, in the first cell and in the last held; a byte in
+    -- a cell behind those held, the next one and the last, also of a queue that holds nothing and of a slot without one; a message
+    -- fewer held than there are
+    ∷ breaks (λ s. messagesRight (s .queues))
+    (cell 1 0 0 4 ∷ cell 1 1 0 4 ∷ longest 1 2 ∷ cell 1 0 0 2 ∷ cell 1 0 64 9 ∷ cell 1 1 2 9 ∷ cell 1 1 64 9
+    ∷ cell 1 2 0 1 ∷ cell 1 15 64 9 ∷ cell 0 0 0 1 ∷ cell 0 15 64 9 ∷ cell 2 0 1 9 ∷ cell 7 15 64 9 ∷ held 1 1 ∷ [])
     -- the same for pools; "Each live pool is one that creation admits": an area without length, one past the end, buffers of size
     -- 0, no buffer, 65 buffers; "marks of buffers past a pool's number"
     ∷ breaks (λ s. poolsRight (s .pools))
@@ -371,19 +385,20 @@ sameState s r =
     && (same (s .queues .name) (r .queues .name) && (same (s .queues .serial) (r .queues .serial)
     && (sameMarks (s .queues .live) (r .queues .live) && (sameMarks (s .queues .fifo) (r .queues .fifo)
     && (same (s .queues .limits) (r .queues .limits) && (same (s .queues .held) (r .queues .held)
-    && eqb (s .running) (r .running))))))))))))))))))))))))))))))
+    && (same (s .queues .cells) (r .queues .cells) && eqb (s .running) (r .running)))))))))))))))))))))))))))))))
 
 -- BAD_STATE: "four zero values, an empty wake list, and the given state back; its running task is .. 0 with BAD_STATE"
 abbrev pub isRefusal : State → Answer → Bool
 isRefusal s a =
     eqb (a .status) BAD-STATE && (same (a .values) (0 ∷ 0 ∷ 0 ∷ 0 ∷ []) && (not (a .negative)
     && (eqb (a .woken) 0 && (eqb (a .why) 0 && (same (a .wakes) noWakes
-    && (eqb (a .running) 0 && sameState s (a .state)))))))
+    && (eqb (a .running) 0 && (not (a .delivers) && (eqb (a .length) 0 && (same (a .shown) noMessage
+    && sameState s (a .state))))))))))
 
 -- the rule is broken, and a tick is so refused
 abbrev pub allRefused : (State → Bool) → List State → Bool
 allRefused rule [] = true
-allRefused rule (s ∷ ss) = not (rule s) && (isRefusal s (stepped s 0 1 0 0 0 0 0) && allRefused rule ss)
+allRefused rule (s ∷ ss) = not (rule s) && (isRefusal s (stepped s 0 1 0 0 0 0 0 []) && allRefused rule ss)
 
 abbrev pub allBroken : List Broken → Bool
 allBroken [] = true
@@ -393,11 +408,11 @@ allBroken (b ∷ bs) = allRefused (b .rule) (b .states) && allBroken bs
 abbrev pub allCalls : ℕ → State → Bool
 allCalls zero s = true
 allCalls (suc n) s =
-    isRefusal s (stepped s n 0 64 0 1 1 0) && (isRefusal s (stepped s n 1 64 0 1 1 0) && allCalls n s)
+    isRefusal s (stepped s n 0 64 0 1 1 0 []) && (isRefusal s (stepped s n 1 64 0 1 1 0 []) && allCalls n s)
 
 -- the good state gets no BAD_STATE: a tick is accepted
 abbrev pub accepted : State → Bool
-accepted s = eqb (stepped s 0 1 0 0 0 0 0 .status) OK
+accepted s = eqb (stepped s 0 1 0 0 0 0 0 [] .status) OK
 
 -- the state that the calls are tried on: task 1 stands where task 0 does
 abbrev pub oneBroken : State

@@ -1,4 +1,4 @@
--- The cases that document 01 marks P, one of M-101 and one of M-103: a script's first priority and its records, and the whole listing. To add a case, add a row.
+-- The cases that document 01 marks P, and one each of M-100 (more of it in Queues.antt), M-101 and M-103: a script's first priority and its records, and the whole listing. To add a case, add a row.
 -- Assumes nothing.
 use Prim.Native.Nat.{ℕ, zero, suc, _+_, _*_, _/_, _%_}
 use Prim.Native.Char.{code}
@@ -18,13 +18,13 @@ abbrev case : ℕ → List (List ℕ) → String → Case
 case p rs ls = record { priority = p; records = rs; lines = ls }
 
 -- a record: call, caller mark, arguments
-abbrev call : ℕ → List ℕ → List ℕ
+abbrev pub call : ℕ → List ℕ → List ℕ
 call n arguments = n ∷ 0 ∷ arguments
 
-abbrev interrupt : ℕ → List ℕ → List ℕ
+abbrev pub interrupt : ℕ → List ℕ → List ℕ
 interrupt n arguments = n ∷ 1 ∷ arguments
 
-abbrev FOREVER : ℕ
+abbrev pub FOREVER : ℕ
 FOREVER = 4294967295
 
 abbrev pub cases : List Case
@@ -87,6 +87,12 @@ cases =
     (call 14 (1 ∷ 4096 ∷ 100 ∷ 32 ∷ 0 ∷ []) ∷ call 17 (64 ∷ []) ∷ call 18 (64 ∷ 4096 ∷ []) ∷ call 17 (64 ∷ []) ∷ call 17 (64 ∷ [])
     ∷ call 17 (64 ∷ []) ∷ call 18 (64 ∷ 4160 ∷ []) ∷ call 18 (64 ∷ 4128 ∷ []) ∷ call 17 (64 ∷ []) ∷ call 17 (64 ∷ []) ∷ [])
     "1 0 64 0 0 0 64\n2 0 4096 0 0 0 64\n3 0 0 0 0 0 64\n4 0 4128 0 0 0 64\n5 0 4160 0 0 0 64\n6 0 4096 0 0 0 64\n7 0 0 0 0 0 64\n8 0 0 0 0 0 64\n9 0 4160 0 0 0 64\n10 0 4128 0 0 0 64\n"
+    -- M-100: "a delivery reads `task:0:length`"; the send of 3 bytes is held, and an immediate receive's "first figure is its length";
+    -- of 64 bytes, which a script always lends, 12 are its own, and 65 are 27
+    ∷ case 5
+    (call 20 (7 ∷ 1 ∷ 64 ∷ 0 ∷ []) ∷ call 1 (9 ∷ 8 ∷ []) ∷ call 4 (65 ∷ []) ∷ call 25 (64 ∷ 0 ∷ FOREVER ∷ []) ∷ call 24 (64 ∷ 65 ∷ [])
+    ∷ interrupt 23 (64 ∷ 64 ∷ 1 ∷ 2 ∷ 3 ∷ []) ∷ call 23 (64 ∷ 3 ∷ 1 ∷ []) ∷ call 24 (64 ∷ 0 ∷ []) ∷ call 25 (64 ∷ 0 ∷ 1 ∷ []) ∷ [])
+    "1 0 64 0 0 0 64\n2 0 65 0 0 0 64\n3 0 0 0 0 0 65\n4 1 0 0 0 0 64\n5 27 0 0 0 0 64\n6 0 0 0 0 0 65 65:0:64\n7 0 0 0 0 0 65\n8 28 0 0 0 0 65\n9 0 3 0 0 0 65\n"
     ∷ []
 
 -- a number's four bytes, least first

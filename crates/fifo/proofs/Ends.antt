@@ -12,7 +12,7 @@ use borrow.Author.Tests.{eqb-true}
 use Rattle.scope.specs.Statuses.{OK, PENDING}
 use Rattle.scope.specs.Lists.{has}
 use Rattle.scope.specs.Replies.{Wake}
-use Rattle.laws.proofs.Branches.{true-false, true-or-false, not-of-false, picked-yes, picked-no}
+use Rattle.laws.proofs.Branches.{true-false, true-or-false, both, not-of-false, picked-yes, picked-no}
 use Rattle.histories.specs.History.{Event}
 use Rattle.books.specs.Past.{Turn, pastOf, isAnswerOf, runningIn}
 use Rattle.books.specs.Waiting.{doneTo, pends, wakes, endsWait, waiting}
@@ -21,11 +21,11 @@ use Rattle.books.specs.Told.{GrantTold}
 use Rattle.books.proofs.Agreeing.{not-call, not-of, is-of, waiting-more, waiting-less}
 use Rattle.books.proofs.Members.{has-last, has-before, has-kept}
 use Rattle.books.proofs.Steps.{or-second}
-use Rattle.books.proofs.Clocks.{answer-is}
-use Rattle.fifo.specs.Places.{joined, leavesUngranted, granted, endsClaim, ended}
+use Rattle.books.proofs.Clocks.{answer-is, answer-of}
+use Rattle.fifo.specs.Places.{joined, leavesUngranted, grantsTo, granted, endsClaim, ended}
 use Rattle.fifo.specs.Claims.{WaitsUntil, GrantedInTime}
 use Rattle.fifo.proofs.Grown.{turnAfter, by-turns}
-use Rattle.fifo.proofs.Leaving.{one-woken, other-spared, grant-there, woken-timed-out}
+use Rattle.fifo.proofs.Leaving.{one-woken, other-spared, grant-there, release-tells, woken-timed-out}
 use Rattle.fifo.proofs.Places.{pending-by}
 use Rattle.fifo.proofs.Grants.{fewer-by-departures}
 
@@ -41,8 +41,8 @@ module _ (p : ℕ) (h : p ≤ 15) (xs : List Event) (x : Event) (id t : ℕ) (wa
   abbrev y : Turn
   y = turnAfter p xs x
 
-  spared : leavesUngranted past y t ≡ false → isAnswerOf 9 id OK y ≡ false → wakesAs OK (y .reply .wakes) t ≡ false → endsWait past y t ≡ false
-  unfolding leavesUngranted endsWait
+  spared : leavesUngranted past y t ≡ false → isAnswerOf 9 id OK y ≡ false → grantsTo y t ≡ false → endsWait past y t ≡ false
+  unfolding leavesUngranted endsWait grantsTo
   spared e lives none =
       let b = or-false _ _ e in
       or-second (wakes (y .reply .wakes) t) (doneTo 2 past t y)
@@ -52,11 +52,16 @@ module _ (p : ℕ) (h : p ≤ 15) (xs : List Event) (x : Event) (id t : ℕ) (wa
       granting : isAnswerOf 12 id OK y ≡ true → wakes (y .reply .wakes) t ≡ false
       granting r =
           let g : GrantTold p past id (y .reply .wakes) = grant-there p h xs x id t waits r in
-          ap (λ (l : List Wake). wakes l t) (g .only)
+          ⊎-elim
+          (λ silent. ap (λ (l : List Wake). wakes l t) silent)
+          (λ told. ap (λ (l : List Wake). wakes l t) (g .only)
           ∙ other-spared (g .task) t
-          (λ f. true-false (ap (λ (l : List Wake). wakesAs OK l t) (g .only) ∙ one-woken (g .task) t f .1) none)
+          (λ f. true-false
+          (both _ _ (not-of-false _ told) (ap (λ (l : List Wake). wakesAs OK l t) (g .only) ∙ one-woken (g .task) t f .1))
+          none))
+          (release-tells p h xs x (answer-is y 12 OK (answer-of y 12 id OK r) .0))
 
-  pub waits-on : endsClaim past y id t ≡ false → wakesAs OK (y .reply .wakes) t ≡ false → has (waiting (y ∷ past) id) t ≡ true
+  pub waits-on : endsClaim past y id t ≡ false → grantsTo y t ≡ false → has (waiting (y ∷ past) id) t ≡ true
   unfolding endsClaim
   waits-on e none =
       let b = or-false _ _ e in
@@ -89,7 +94,7 @@ waits-step p h xs x so id t there lasts none = ⊎-elim joins stays (true-or-fal
     stays : pends past t y ≡ false → has (waiting (y ∷ past) id) t ≡ true
     stays e =
         let a = or-false (endsClaim past y id t) (ended past id t) (sym (picked-no (pends past t y) false _ e) ∙ lasts) in
-        let b = or-false (wakesAs OK (y .reply .wakes) t) (granted past t) (sym (picked-no (pends past t y) false _ e) ∙ none) in
+        let b = or-false (grantsTo y t) (granted past t) (sym (picked-no (pends past t y) false _ e) ∙ none) in
         waits-on p h xs x id t (so id t (sym (picked-no (pends past t y) (eqb (x .a) id) (joined past id t) e) ∙ there) (a .1) (b .1)) (a .0) (b .0)
 
 pub waits-until : (p : ℕ) → p ≤ 15 → (xs : List Event) → WaitsUntil (pastOf p xs)

@@ -9,34 +9,25 @@ use mathlib.Core.Logic.{⊎-elim}
 use mathlib.Core.Bool.{Bool, true, false, _&&_}
 use mathlib.Core.List.{List, [], _∷_}
 use lib.ListN.{length}
-use lib.Dec.{eqb}
 use borrow.Author.Tests.{lt-ltb, le-ltb, eq-eqb, ne-eqb}
 use Rattle.scope.specs.declared.State.{State}
 use Rattle.scope.specs.Statuses.{OK}
 use Rattle.scope.specs.Lists.{has}
 use Rattle.scope.specs.Replies.{Wake}
 use Rattle.scope.specs.Fresh.{freshState}
-use Rattle.laws.proofs.Branches.{true-false, true-or-false, eq-or-not, first-fails, second-fails, second-decides, picked-no}
+use Rattle.laws.proofs.Branches.{true-false, true-or-false, eq-or-not, first-fails, second-decides}
 use Rattle.histories.specs.History.{Event, after}
 use Rattle.books.specs.Past.{Turn, pastOf, isAnswerOf}
 use Rattle.books.specs.Waiting.{arrivedAt, wakes, waiting, Ahead}
 use Rattle.books.specs.Times.{wakesAs}
-use Rattle.books.specs.Told.{GrantTold, NoGrant}
-use Rattle.books.proofs.Agreeing.{not-call, not-of}
+use Rattle.books.specs.Told.{GrantTold}
 use Rattle.books.proofs.Members.{has-kept}
-use Rattle.books.proofs.Granting.{only-releases-grant}
 use Rattle.fifo.specs.Places.{foundAhead, ahead, releasesSince, departed, itsRelease, isItsRelease}
 use Rattle.fifo.specs.Claims.{Fifo, FewerReleases, FewerByDepartures, GrantedExactly}
 use Rattle.fifo.proofs.Grown.{turnAfter}
 use Rattle.fifo.proofs.Counting.{keep-none}
-use Rattle.fifo.proofs.Leaving.{not-woken, one-woken, other-spared, grant-there, release-spares}
+use Rattle.fifo.proofs.Leaving.{not-woken, one-woken, other-spared, grant-there, not-granted}
 use Rattle.fifo.proofs.Places.{ahead-counted}
-
-no-grant : (ws : List Wake) (t : ℕ) → NoGrant ws → wakesAs OK ws t ≡ false
-no-grant [] t none = refl
-no-grant (w ∷ ws) t none =
-    picked-no (eqb (w .task) t && eqb (w .status) OK) true (wakesAs OK ws t) (second-fails (eqb (w .task) t) _ (ne-eqb (w .status) OK (none .0)))
-    ∙ no-grant ws t (none .1)
 
 some-long : (xs : List ℕ) (u : ℕ) → has xs u ≡ true → 0 < length xs
 some-long [] u b = absurd (true-false b refl)
@@ -107,18 +98,10 @@ module _ (p : ℕ) (h : p ≤ 15) (xs : List Event) where
         by-its-release : wakesAs OK ws t ≡ isItsRelease past id t
         by-its-release = ap (λ (l : List Wake). wakesAs OK l t) (grant .only) ∙ ⊎-elim mine another's (eq-or-not (grant .task) t)
 
-      -- no other turn grants it
-      by-no-other : isAnswerOf 12 id OK y ≡ false → wakesAs OK ws t ≡ false
-      by-no-other r =
-          ⊎-elim
-          (λ at. not-woken OK ws t (release-spares p h xs x id t waits r (not-of y 9 id OK (not-call y 9 OK (ap (λ (v : ℕ). eqb v 9) at))) at))
-          (λ ne. no-grant ws t (only-releases-grant now x ne))
-          (eq-or-not (x .call) 12)
-
     -- "it is granted by release p + 1 − d counted from its joining", whatever turn comes next
     pub granted-exactly : GrantedExactly past y
     granted-exactly id t waits fifo =
         ⊎-elim
         (λ r. by-its-release id t waits fifo r ∙ sym (second-decides (isAnswerOf 12 id OK y) (isItsRelease past id t) r))
-        (λ r. by-no-other id t waits fifo r ∙ sym (first-fails (isAnswerOf 12 id OK y) (isItsRelease past id t) r))
+        (λ r. not-granted p h xs x id t waits r ∙ sym (first-fails (isAnswerOf 12 id OK y) (isItsRelease past id t) r))
         (true-or-false (isAnswerOf 12 id OK y))

@@ -18,7 +18,7 @@ use Rattle.scope.specs.Replies.{Wake}
 use Rattle.laws.proofs.Branches.{true-false, true-or-false, both-true, picked-yes, picked-no}
 use Rattle.histories.specs.History.{Event}
 use Rattle.books.specs.Past.{Turn, pastOf, isAnswer, isAnswerOf, runningIn}
-use Rattle.books.specs.Waiting.{doneTo, pends, claimed, arrivedAt, wakes, endsWait, waiting, Ahead}
+use Rattle.books.specs.Waiting.{doneTo, pendsOn, pends, claimed, arrivedAt, wakes, endsWait, waiting, Ahead}
 use Rattle.books.specs.Times.{wakesAs}
 use Rattle.books.specs.Told.{Once, GrantTold}
 use Rattle.books.proofs.Agreeing.{not-call, not-of, is-of, of-is, not-done, pends-other, is-pending, waiting-shut, waiting-more, waiting-less}
@@ -30,7 +30,7 @@ use Rattle.fifo.specs.Places.{foundAhead, ahead, releasesSince, leavesUn
 use Rattle.fifo.specs.Claims.{Fifo, Counted}
 use Rattle.fifo.proofs.Grown.{turnAfter, by-turns, at-next}
 use Rattle.fifo.proofs.Counting.{kept-and-left, keep-same, keep-all, keep-none, keep-grown, keep-one}
-use Rattle.fifo.proofs.Leaving.{one-woken, other-spared, grant-no-time-out, claimed-there, waited-not-made, grant-there, quiet-wakes, woken-timed-out}
+use Rattle.fifo.proofs.Leaving.{one-woken, other-spared, grant-no-time-out, claimed-there, waited-not-made, grant-there, claim-wakes, woken-timed-out}
 
 -- nobody arrives later than now
 arrived-le : (past : List Turn) (u : ℕ) → arrivedAt past u ≤ length past
@@ -57,7 +57,7 @@ unfolding leavesUngranted endsWait
 ends-ungranted past y u e = ap (λ (b : Bool). b || doneTo 2 past u y) e
 
 pub pending-by : (past : List Turn) (u : ℕ) (y : Turn) → pends past u y ≡ true → (isAnswer 11 PENDING y ≡ true) × (runningIn past ≡ u)
-unfolding pends
+unfolding pendsOn
 pending-by past u y e = let b = both-true (isAnswer 11 PENDING y) _ e in (b .0, eqb-true _ _ (b .1))
 
 module _ (p : ℕ) (h : p ≤ 15) (xs : List Event) (x : Event) where
@@ -170,8 +170,7 @@ module _ (p : ℕ) (h : p ≤ 15) (xs : List Event) (x : Event) where
         where
           quiet : (u : ℕ) → leavesUngranted past y u ≡ false
           quiet u =
-              let silent : y .reply .wakes ≡ [] =
-              quiet-wakes p h xs x (λ d. omega (arith, called, d)) (λ d. omega (arith, called, d)) (λ d. omega (arith, called, d)) in
+              let silent : y .reply .wakes ≡ [] = claim-wakes p h xs x called in
               ungranted-deleted past y u (ap (λ (l : List Wake). wakesAs TIME-OUT l u) silent) ∙ nobody-deleted 11 called u refl
 
     -- nobody joins this queue, and it goes on

@@ -1,5 +1,5 @@
 -- "A later set_priority moves nobody in a queue", and who is suspended keeps its place: only a tick, a deletion of a task or of a semaphore,
--- a claim and a release change a waiter's place. All other calls wake nobody and nobody joins.
+-- a claim and a release change the place of who waits for a semaphore. All other calls wake none of these, and nobody joins.
 -- Assumes nothing.
 use Prim.Native.Nat.{ℕ, suc, _+_, _≤_}
 use native.Mathlib.Omega.{arith}
@@ -11,20 +11,19 @@ use lib.Dec.{ltb}
 use borrow.Author.Tests.{ne-eqb}
 use Rattle.scope.specs.Choice.{pick}
 use Rattle.scope.specs.Statuses.{OK, PENDING, TIME-OUT}
-use Rattle.scope.specs.Lists.{keep}
-use Rattle.scope.specs.Replies.{Wake}
+use Rattle.scope.specs.Lists.{has, keep}
 use Rattle.laws.proofs.Branches.{not-of-false, picked-no, true-false}
 use Rattle.histories.specs.History.{Event}
 use Rattle.books.specs.Past.{Turn, pastOf, isAnswer, isAnswerOf}
-use Rattle.books.specs.Waiting.{pends, arrivedAt, endsWait, waiting}
-use Rattle.books.specs.Times.{wakesAs}
+use Rattle.books.specs.Waiting.{pends, arrivedAt, wakes, endsWait, waiting}
 use Rattle.books.proofs.Agreeing.{not-call, not-of, not-done, not-pends, waiting-less}
-use Rattle.books.proofs.Steps.{ends-deleted}
+use Rattle.books.proofs.Members.{kept-has}
+use Rattle.books.proofs.Steps.{ends-woken}
 use Rattle.fifo.specs.Places.{foundAhead, ahead, releasesSince, leavesUngranted, departing, departed}
 use Rattle.fifo.specs.Claims.{movesWaiters, SamePlace}
 use Rattle.fifo.proofs.Grown.{turnAfter}
 use Rattle.fifo.proofs.Counting.{keep-same, keep-all, keep-none}
-use Rattle.fifo.proofs.Leaving.{quiet-wakes}
+use Rattle.fifo.proofs.Leaving.{not-woken, spares-waiter}
 use Rattle.fifo.proofs.Places.{ungranted-deleted}
 
 module _ (p : ℕ) (h : p ≤ 15) (xs : List Event) (x : Event) (other : movesWaiters (x .call) ≡ false) where
@@ -44,20 +43,23 @@ module _ (p : ℕ) (h : p ≤ 15) (xs : List Event) (x : Event) (other : movesWa
   nobody-joins : (u : ℕ) → pends past u y ≡ false
   nobody-joins u = not-pends y past u (not-so 11 PENDING refl)
 
-  silent : y .reply .wakes ≡ []
-  silent = quiet-wakes p h xs x (none-of 0 refl) (none-of 9 refl) (none-of 12 refl)
+  -- who waits for a semaphore is not woken, and stays
+  silent : (id u : ℕ) → has (waiting past id) u ≡ true → wakes (y .reply .wakes) u ≡ false
+  silent id u on =
+      spares-waiter p h xs x id u on (not-of y 12 id OK (not-so 12 OK refl)) (not-of y 9 id OK (not-so 9 OK refl)) (none-of 0 refl)
 
-  nobody-goes : (u : ℕ) → endsWait past y u ≡ false
-  nobody-goes u = ends-deleted past y u silent ∙ not-done y past 2 u (not-so 2 OK refl)
+  nobody-goes : (id u : ℕ) → has (waiting past id) u ≡ true → endsWait past y u ≡ false
+  nobody-goes id u on = ends-woken past y u (not-so 2 OK refl) ∙ silent id u on
 
-  nobody-departs : (u : ℕ) → leavesUngranted past y u ≡ false
-  nobody-departs u = ungranted-deleted past y u (ap (λ (l : List Wake). wakesAs TIME-OUT l u) silent) ∙ not-done y past 2 u (not-so 2 OK refl)
+  nobody-departs : (id u : ℕ) → has (waiting past id) u ≡ true → leavesUngranted past y u ≡ false
+  nobody-departs id u on =
+      ungranted-deleted past y u (not-woken TIME-OUT (y .reply .wakes) u (silent id u on)) ∙ not-done y past 2 u (not-so 2 OK refl)
 
   module _ (id t : ℕ) where
     same-queue : waiting (y ∷ past) id ≡ waiting past id
     same-queue =
         waiting-less y past id (not-of y 9 id OK (not-so 9 OK refl)) (not-of y 11 id PENDING (not-so 11 PENDING refl))
-        ∙ keep-all (λ u. not (endsWait past y u)) (waiting past id) (λ u b. not-of-false _ (nobody-goes u))
+        ∙ keep-all (λ u. not (endsWait past y u)) (waiting past id) (λ u b. not-of-false _ (nobody-goes id u b))
 
     same-arrival : (u : ℕ) → arrivedAt (y ∷ past) u ≡ arrivedAt past u
     same-arrival u = picked-no (pends past u y) (suc (length past)) (arrivedAt past u) (nobody-joins u)
@@ -79,7 +81,7 @@ module _ (p : ℕ) (h : p ≤ 15) (xs : List Event) (x : Event) (other : movesWa
           left = omega (
             arith,
             picked-no (pends past t y) 0 (length (departing past y id t) + departed past id t) (nobody-joins t),
-            ap (λ (l : List ℕ). length l) (keep-none (leavesUngranted past y) (ahead past id t) (λ u b. nobody-departs u)),
+            ap (λ (l : List ℕ). length l) (keep-none (leavesUngranted past y) (ahead past id t) (λ u b. nobody-departs id u (kept-has _ (waiting past id) u b .0))),
           );
         }
 

@@ -33,7 +33,7 @@ FewerByDepartures past = (id t : ℕ) → has (waiting past id) t ≡ true → F
     → releasesSince past id t + departed past id t < foundAhead past t + 1
 
 -- "If d of those ahead left ungranted, it is granted by release p + 1 − d counted from its joining, those d having left before it": turn y
--- grants it, while it waits, exactly if it is that release
+-- grants it, while it waits, exactly if it is that release; no other turn wakes it with 0, and so no delivery of a message
 abbrev pub GrantedExactly : List Turn → Turn → Type 0
 GrantedExactly past y = (id t : ℕ) → has (waiting past id) t ≡ true → Fifo past id
     → wakesAs OK (y .reply .wakes) t ≡ (isAnswerOf 12 id OK y && isItsRelease past id t)
@@ -48,7 +48,7 @@ abbrev pub GrantedInTime : List Turn → Type 0
 GrantedInTime past = (id t : ℕ) → joined past id t ≡ true → Fifo past id → ended past id t ≡ false
     → itsRelease past id t ≤ releasesSince past id t → granted past t ≡ true
 
--- the calls that can change who waits: tick, task_delete, sem_delete, sem_claim, sem_release
+-- the calls that can change who waits for a semaphore: tick, task_delete, sem_delete, sem_claim, sem_release. (No call of a queue does.)
 abbrev pub movesWaiters : ℕ → Bool
 movesWaiters call = eqb call 0 || (eqb call 2 || (eqb call 9 || (eqb call 11 || eqb call 12)))
 

@@ -3,7 +3,7 @@
 -- PENDING. Tasks and semaphores are told apart by identifier. Nothing here reads a priority, or who is suspended.
 -- Assumes nothing.
 use Prim.Native.Nat.{ℕ, _+_, _-_}
-use mathlib.Core.Bool.{Bool, false, _||_}
+use mathlib.Core.Bool.{Bool, false, not, _&&_, _||_}
 use mathlib.Core.List.{List, [], _∷_}
 use lib.ListN.{length}
 use lib.Dec.{eqb, ltb}
@@ -54,10 +54,14 @@ itsRelease past id t = foundAhead past t + 1 - departed past id t
 unfoldable pub isItsRelease : List Turn → ℕ → ℕ → Bool
 isItsRelease past id t = eqb (releasesSince past id t + 1) (itsRelease past id t)
 
--- since its joining "it is granted": woken with 0
+-- woken with 0, and not by the delivery of a message (M-100)
+unfoldable pub grantsTo : Turn → ℕ → Bool
+grantsTo x t = not (x .reply .delivers) && wakesAs OK (x .reply .wakes) t
+
+-- since its joining "it is granted"
 abbrev pub granted : List Turn → ℕ → Bool
 granted [] t = false
-granted (x ∷ past) t = pick (pends past t x) false (wakesAs OK (x .reply .wakes) t || granted past t)
+granted (x ∷ past) t = pick (pends past t x) false (grantsTo x t || granted past t)
 
 -- "Time-out or deletion of the task itself, and deletion of the semaphore, end the claim."
 unfoldable pub endsClaim : List Turn → Turn → ℕ → ℕ → Bool

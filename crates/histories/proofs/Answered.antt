@@ -24,33 +24,33 @@ use Rattle.histories.specs.Books.{answeredOK}
 -- the answer to an event
 module _ (P : Answer → Type 0) (s : State) (refused : (status : ℕ) → eqb status OK ≡ false → P (plain s status)) where
   -- the answer to x, by what its own row does
-  pub by-own : (x : Event) → P (badState s) → P (callAt (x .call) .does s (x .a) (x .b) (x .c) (x .d) (x .e)) → P (answerTo s x)
+  pub by-own : (x : Event) → P (badState s) → P (callAt (x .call) .does s (x .a) (x .b) (x .c) (x .d) (x .e) (x .message)) → P (answerTo s x)
   unfolding stepped answered
   by-own x bad does = whole (sound s)
     where
       part : (b : Bool) → eqb (callerRefusal (x .call) (x .mark) (s .running)) OK ≡ b
           → P (elim b as (λ y. Answer) [
-            | true ↦ callAt (x .call) .does s (x .a) (x .b) (x .c) (x .d) (x .e)
+            | true ↦ callAt (x .call) .does s (x .a) (x .b) (x .c) (x .d) (x .e) (x .message)
             | false ↦ plain s (callerRefusal (x .call) (x .mark) (s .running))
           ])
       part true e = does
       part false e = refused _ e
 
-      whole : (b : Bool) → P (elim b as (λ y. Answer) [ true ↦ answered s (x .call) (x .mark) (x .a) (x .b) (x .c) (x .d) (x .e) | false ↦ badState s ])
+      whole : (b : Bool) → P (elim b as (λ y. Answer) [ true ↦ answered s (x .call) (x .mark) (x .a) (x .b) (x .c) (x .d) (x .e) (x .message) | false ↦ badState s ])
       whole true = part _ refl
       whole false = bad
 
   -- by what every row does
   abbrev pub Does : Event → ℕ → Call → Type 0
-  Does x k c = x .call ≡ k → P (c .does s (x .a) (x .b) (x .c) (x .d) (x .e))
+  Does x k c = x .call ≡ k → P (c .does s (x .a) (x .b) (x .c) (x .d) (x .e) (x .message))
 
   pub by-row : (x : Event) → P (badState s) → Rows (Does x) 0 calls → P (answerTo s x)
   by-row x bad rows = by-own x bad (row-at (Does x) 0 calls rows (λ k e. refused _ refl) (x .call) (omega arith))
 
   -- by what row k does
-  pub by-number : (x : Event) (k : ℕ) → x .call ≡ k → P (badState s) → P (callAt k .does s (x .a) (x .b) (x .c) (x .d) (x .e)) → P (answerTo s x)
+  pub by-number : (x : Event) (k : ℕ) → x .call ≡ k → P (badState s) → P (callAt k .does s (x .a) (x .b) (x .c) (x .d) (x .e) (x .message)) → P (answerTo s x)
   by-number x k e bad does =
-      by-own x bad (subst (λ (j : ℕ). P (callAt j .does s (x .a) (x .b) (x .c) (x .d) (x .e))) (sym e) does)
+      by-own x bad (subst (λ (j : ℕ). P (callAt j .does s (x .a) (x .b) (x .c) (x .d) (x .e) (x .message))) (sym e) does)
 
 -- what an answer does not count as: another call, another identifier, another status
 module _ (call id : ℕ) (x : Event) (a : Answer) where

@@ -99,8 +99,8 @@ not-pending call mark running =
     (λ g. by-choice P _ (λ h. refl) (λ h. refl))))
 
 -- an unknown call
-pub unknown : (s : State) (call mark a b c d e : ℕ) → knownCalls ≤ call → answered s call mark a b c d e ≡ plain s BAD-CALL
+pub unknown : (s : State) (call mark a b c d e : ℕ) (m : List ℕ) → knownCalls ≤ call → answered s call mark a b c d e m ≡ plain s BAD-CALL
 unfolding answered callerRefusal
-unknown s call mark a b c d e h =
-    ap (λ (x : ℕ). elim (eqb x OK) as (λ y. Answer) [ true ↦ callAt call .does s a b c d e | false ↦ plain s x ])
+unknown s call mark a b c d e m h =
+    ap (λ (x : ℕ). elim (eqb x OK) as (λ y. Answer) [ true ↦ callAt call .does s a b c d e m | false ↦ plain s x ])
     (picked-yes (leb knownCalls call) BAD-CALL _ (le-leb knownCalls call h))

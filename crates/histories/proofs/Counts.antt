@@ -1,5 +1,5 @@
 -- What single calls do to the count of a semaphore in a sound state: a claim, granted or pending, takes one; a release gives one; a
--- waiter that leaves ungranted gives its one back. So the count stays between -32 and 32,767: by the waiters, of whom there are at
+-- waiter that leaves ungranted gives its one back, and who waited for a message queue gives none to a semaphore. So the count stays between -32 and 32,767: by the waiters, of whom there are at
 -- most 32, or by the units.
 -- Assumes nothing.
 use Prim.Native.Nat.{ℕ, _+_, _%_, _≤_, _<_}
@@ -19,11 +19,11 @@ use Rattle.scope.specs.declared.Waking.{Waking}
 use Rattle.scope.specs.declared.Answer.{Answer}
 use Rattle.scope.specs.Statuses.{OK, PENDING}
 use Rattle.scope.specs.Seats.{queueSeats, ringSeats, standsIn, standing, leaves, joins}
-use Rattle.scope.specs.Objects.{Objects, objects, objectsOf}
+use Rattle.scope.specs.Objects.{queueObject, Objects, objects, objectsOf}
 use Rattle.scope.specs.Views.{waitersOf, less, count}
 use Rattle.scope.specs.Answers.{answer, plain}
 use Rattle.scope.specs.Tasks.{taskDeleteAt}
-use Rattle.scope.specs.Waiting.{waits}
+use Rattle.scope.specs.Waiting.{waits, wakeNext}
 use Rattle.scope.specs.Semaphores.{semWaitAt, semClaimAt, semReleaseAt}
 use Rattle.scope.specs.Ticks.{isDue, wakeDue}
 use Rattle.scope.specs.Fresh.{freshState}
@@ -38,7 +38,7 @@ use Rattle.seats.proofs.Joining.{length-joins, joins-seated}
 use Rattle.seats.proofs.Rule.{leaves-keeps}
 use Rattle.histories.specs.Sound.{Ready, LineSound, Sound}
 use Rattle.histories.specs.History.{Event, after}
-use Rattle.histories.proofs.Moves.{seats-low}
+use Rattle.histories.proofs.Moves.{seats-low, leaves-elsewhere, wake-elsewhere}
 use Rattle.histories.proofs.Waking.{first-in}
 use Rattle.histories.proofs.Semaphores.{runs-ready}
 use Rattle.histories.proofs.Demand.{waiting-negative, end-sound}
@@ -74,6 +74,15 @@ pub timed-out-count : (k : Tasks) (m : Semaphores) (u : Queues) (w : Waking) (i 
     → isDue (w .line) t ≡ true → count (wakeDue k 1 t w .line) m i ≡ plusOne (count (w .line) m i)
 timed-out-count k m u w i t ok hi h at due = waiters.timed-out-gives-back k m w i t (waiter (w .line) k (objects m u) ok i hi t h at) due
 
+-- M-100: who waited for a queue gives nothing back to a semaphore, though one identifier may name both
+pub receiver-timed-out : (k : Tasks) (m : Semaphores) (u : Queues) (w : Waking) (i j t : ℕ) → LineSound (w .line) k (objects m u) → i < 16 → t < 32
+    → In (w .line .seat) (queueSeats (queueObject j)) t → isDue (w .line) t ≡ true → count (wakeDue k 1 t w .line) m i ≡ count (w .line) m i
+unfolding wakeDue wakeNext
+receiver-timed-out k m u w i j t ok hi h at due =
+    rw (wakeDue, due)
+    (ap (λ (n : ℕ). less (getD (m .units) i 0) n)
+    (wake-elsewhere (w .line) k (objects m u) ok t h (getD (k .suspended) t false) (getD (k .priority) t 0) i (queueObject j) (omega arith) at (λ e. omega arith)))
+
 module _ (s : State) (ok : Sound s) (i : ℕ) (hi : i < 16) where
   fits : i < length (s .semaphores .units)
   fits = omega (arith, ok .semaphores .sized .unitss)
@@ -81,6 +90,13 @@ module _ (s : State) (ok : Sound s) (i : ℕ) (hi : i < 16) where
   -- "deleted"
   pub deleted-count : (t : ℕ) → t < 32 → In (s .line .seat) (queueSeats i) t → countIn (taskDeleteAt s t .state) i ≡ plusOne (countIn s i)
   deleted-count t h at = waiters.deleted-gives-back s i t (waiter (s .line) (s .tasks) (objectsOf s) (ok .line) i hi t h at)
+
+  pub receiver-deleted : (j t : ℕ) → In (s .line .seat) (queueSeats (queueObject j)) t → countIn (taskDeleteAt s t .state) i ≡ countIn s i
+  unfolding taskDeleteAt plain answer
+  receiver-deleted j t at =
+      ap (λ (n : ℕ). less (getD (s .semaphores .units) i 0) n)
+      (leaves-elsewhere (s .line .seat) (ok .line .queues) (seats-low (s .line) (s .tasks) (objectsOf s) (ok .line)) t (queueSeats (queueObject j)) (omega arith) at
+      (queueSeats i) (omega arith) (λ e. omega arith))
 
   -- "Release: count plus one."
   pub release-count : semReleaseAt s i .status ≡ OK → countIn (semReleaseAt s i .state) i ≡ plusOne (countIn s i)

@@ -7,7 +7,7 @@ use native.Mathlib.Omega.{arith}
 use mathlib.Core.Path.{_≡_, refl, sym, ap, _∙_}
 use mathlib.Core.Logic.{⊎-elim}
 use mathlib.Core.Bool.{Bool, true, false, not, _&&_}
-use mathlib.Core.List.{[], _∷_}
+use mathlib.Core.List.{List, [], _∷_}
 use lib.ListN.{length, getD}
 use lib.Dec.{ltb, leb, eqb}
 use borrow.Author.Tests.{ltb-false, eqb-false, eq-eqb}
@@ -16,17 +16,19 @@ use Rattle.scope.specs.declared.Line.{Line}
 use Rattle.scope.specs.declared.Tasks.{Tasks}
 use Rattle.scope.specs.declared.Semaphores.{Semaphores}
 use Rattle.scope.specs.declared.Pools.{Pools}
+use Rattle.scope.specs.declared.Queues.{Queues}
 use Rattle.scope.specs.declared.Answer.{Answer}
 use Rattle.scope.specs.declared.Found.{Found}
 use Rattle.scope.specs.declared.Found.the-variants.{At, Deleted, Invalid}
 use Rattle.scope.specs.Choice.{pick}
-use Rattle.scope.specs.Statuses.{OK, PENDING, INVALID-ID, OBJECT-DELETED, BAD-CALL}
+use Rattle.scope.specs.Statuses.{OK, PENDING, INVALID-ID, OBJECT-DELETED, BAD-CALL, INVALID-LENGTH, QUEUE-FULL}
 use Rattle.scope.specs.Identifiers.{identifier, lowestUsable}
 use Rattle.scope.specs.Areas.{isArea, isSize, isOut, isFree, bufferAddress, bufferAt}
 use Rattle.scope.specs.Places.{longestFree, firstLeaves, joinsLast}
 use Rattle.scope.specs.Seats.{queueSeats, firstOf, leaves, becomesReady, waitsOn, ringsLeft, ringsReady}
-use Rattle.scope.specs.Views.{withLine, withTasks, withSemaphores, withPools, withSeats, withWait, isReady}
-use Rattle.scope.specs.Answers.{answer, plain, gives, badState, wakesWith, onFound}
+use Rattle.scope.specs.Objects.{queueObject}
+use Rattle.scope.specs.Views.{withLine, withTasks, withSemaphores, withPools, withQueues, withSeats, withWait, isReady}
+use Rattle.scope.specs.Answers.{noMessage, answer, plain, gives, badState, shows, wakesWith, deliversTo, onFound}
 use Rattle.scope.specs.Tasks.{lastPriority, taskFound, taskBorn, taskGone, withStarted, withSuspended, withPriority, readied}
 use Rattle.scope.specs.Tasks.{taskCreateAt, taskCreate, taskDeleteAt, taskDelete, taskIdentAt, taskIdent, taskStartAt, taskStart, taskSuspendAt, taskSuspend, taskResumeAt, taskResume, taskSetPriorityAt, taskSetPriority}
 use Rattle.scope.specs.Waiting.{isTimeOut, wakeNext, noneWoken, waits}
@@ -34,6 +36,10 @@ use Rattle.scope.specs.Semaphores.{lastCount, lastOption, semFound, semBorn, wi
 use Rattle.scope.specs.Semaphores.{semCreateAt, semCreate, semDeleteAt, semDelete, semIdentAt, semIdent, semWaitAt, semClaimAt, semClaim, semReleaseAt, semRelease, semInfoAt, semInfo}
 use Rattle.scope.specs.Pools.{poolFound, poolBuffers, poolRow, poolFree, overlapped, poolBorn, poolGone, withOut}
 use Rattle.scope.specs.Pools.{poolCreateAt, poolCreate, poolDeleteAt, poolDelete, poolIdentAt, poolIdent, poolGetBuffer, poolGetBuffAt, poolGetBuff, poolRetBuffer, poolRetBuffAt, poolRetBuff, poolInfoAt, poolInfo}
+use Rattle.scope.specs.Messages.{Store, shownOf, cellOf, cellsOf, firstLength, firstShown, appended, pushed, taken}
+use Rattle.scope.specs.Queues.{mostOf, longestOf, heldOf, storeOf, withStore, areLimits, fitsQueue, queueFound, firstReceiver, queueBorn}
+use Rattle.scope.specs.Queues.{queueCreateAt, queueCreate, queueDeleteAt, queueDelete, queueIdentAt, queueIdent, queuePutAt, queueSend, queueJump}
+use Rattle.scope.specs.Queues.{queueWaitAt, queueReceiveAt, queueReceive, queueInfoAt, queueInfo}
 use Rattle.scope.specs.Ticks.{tick}
 use Rattle.scope.specs.Calls.{Call, knownCalls, calls, callAt}
 use Rattle.scope.specs.Rules.{sound}
@@ -53,6 +59,9 @@ newSemaphore s = lowestUsable (s .semaphores .serial) (s .semaphores .live)
 abbrev pub newPool : State → ℕ
 newPool s = lowestUsable (s .pools .serial) (s .pools .live)
 
+abbrev pub newQueue : State → ℕ
+newQueue s = lowestUsable (s .queues .serial) (s .queues .live)
+
 -- the buffer that a get gives, and the one that a return's address names
 abbrev pub freeBuffer : State → ℕ → ℕ
 freeBuffer s i = longestFree (poolRow (s .pools) i)
@@ -62,7 +71,7 @@ namedBuffer s i address = bufferAt (getD (s .pools .address) i 0) (getD (s .pool
 
 -- the calls that tell and change nothing: ident and info
 abbrev pub asks : ℕ → Bool
-asks call = has (3 ∷ 10 ∷ 13 ∷ 16 ∷ 19 ∷ []) call
+asks call = has (3 ∷ 10 ∷ 13 ∷ 16 ∷ 19 ∷ 22 ∷ 26 ∷ []) call
 
 -- the tasks' table changes, and the value that is given; nobody moves
 pub data TaskChange (s : State) (x : Event) : Tasks → ℕ → Type 0 where
@@ -125,6 +134,25 @@ pub data PoolChange (s : State) (x : Event) : Pools → ℕ → Type 0 where
       → PoolChange s x
       (withOut (s .pools) i (getD (s .pools .out) i 0 - 2 ^ namedBuffer s i (x .b)) (joinsLast (poolRow (s .pools) i) (poolFree (s .pools) i) (namedBuffer s i (x .b)))) 0
 
+-- "A message goes .. to the end; jump puts it in front": where the call puts a message
+pub data Puts (x : Event) : (Store → ℕ → List ℕ → Store) → Type 0 where
+  sends : x .call ≡ 23 → Puts x appended
+  jumps : x .call ≡ 24 → Puts x pushed
+
+-- the queues' table changes, and nothing else: the value that is given, and the message shown
+pub data QueueChange (s : State) (x : Event) : Queues → ℕ → List ℕ → Type 0 where
+  queue-created : x .call ≡ 20 → not (areLimits (x .b) (x .c)) ≡ false → ltb lastOption (x .d) ≡ false
+      → leb (length (s .queues .serial)) (newQueue s) ≡ false
+      → QueueChange s x (queueBorn (s .queues) (newQueue s) (x .a) (x .b) (x .c) (eqb (x .d) 1))
+      (identifier (getD (s .queues .serial) (newQueue s) 0 + 1) (newQueue s)) noMessage
+  message-put : {put : Store → ℕ → List ℕ → Store} → Puts x put → (i : ℕ) → queueFound s (x .a) ≡ At i
+      → not (fitsQueue (longestOf (s .queues) i) (x .b) (x .message)) ≡ false → ltb (firstReceiver s i) 32 ≡ false
+      → leb (mostOf (s .queues) i) (heldOf (s .queues) i) ≡ false
+      → QueueChange s x (withStore (s .queues) (put (storeOf (s .queues)) i (cellOf (x .message) (x .b)))) 0 noMessage
+  message-received : x .call ≡ 25 → (i : ℕ) → queueFound s (x .a) ≡ At i → ltb 0 (heldOf (s .queues) i) ≡ true
+      → QueueChange s x (withStore (s .queues) (taken (storeOf (s .queues)) i)) (firstLength (cellsOf (s .queues .cells) i))
+      (firstShown (cellsOf (s .queues .cells) i))
+
 -- the answer to x
 pub data Deed (s : State) (x : Event) : Answer → Type 0 where
   -- "A refusal (any status but 0 and 1)", which the call's row lists
@@ -135,6 +163,7 @@ pub data Deed (s : State) (x : Event) : Answer → Type 0 where
   task-moves : {k : Tasks} {l : Line} {v : ℕ} → TaskMove s x k l v → Deed s x (answer (withLine (withTasks s k) l) OK v 0 0 0 false)
   sems-change : {m : Semaphores} {v : ℕ} → SemChange s x m v → Deed s x (answer (withSemaphores s m) OK v 0 0 0 false)
   pools-change : {p : Pools} {v : ℕ} → PoolChange s x p v → Deed s x (answer (withPools s p) OK v 0 0 0 false)
+  queues-change : {u : Queues} {v : ℕ} {shown : List ℕ} → QueueChange s x u v shown → Deed s x (shows (withQueues s u) v shown)
   -- "below 0 the caller joins the queue"
   caller-waits : x .call ≡ 11 → (i : ℕ) → semFound s (x .a) ≡ At i → ltb 0 (getD (s .semaphores .units) i 0) ≡ false → leb 32 (s .running) ≡ false
       → isTimeOut (x .c) ≡ true
@@ -145,9 +174,24 @@ pub data Deed (s : State) (x : Event) : Answer → Type 0 where
   first-woken : x .call ≡ 12 → (i : ℕ) → semFound s (x .a) ≡ At i → ltb (firstOf (s .line .seat) (queueSeats i)) 32 ≡ true
       → Deed s x (wakesWith s (wakeNext (s .tasks) (noneWoken (s .line)) (firstOf (s .line .seat) (queueSeats i))) OK)
   sem-deleted : x .call ≡ 9 → (i : ℕ) → semFound s (x .a) ≡ At i → Deed s x (semDeleteAt s i)
+  -- a receive that finds no message
+  receiver-waits : x .call ≡ 25 → (i : ℕ) → queueFound s (x .a) ≡ At i → ltb 0 (heldOf (s .queues) i) ≡ false → leb 32 (s .running) ≡ false
+      → isTimeOut (x .c) ≡ true
+      → Deed s x (answer
+      (withLine s (waits (s .line) (queueObject i) (getD (s .queues .fifo) i false) (getD (s .tasks .priority) (s .running) 0) (x .c) (s .running)))
+      PENDING 0 0 0 0 false)
+  -- "A message goes to the first waiter"
+  delivered : {put : Store → ℕ → List ℕ → Store} → Puts x put → (i : ℕ) → queueFound s (x .a) ≡ At i
+      → not (fitsQueue (longestOf (s .queues) i) (x .b) (x .message)) ≡ false → ltb (firstReceiver s i) 32 ≡ true
+      → Deed s x (deliversTo s (wakeNext (s .tasks) (noneWoken (s .line)) (firstReceiver s i)) (x .b) (shownOf (x .message) (x .b)))
+  queue-deleted : x .call ≡ 21 → (i : ℕ) → queueFound s (x .a) ≡ At i → Deed s x (queueDeleteAt s i)
   time-passes : x .call ≡ 0 → Deed s x (tick s)
 
--- whose call it is: the tasks' come first, then the semaphores', then the pools'
+pub put-call : {x : Event} {put : Store → ℕ → List ℕ → Store} → Puts x put → (23 ≤ x .call) × (x .call < 25)
+put-call (sends at) = (omega arith, omega arith)
+put-call (jumps at) = (omega arith, omega arith)
+
+-- whose call it is: the tasks' come first, then the semaphores', the pools' and the queues'
 module _ {s : State} {x : Event} where
   pub change-call : {k : Tasks} {v : ℕ} → TaskChange s x k v → x .call < 8
   change-call (task-created at e f) = omega arith
@@ -167,11 +211,16 @@ module _ {s : State} {x : Event} where
   sem-call (unit-claimed at i e f) = (omega arith, omega arith)
   sem-call (unit-released at i e f g) = (omega arith, omega arith)
 
-  pub pool-call : {p : Pools} {v : ℕ} → PoolChange s x p v → 14 ≤ x .call
-  pool-call (pool-created at e f g h j) = omega arith
-  pool-call (pool-deleted at i e f) = omega arith
-  pool-call (buffer-got at i e f) = omega arith
-  pool-call (buffer-returned at i e f) = omega arith
+  pub pool-call : {p : Pools} {v : ℕ} → PoolChange s x p v → (14 ≤ x .call) × (x .call < 20)
+  pool-call (pool-created at e f g h j) = (omega arith, omega arith)
+  pool-call (pool-deleted at i e f) = (omega arith, omega arith)
+  pool-call (buffer-got at i e f) = (omega arith, omega arith)
+  pool-call (buffer-returned at i e f) = (omega arith, omega arith)
+
+  pub queue-call : {u : Queues} {v : ℕ} {shown : List ℕ} → QueueChange s x u v shown → 20 ≤ x .call
+  queue-call (queue-created at e f g) = omega arith
+  queue-call (message-put c i e f g h) = omega (arith, put-call c .0)
+  queue-call (message-received at i e f) = omega arith
 
 -- a call that tells is none that does not
 pub not-asked : (call other : ℕ) → asks call ≡ true → asks other ≡ false → call ≡ other → ⊥
@@ -185,13 +234,16 @@ not-true : (b : Bool) → not b ≡ true → b ≡ false
 not-true true e = absurd (true-false refl (sym e))
 not-true false e = refl
 
--- who is to wait for a unit asks for a time_out: with NOWAIT it would be refused
-timed : (options ticks : ℕ) (some : Bool) → ltb lastOption options ≡ false → (eqb options 0 && not (isTimeOut ticks)) ≡ false
-    → (eqb options 1 && not some) ≡ false → some ≡ false → isTimeOut ticks ≡ true
-timed options ticks some e f g z =
-    let h : eqb options 1 ≡ false = sym (first-decides (eqb options 1) (not some) (not-of-false some z)) ∙ g in
+-- who is to wait asks for a time_out: with NOWAIT it would be refused
+timed : (options ticks : ℕ) → ltb lastOption options ≡ false → (eqb options 0 && not (isTimeOut ticks)) ≡ false → eqb options 1 ≡ false
+    → isTimeOut ticks ≡ true
+timed options ticks e f h =
     let o : options ≡ 0 = omega (arith, ltb-false lastOption options e, eqb-false options 1 h) in
     ⊎-elim (λ y. y) (λ n. absurd (true-false (both _ _ (eq-eqb options 0 o) (not-of-false (isTimeOut ticks) n)) f)) (true-or-false (isTimeOut ticks))
+
+-- of a claim that finds no unit
+waitable : (options : ℕ) (some : Bool) → (eqb options 1 && not some) ≡ false → some ≡ false → eqb options 1 ≡ false
+waitable options some g z = sym (first-decides (eqb options 1) (not some) (not-of-false some z)) ∙ g
 
 module _ (s : State) (x : Event) where
   no : {call : ℕ} → x .call ≡ call → (status : ℕ) → own call status ≡ true → Deed s x (plain s status)
@@ -270,7 +322,7 @@ module _ (s : State) (x : Event) where
       (λ i e. choose _ (λ f. no at _ refl)
       (λ f. choose _ (λ g. no at _ refl)
       (λ g. choose _ (λ h. no at _ refl)
-      (λ h. choose _ (λ j. sems-change (unit-claimed at i e j)) (λ j. choose _ (λ n. no at _ refl) (λ n. caller-waits at i e j n (timed (x .b) (x .c) _ f g h j)))))))
+      (λ h. choose _ (λ j. sems-change (unit-claimed at i e j)) (λ j. choose _ (λ n. no at _ refl) (λ n. caller-waits at i e j n (timed (x .b) (x .c) f g (waitable (x .b) _ h j))))))))
 
   sem-release : x .call ≡ 12 → Deed s x (semRelease s (x .a))
   unfolding semReleaseAt plain
@@ -311,9 +363,49 @@ module _ (s : State) (x : Event) where
   unfolding poolInfoAt
   pool-info at = named at refl refl _ (poolInfoAt s) (λ i e. tells 19 at refl _ _ _ _ _)
 
+  queue-create : x .call ≡ 20 → Deed s x (queueCreate s (x .a) (x .b) (x .c) (x .d))
+  unfolding queueCreate queueCreateAt gives answer shows
+  queue-create at =
+      choose _ (λ e. no at _ refl)
+      (λ e. choose _ (λ f. no at _ refl) (λ f. choose _ (λ g. no at _ refl) (λ g. queues-change (queue-created at e f g))))
+
+  queue-delete : x .call ≡ 21 → Deed s x (queueDelete s (x .a))
+  queue-delete at = named at refl refl _ (queueDeleteAt s) (λ i e. queue-deleted at i e)
+
+  queue-ident : x .call ≡ 22 → Deed s x (queueIdent s (x .a))
+  unfolding queueIdent queueIdentAt gives
+  queue-ident at = choose _ (λ e. no at _ refl) (λ e. tells 22 at refl _ _ _ _ _)
+
+  -- a send and a jump
+  queue-put : {put : Store → ℕ → List ℕ → Store} {call : ℕ} → x .call ≡ call → Puts x put → own call INVALID-LENGTH ≡ true → own call QUEUE-FULL ≡ true
+      → (i : ℕ) → queueFound s (x .a) ≡ At i → Deed s x (queuePutAt put s (x .b) (x .message) i)
+  unfolding queuePutAt plain answer shows
+  queue-put at c long full i e =
+      choose _ (λ f. no at _ long)
+      (λ f. choose _ (λ g. delivered c i e f g) (λ g. choose _ (λ h. no at _ full) (λ h. queues-change (message-put c i e f g h))))
+
+  queue-send : x .call ≡ 23 → Deed s x (queueSend s (x .a) (x .b) (x .message))
+  queue-send at = named at refl refl _ (queuePutAt appended s (x .b) (x .message)) (queue-put at (sends at) refl refl)
+
+  queue-jump : x .call ≡ 24 → Deed s x (queueJump s (x .a) (x .b) (x .message))
+  queue-jump at = named at refl refl _ (queuePutAt pushed s (x .b) (x .message)) (queue-put at (jumps at) refl refl)
+
+  queue-receive : x .call ≡ 25 → Deed s x (queueReceive s (x .a) (x .b) (x .c))
+  unfolding queueReceiveAt queueWaitAt plain
+  queue-receive at =
+      named at refl refl _ (queueReceiveAt s (x .b) (x .c))
+      (λ i e. choose _ (λ f. no at _ refl)
+      (λ f. choose _ (λ g. no at _ refl)
+      (λ g. choose _ (λ h. queues-change (message-received at i e h))
+      (λ h. choose _ (λ j. no at _ refl) (λ j. choose _ (λ n. no at _ refl) (λ n. receiver-waits at i e h n (timed (x .b) (x .c) f g j)))))))
+
+  queue-info : x .call ≡ 26 → Deed s x (queueInfo s (x .a))
+  unfolding queueInfoAt
+  queue-info at = named at refl refl _ (queueInfoAt s) (λ i e. tells 26 at refl _ _ _ _ _)
+
   -- each row of the table
   abbrev Row : ℕ → Call → Type 0
-  Row call row = x .call ≡ call → Deed s x (row .does s (x .a) (x .b) (x .c) (x .d) (x .e))
+  Row call row = x .call ≡ call → Deed s x (row .does s (x .a) (x .b) (x .c) (x .d) (x .e) (x .message))
 
   all-rows : Rows Row 0 calls
   all-rows =
@@ -337,10 +429,17 @@ module _ (s : State) (x : Event) where
       (more pool-get
       (more pool-return
       (more pool-info
-      none)))))))))))))))))))
+      (more queue-create
+      (more queue-delete
+      (more queue-ident
+      (more queue-send
+      (more queue-jump
+      (more queue-receive
+      (more queue-info
+      none))))))))))))))))))))))))))
 
   -- the answer on a state that keeps the rules
-  pub deed : Deed s x (answered s (x .call) (x .mark) (x .a) (x .b) (x .c) (x .d) (x .e))
+  pub deed : Deed s x (answered s (x .call) (x .mark) (x .a) (x .b) (x .c) (x .d) (x .e) (x .message))
   unfolding answered
   deed = go (eqb refusal OK) refl
     where
@@ -348,7 +447,7 @@ module _ (s : State) (x : Event) where
       refusal = callerRefusal (x .call) (x .mark) (s .running)
 
       go : (b : Bool) → eqb refusal OK ≡ b
-          → Deed s x (elim b as (λ y. Answer) [ true ↦ callAt (x .call) .does s (x .a) (x .b) (x .c) (x .d) (x .e) | false ↦ plain s refusal ])
+          → Deed s x (elim b as (λ y. Answer) [ true ↦ callAt (x .call) .does s (x .a) (x .b) (x .c) (x .d) (x .e) (x .message) | false ↦ plain s refusal ])
       go true e =
           row-at Row 0 calls all-rows (λ k f. refused BAD-CALL refl refl (λ below. listed-bad (x .call) below)) (x .call) (omega arith)
       go false e = refused refusal e (not-pending (x .call) (x .mark) (s .running)) (λ below. refusal-fits (x .call) below (x .mark) (s .running) e)
@@ -359,6 +458,6 @@ module _ (s : State) (x : Event) where
   by-deed P f g = go (sound s) refl
     where
       go : (b : Bool) → sound s ≡ b
-          → P (elim b as (λ y. Answer) [ true ↦ answered s (x .call) (x .mark) (x .a) (x .b) (x .c) (x .d) (x .e) | false ↦ badState s ])
+          → P (elim b as (λ y. Answer) [ true ↦ answered s (x .call) (x .mark) (x .a) (x .b) (x .c) (x .d) (x .e) (x .message) | false ↦ badState s ])
       go true h = f _ deed
       go false h = g h

@@ -21,7 +21,7 @@ use Rattle.histories.proofs.Tables.{Later, later-same, later-on, issued
 use Rattle.histories.proofs.Accounts.{Account, Entered}
 
 pub event-keeps : (s : State) → Sound s → (x : Event) → Sound (answerTo s x .state)
-event-keeps s ok x = step-keeps s ok (x .call) (x .mark) (x .a) (x .b) (x .c) (x .d) (x .e)
+event-keeps s ok x = step-keeps s ok (x .call) (x .mark) (x .a) (x .b) (x .c) (x .d) (x .e) (x .message)
 
 pub history-keeps : (s : State) → Sound s → (xs : List Event) → Sound (after s xs)
 history-keeps s ok [] = ok

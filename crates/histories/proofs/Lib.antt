@@ -8,6 +8,7 @@ pub mod Semaphores
 pub mod Ticks
 pub mod Tasks
 pub mod Pools
+pub mod Queues
 pub mod Stays
 pub mod Meaning
 pub mod Fresh

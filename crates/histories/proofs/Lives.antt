@@ -1,6 +1,6 @@
--- "If the serial is 1 or more, has been issued and is not live: OBJECT_DELETED." Of the tasks' table, over every history: only
--- task_create and task_delete change serials or who lives, one by a later serial in a free slot, the other by a death. So a deleted
--- task's identifier never names a task again. By the deeds.
+-- "If the serial is 1 or more, has been issued and is not live: OBJECT_DELETED." Of the tasks' table and the queues', over every
+-- history: only create and delete change serials or who lives, one by a later serial in a free slot, the other by a death. So a deleted
+-- task's or queue's identifier never names one again. By the deeds.
 -- Assumes nothing.
 use Prim.Native.Nat.{ℕ}
 use native.Mathlib.Omega.{arith}
@@ -10,17 +10,22 @@ use borrow.Author.Tests.{leb-false}
 use Rattle.scope.specs.declared.State.{State}
 use Rattle.scope.specs.declared.Line.{Line}
 use Rattle.scope.specs.declared.Tasks.{Tasks}
+use Rattle.scope.specs.declared.Queues.{Queues}
 use Rattle.scope.specs.declared.Answer.{Answer}
 use Rattle.scope.specs.declared.Found.the-variants.{Deleted}
 use Rattle.scope.specs.Identifiers.{found}
-use Rattle.scope.specs.Answers.{answer, plain, badState, wakesWith}
+use Rattle.scope.specs.Answers.{answer, plain, badState, shows, wakesWith, deliversTo}
 use Rattle.scope.specs.Semaphores.{semDeleteAt}
+use Rattle.scope.specs.Queues.{queueDeleteAt}
 use Rattle.scope.specs.Ticks.{tick}
 use Rattle.histories.specs.Sound.{Sound}
-use Rattle.histories.specs.History.{Event, answerTo, after, TaskAt}
+use Rattle.histories.specs.History.{Event, answerTo, after, TaskAt, QueueAt}
 use Rattle.histories.proofs.Tasks.{named-task}
+use Rattle.histories.proofs.Queues.{named-queue}
 use Rattle.histories.proofs.Deeds.{TaskChange, task-created, waiter-suspended, waiter-resumed, priority-noted, TaskMove, task-deleted, task-started, task-suspended, task-resumed, priority-set}
 use Rattle.histories.proofs.Deeds.{Deed, refused, tells, tasks-change, task-moves, sems-change, pools-change, caller-waits, first-woken, sem-deleted, time-passes, by-deed}
+use Rattle.histories.proofs.Deeds.{queues-change, receiver-waits, delivered, queue-deleted}
+use Rattle.histories.proofs.Deeds.{QueueChange, queue-created, message-put, message-received}
 use Rattle.histories.proofs.Tables.{Later, later-same, later-on, later-born, later-gone, stays-deleted, still-deleted}
 use Rattle.histories.proofs.Ledger.{event-keeps}
 
@@ -50,7 +55,7 @@ module _ (s : State) where
     moved (priority-set at t e f g) = same
 
     by-kind : {a : Answer} → Deed s x a → On a
-    unfolding plain answer wakesWith semDeleteAt tick
+    unfolding plain answer shows wakesWith deliversTo semDeleteAt queueDeleteAt tick
     by-kind (refused status e f listed) = same
     by-kind (tells call at e v0 v1 v2 v3 negative) = same
     by-kind (tasks-change c) = changed c
@@ -60,6 +65,10 @@ module _ (s : State) where
     by-kind (caller-waits at i e f g time) = same
     by-kind (first-woken at i e f) = same
     by-kind (sem-deleted at i e) = same
+    by-kind (queues-change c) = same
+    by-kind (receiver-waits at i e f g time) = same
+    by-kind (delivered c i e f g) = same
+    by-kind (queue-deleted at i e) = same
     by-kind (time-passes at) = same
 
     pub tasks-later : On (answerTo s x)
@@ -77,3 +86,45 @@ module _ (s : State) (ok : Sound s) (xs : List Event) (id : ℕ) (gone : found (
 
   pub task-still-deleted : found (after s xs .tasks .serial) (after s xs .tasks .live) id ≡ Deleted
   task-still-deleted = still-deleted (tasks-after s ok xs) id gone
+
+-- the same of the queues
+module _ (s : State) where
+  abbrev QueuesOn : Answer → Type 0
+  QueuesOn a = Later (s .queues .serial) (s .queues .live) (a .state .queues .serial) (a .state .queues .live)
+
+  unmoved : Later (s .queues .serial) (s .queues .live) (s .queues .serial) (s .queues .live)
+  unmoved = later-same (s .queues .serial) (s .queues .live)
+
+  module _ (ok : Sound s) (x : Event) where
+    queues-moved : {u : Queues} {v : ℕ} {shown : List ℕ} → QueueChange s x u v shown → Later (s .queues .serial) (s .queues .live) (u .serial) (u .live)
+    queues-moved (queue-created at e f g) = later-born (s .queues .serial) (s .queues .live) _ (leb-false _ _ g)
+    queues-moved (message-put c i e f g h) = unmoved
+    queues-moved (message-received at i e f) = unmoved
+
+    of-queues : {a : Answer} → Deed s x a → QueuesOn a
+    unfolding plain answer shows wakesWith deliversTo semDeleteAt queueDeleteAt tick
+    of-queues (refused status e f listed) = unmoved
+    of-queues (tells call at e v0 v1 v2 v3 negative) = unmoved
+    of-queues (tasks-change c) = unmoved
+    of-queues (task-moves c) = unmoved
+    of-queues (sems-change c) = unmoved
+    of-queues (pools-change c) = unmoved
+    of-queues (caller-waits at i e f g time) = unmoved
+    of-queues (first-woken at i e f) = unmoved
+    of-queues (sem-deleted at i e) = unmoved
+    of-queues (queues-change c) = queues-moved c
+    of-queues (receiver-waits at i e f g time) = unmoved
+    of-queues (delivered c i e f g) = unmoved
+    of-queues (queue-deleted at i e) = later-gone (s .queues .serial) (s .queues .live) i (omega (arith, named-queue s ok (x .a) i e .0, ok .queues .sized .lives))
+    of-queues (time-passes at) = unmoved
+
+    pub queues-later : QueuesOn (answerTo s x)
+    unfolding badState
+    queues-later = by-deed s x QueuesOn (λ a d. of-queues d) (λ h. unmoved)
+
+pub queues-after : (s : State) → Sound s → (xs : List Event) → Later (s .queues .serial) (s .queues .live) (after s xs .queues .serial) (after s xs .queues .live)
+queues-after s ok [] = later-same (s .queues .serial) (s .queues .live)
+queues-after s ok (x ∷ xs) = later-on (queues-later s ok x) (queues-after (answerTo s x .state) (event-keeps s ok x) xs)
+
+pub queue-stays-deleted : (s : State) → Sound s → (xs : List Event) (id i : ℕ) → found (s .queues .serial) (s .queues .live) id ≡ Deleted → QueueAt (after s xs) id i → ⊥
+queue-stays-deleted s ok xs id i gone e = stays-deleted (queues-after s ok xs) id i gone e

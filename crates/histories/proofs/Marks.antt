@@ -22,9 +22,10 @@ use Rattle.scope.specs.Identifiers.{identifier}
 use Rattle.scope.specs.Areas.{bufferAddress, isOut, isFree}
 use Rattle.scope.specs.Places.{firstLeaves, joinsLast}
 use Rattle.scope.specs.Views.{withPools}
+use Rattle.scope.specs.Queues.{queueDeleteAt}
 use Rattle.scope.specs.Ticks.{tick}
 use Rattle.scope.specs.Semaphores.{semDeleteAt}
-use Rattle.scope.specs.Answers.{wakesWith, answer, plain, badState}
+use Rattle.scope.specs.Answers.{answer, plain, badState, shows, wakesWith, deliversTo}
 use Rattle.scope.specs.Pools.{poolFound, poolBuffers, poolRow, poolFree, poolBorn, poolGone, withOut}
 use Rattle.laws.proofs.Arrays.{cleared}
 use Rattle.laws.proofs.Branches.{both-true, picked-yes, picked-no}
@@ -35,8 +36,9 @@ use Rattle.histories.specs.Sound.{Sound}
 use Rattle.histories.specs.History.{Event, answerTo}
 use Rattle.histories.specs.Books.{answeredOK, gets, returns, buffersOut}
 use Rattle.histories.proofs.Pools.{row-says}
-use Rattle.histories.proofs.Deeds.{newPool, freeBuffer, namedBuffer, PoolChange, pool-created, pool-deleted, buffer-got, buffer-returned, change-call, move-call, sem-call, not-asked}
+use Rattle.histories.proofs.Deeds.{newPool, freeBuffer, namedBuffer, PoolChange, pool-created, pool-deleted, buffer-got, buffer-returned, change-call, move-call, sem-call, put-call, queue-call, not-asked}
 use Rattle.histories.proofs.Deeds.{Deed, refused, tells, tasks-change, task-moves, sems-change, pools-change, caller-waits, first-woken, sem-deleted, time-passes, by-deed}
+use Rattle.histories.proofs.Deeds.{queues-change, receiver-waits, delivered, queue-deleted}
 use Rattle.histories.proofs.Accounts.{Account, Entered, other-call, not-done, enters-none, enters-born, enters-gone, enters-one}
 use Rattle.histories.proofs.Answered.{by-call, by-other, by-status, counts-as, Creates}
 
@@ -178,7 +180,7 @@ module _ (s : State) (ok : Sound s) (x : Event) where
       changed i e (out - 2 ^ b) row a (λ z. omega arith) refl (omega (arith, c .0, c .1, given-back out b n set h))
 
   deed-fair : {a : Answer} → Deed s x a → Fair a
-  unfolding plain answer wakesWith semDeleteAt tick
+  unfolding plain answer shows wakesWith deliversTo semDeleteAt queueDeleteAt tick
   deed-fair (refused status e f listed) = refusal _ refl e
   deed-fair (tells call at e v0 v1 v2 v3 negative) =
       elsewhere _ refl (λ z. not-asked call 14 e refl (sym at ∙ z)) (λ z. not-asked call 17 e refl (sym at ∙ z)) (λ z. not-asked call 18 e refl (sym at ∙ z))
@@ -189,6 +191,10 @@ module _ (s : State) (ok : Sound s) (x : Event) where
   deed-fair (caller-waits at i e f g time) = refusal _ refl refl
   deed-fair (first-woken at i e f) = elsewhere _ refl (λ z. omega arith) (λ z. omega arith) (λ z. omega arith)
   deed-fair (sem-deleted at i e) = elsewhere _ refl (λ z. omega arith) (λ z. omega arith) (λ z. omega arith)
+  deed-fair (queues-change c) = let h = queue-call c in elsewhere _ refl (λ z. omega arith) (λ z. omega arith) (λ z. omega arith)
+  deed-fair (receiver-waits at i e f g time) = refusal _ refl refl
+  deed-fair (delivered c i e f g) = let h = put-call c .0 in elsewhere _ refl (λ z. omega arith) (λ z. omega arith) (λ z. omega arith)
+  deed-fair (queue-deleted at i e) = elsewhere _ refl (λ z. omega arith) (λ z. omega arith) (λ z. omega arith)
   deed-fair (time-passes at) = elsewhere _ refl (λ z. omega arith) (λ z. omega arith) (λ z. omega arith)
 
   -- every event's answer keeps the pools' books

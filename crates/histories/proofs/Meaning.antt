@@ -17,7 +17,7 @@ use Rattle.scope.specs.Seats.{queueSeats, waitsOn, queueOf, standing, ringMask,
 use Rattle.scope.specs.Views.{readyWith, waitersOf, count}
 use Rattle.scope.specs.Objects.{objectsEnd, queueObject, Objects, objectsOf}
 use Rattle.scope.specs.Queues.{mostOf}
-use Rattle.scope.specs.Rules.{seatsRight, ringsRight, readyRight, readyOrderRight, waitRight, waitsRight, joinedRight, queuesSorted, countRight, countsRight, holdsRight, heldRight, startRight, startsRight, taskRight, tasksRight, semRight, semsRight, queueRight, queuesRight, poolRight, poolsRight, orderRight, ordersRight, poolsApart, runningRight, orderRules, tableRules, keeps, sound}
+use Rattle.scope.specs.Rules.{seatsRight, ringsRight, readyRight, readyOrderRight, waitRight, waitsRight, joinedRight, queuesSorted, countRight, countsRight, holdsRight, heldRight, startRight, startsRight, taskRight, tasksRight, semRight, semsRight, queueRight, queuesRight, messagesRight, poolRight, poolsRight, orderRight, ordersRight, poolsApart, runningRight, orderRules, tableRules, keeps, sound}
 use Rattle.scope.proofs.Counts.{right-says, says-right}
 use Rattle.laws.proofs.Branches.{both, both-true, first-fails, second-fails, not-of-true, not-of-false, true-false, true-or-false, lt-or-le}
 use Rattle.laws.proofs.Searches.{every-yes, every-at}
@@ -382,6 +382,7 @@ module _ (s : State) (sized : Sized s) (orders : keeps orderRules s ≡ true) (t
         sized = sized .queues;
         each = every-at (queueRight (s .queues)) 8 (table-rule (λ x. queuesRight (x .queues)) (search rows depth 12));
         held = λ i h. held-at i h .0;
+        messages = table-rule (λ x. messagesRight (x .queues)) (search rows depth 12);
       }
 
   held-says : Sound s
@@ -423,10 +424,11 @@ module _ (s : State) (h : Sound s) where
       (more (every-yes _ 32 (λ t l. task-right (s .tasks) t (h .tasks .each t l)))
       (more (every-yes _ 16 (λ i l. sem-right (s .semaphores) i (h .semaphores .each i l)))
       (more (every-yes _ 8 (h .queues .each))
+      (more (h .queues .messages)
       (more (every-yes _ 8 (h .pools .each))
       (more (every-yes _ 8 (λ i l. order-right (h .pools .orders i l)))
       (more (h .pools .apart)
-      none))))))
+      none)))))))
 
   pub sound-right : sound s ≡ true
   sound-right = keeps-sound s orders-right tables-right

@@ -81,6 +81,11 @@ module _ (q : List ℕ) (rule : AllSeated q) (low : (u : ℕ) → In q 0 u → �
       standing-is (leaves q t) o (standing q o - 1) (length-leaves q t ∙ rule .tasks)
       (leaves-seated q o t level at (standing q o) (rule .tasks) (rule .seated o level))
 
+  pub leaves-elsewhere : (b : ℕ) → b % 64 ≡ 0 → In q b t → (o : ℕ) → o % 64 ≡ 0 → (o ≡ b → ⊥) → standing (leaves q t) o ≡ standing q o
+  leaves-elsewhere b flat at o level ne =
+      standing-is (leaves q t) o (standing q o) (length-leaves q t ∙ rule .tasks)
+      (leaves-others q b t flat at o level ne (standing q o) (rule .tasks) (rule .seated o level))
+
   leaves-fewer : (o : ℕ) → o % 64 ≡ 0 → standing (leaves q t) o ≤ standing q o
   leaves-fewer o level =
       leaves-by (λ r. standing r o ≤ standing q o) (omega arith)
@@ -88,11 +93,7 @@ module _ (q : List ℕ) (rule : AllSeated q) (low : (u : ℕ) → In q 0 u → �
       let at : In q b t = stands-in q rule t h in
       ⊎-elim
       (λ e. omega (arith, leaves-standing o level (subst (λ (v : ℕ). In q v t) (sym e) at)))
-      (λ ne. omega (
-        arith,
-        standing-is (leaves q t) o (standing q o) (length-leaves q t ∙ rule .tasks)
-            (leaves-others q b t (omega arith) at o level ne (standing q o) (rule .tasks) (rule .seated o level)),
-      ))
+      (λ ne. omega (arith, leaves-elsewhere b (omega arith) at o level ne))
       (eq-or-not o b))
 
 -- And when task t, which stands nowhere, joins the queue above o.
@@ -409,6 +410,16 @@ module _ (l : Line) (k : Tasks) (m : Objects) (ok : LineSound l k m) (t : ℕ) (
       joins-standing (leaves (l .seat) t) (l .joined) t (ringSeats p) 0 (leaves-keeps (l .seat) (ok .queues) (seats-low l k m ok) t) room (leaves-out (l .seat) t)
       (omega arith) (queueSeats i) (omega arith) (λ d. omega arith)
       ∙ leaves-standing (l .seat) (ok .queues) (seats-low l k m ok) t (queueSeats i) (omega arith) at
+
+  -- as many stand in that of every other object
+  pub wake-elsewhere : (suspended : Bool) (p i j : ℕ) → i < objectsEnd → In (l .seat) (queueSeats j) t → (i ≡ j → ⊥)
+      → standing (wake l suspended p t .seat) (queueSeats i) ≡ standing (l .seat) (queueSeats i)
+  unfolding wake wokenSeats pick
+  wake-elsewhere true p i j hi at ne = leaves-elsewhere (l .seat) (ok .queues) (seats-low l k m ok) t (queueSeats j) (omega arith) at (queueSeats i) (omega arith) (λ d. ne (omega arith))
+  wake-elsewhere false p i j hi at ne =
+      joins-standing (leaves (l .seat) t) (l .joined) t (ringSeats p) 0 (leaves-keeps (l .seat) (ok .queues) (seats-low l k m ok) t) room (leaves-out (l .seat) t)
+      (omega arith) (queueSeats i) (omega arith) (λ d. omega arith)
+      ∙ leaves-elsewhere (l .seat) (ok .queues) (seats-low l k m ok) t (queueSeats j) (omega arith) at (queueSeats i) (omega arith) (λ d. ne (omega arith))
 
   -- who stands in an object's queue waits there
   pub queue-waits : (i : ℕ) → i < objectsEnd → In (l .seat) (queueSeats i) t → (w : Waits l k m t) × (w .on ≡ i)

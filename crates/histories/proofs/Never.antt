@@ -15,4 +15,4 @@ use Rattle.histories.proofs.Demand.{end-sound}
 pub never-bad-state : (p : ℕ) → p ≤ 15 → (xs : List Event) (x : Event) → answerTo (after (freshState p) xs) x .status ≡ BAD-STATE → ⊥
 never-bad-state p h xs x e =
     true-false (sound-right (after (freshState p) xs) (end-sound p h xs))
-    (bad-state (after (freshState p) xs) (x .call) (x .mark) (x .a) (x .b) (x .c) (x .d) (x .e) e)
+    (bad-state (after (freshState p) xs) (x .call) (x .mark) (x .a) (x .b) (x .c) (x .d) (x .e) (x .message) e)

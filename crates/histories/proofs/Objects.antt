@@ -19,6 +19,8 @@ use Rattle.scope.specs.Choice.{pick}
 use Rattle.scope.specs.Seats.{queueSeats, standing}
 use Rattle.scope.specs.Objects.{queueObject, ofObject, Objects, objects}
 use Rattle.scope.specs.Semaphores.{semBorn, semGone, withUnits}
+use Rattle.scope.specs.Messages.{Store, cleared}
+use Rattle.scope.specs.Queues.{withStore, queueBorn, queueGone}
 use Rattle.laws.proofs.Branches.{lt-or-le, true-false, picked-yes, picked-no}
 use Rattle.laws.proofs.Arrays.{past}
 use Rattle.histories.specs.Sound.{LineSound}
@@ -43,6 +45,21 @@ module _ {A : Type 0} (sems queues : List A) (none : A) where
   unfolding ofObject
   of-other i x j ne = ap (λ (y : A). pick (ltb j 16) y (getD queues (j - 16) none)) (getD-set-other sems i j x none ne)
 
+  -- and where that of the queues is
+  of-others : (i : ℕ) (x : A) (j : ℕ) → (j ≡ queueObject i → ⊥) → ofObject sems (set queues i x) none j ≡ ofObject sems queues none j
+  unfolding ofObject
+  of-others i x j ne =
+      ⊎-elim
+      (λ h. of-low (set queues i x) j h ∙ sym (of-low queues j h))
+      (λ h. of-high (set queues i x) j h ∙ getD-set-other queues i (j - 16) x none (λ e. ne (omega arith)) ∙ sym (of-high queues j h))
+      (lt-or-le j 16)
+    where
+      of-low : (u : List A) (j : ℕ) → j < 16 → ofObject sems u none j ≡ getD sems j none
+      of-low u j h = picked-yes (ltb j 16) _ _ (lt-ltb j 16 h)
+
+      of-high : (u : List A) (j : ℕ) → 16 ≤ j → ofObject sems u none j ≡ getD u (j - 16) none
+      of-high u j h = picked-no (ltb j 16) _ _ (le-ltb j 16 h)
+
 module _ (m : Semaphores) (u : Queues) (i : ℕ) where
   pub sem-live : i < 16 → objects m u .live i ≡ getD (m .live) i false
   unfolding objects
@@ -55,6 +72,14 @@ module _ (m : Semaphores) (u : Queues) (i : ℕ) where
   pub sem-stock : i < 16 → objects m u .stock i ≡ getD (m .units) i 0
   unfolding objects
   sem-stock h = of-sem (m .units) (u .held) 0 i h
+
+  pub queue-live : objects m u .live (queueObject i) ≡ getD (u .live) i false
+  unfolding objects
+  queue-live = of-queue (m .live) (u .live) false i
+
+  pub queue-fifo : objects m u .fifo (queueObject i) ≡ getD (u .fifo) i false
+  unfolding objects
+  queue-fifo = of-queue (m .fifo) (u .fifo) false i
 
   pub queue-stock : objects m u .stock (queueObject i) ≡ getD (u .held) i 0
   unfolding objects
@@ -113,3 +138,33 @@ module _ (m : Semaphores) (u : Queues) (i : ℕ) where
     pub units-fifo : objects (withUnits m i n) u .fifo ≡ objects m u .fifo
     unfolding objects
     units-fifo = refl
+
+-- a queue is born, goes, or holds another number of messages; no semaphore is touched
+module _ (m : Semaphores) (u : Queues) (i : ℕ) where
+  pub born-apart : (name most longest : ℕ) (fifo : Bool) → Elsewhere (objects m u) (objects m (queueBorn u i name most longest fifo)) (queueObject i)
+  unfolding objects
+  born-apart name most longest fifo =
+      record { live = of-others (m .live) (u .live) false i true; fifo = of-others (m .fifo) (u .fifo) false i fifo; stock = λ j ne. refl }
+
+  pub gone-apart : Elsewhere (objects m u) (objects m (queueGone u i)) (queueObject i)
+  unfolding objects cleared
+  gone-apart =
+      record {
+        live = of-others (m .live) (u .live) false i false;
+        fifo = of-others (m .fifo) (u .fifo) false i false;
+        stock = of-others (m .units) (u .held) 0 i 0;
+      }
+
+  module _ (s : Store) (n : ℕ) (e : s .held ≡ set (u .held) i n) where
+    pub store-apart : Elsewhere (objects m u) (objects m (withStore u s)) (queueObject i)
+    unfolding objects
+    store-apart =
+        record {
+          live = λ j ne. refl;
+          fifo = λ j ne. refl;
+          stock = λ j ne. ap (λ (h : List ℕ). ofObject (m .units) h 0 j) e ∙ of-others (m .units) (u .held) 0 i n j ne;
+        }
+
+  pub store-fifo : (s : Store) → objects m (withStore u s) .fifo ≡ objects m u .fifo
+  unfolding objects
+  store-fifo s = refl

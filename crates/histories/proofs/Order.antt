@@ -44,11 +44,11 @@ abbrev OrderedIn : State → Arrivals → ℕ → Type 0
 OrderedIn s told n = Ordered (s .line) (objectsOf s .fifo) told n
 
 event-sound : (s : State) (x : Event) → Sound s → Sound (answerTo s x .state)
-event-sound s x ok = step-keeps s ok (x .call) (x .mark) (x .a) (x .b) (x .c) (x .d) (x .e)
+event-sound s x ok = step-keeps s ok (x .call) (x .mark) (x .a) (x .b) (x .c) (x .d) (x .e) (x .message)
 
 event-ordered : (s : State) (x : Event) (told : Arrivals) (n : ℕ) → Sound s → OrderedIn s told n
     → OrderedIn (answerTo s x .state) (arrives told n s (answerTo s x)) (suc n)
-event-ordered s x told n ok h = step-goes s ok (x .call) (x .mark) (x .a) (x .b) (x .c) (x .d) (x .e) .goes told n h
+event-ordered s x told n ok h = step-goes s ok (x .call) (x .mark) (x .a) (x .b) (x .c) (x .d) (x .e) (x .message) .goes told n h
 
 pub after-sound : (s : State) (xs : List Event) → Sound s → Sound (after s xs)
 after-sound s [] ok = ok
@@ -134,10 +134,10 @@ module _ (s : State) (told : Arrivals) (n : ℕ) (ok : Sound s) (h : OrderedIn s
       subst (Grant s told i) (sym (picked-no _ _ _ (first-fails _ _ (not-of-true (ltb t 32) (lt-ltb t 32 (first .0)))) ∙ picked-yes _ _ _ (lt-ltb t 32 (first .0))))
       (record { task = t; waited = first-waits; woken = refl; why = refl; named = refl; first = first-precedes })
 
-  release-grants : (mark a b c d e : ℕ) → SemaphoreAt s a i → stepped s 12 mark a b c d e .status ≡ OK → Grant s told i (stepped s 12 mark a b c d e)
+  release-grants : (mark a b c d e : ℕ) (m : List ℕ) → SemaphoreAt s a i → stepped s 12 mark a b c d e m .status ≡ OK → Grant s told i (stepped s 12 mark a b c d e m)
   unfolding answered badState plain answer onFound
-  release-grants mark a b c d e at =
-      by-rules s 12 mark a b c d e (λ y. y .status ≡ OK → Grant s told i y)
+  release-grants mark a b c d e m at =
+      by-rules s 12 mark a b c d e m (λ y. y .status ≡ OK → Grant s told i y)
       (λ g. go (eqb (callerRefusal 12 mark (s .running)) OK) refl)
       (λ g z. absurd (omega arith))
     where
@@ -170,9 +170,9 @@ module _ (p : ℕ) (xs : List Event) where
       → Grant now told i (answerTo now x)
   history-grants x i e at some =
       subst
-      (λ (c : ℕ). stepped now c (x .mark) (x .a) (x .b) (x .c) (x .d) (x .e) .status ≡ OK
-      → Grant now told i (stepped now c (x .mark) (x .a) (x .b) (x .c) (x .d) (x .e)))
+      (λ (c : ℕ). stepped now c (x .mark) (x .a) (x .b) (x .c) (x .d) (x .e) (x .message) .status ≡ OK
+      → Grant now told i (stepped now c (x .mark) (x .a) (x .b) (x .c) (x .d) (x .e) (x .message)))
       (sym e)
       (release-grants now told _ now-sound (now-ordered .1) i
       (omega (arith, found-below (now .semaphores .serial) (now .semaphores .live) (x .a) at, now-sound .semaphores .sized .serials))
-      some (x .mark) (x .a) (x .b) (x .c) (x .d) (x .e) at)
+      some (x .mark) (x .a) (x .b) (x .c) (x .d) (x .e) (x .message) at)

@@ -29,17 +29,17 @@ has-in (y ∷ row) x e = go (has-in row x) (eqb x y) e
     go rec true f = refl
     go rec false f = rec f
 
-module _ (s : State) (call mark a b c d e : ℕ) where
-  pub row-kept : call < knownCalls → mayGive call (stepped s call mark a b c d e .status) ≡ true
+module _ (s : State) (call mark a b c d e : ℕ) (m : List ℕ) where
+  pub row-kept : call < knownCalls → mayGive call (stepped s call mark a b c d e m .status) ≡ true
   unfolding mayGive badState
   row-kept known =
-      by-rules s call mark a b c d e (λ x. inStatuses (x .status) (callAt call .statuses) ≡ true)
-      (λ h. has-in (callAt call .statuses) _ (both-true (has (callAt call .statuses) _) _ (answered-outcome call known s mark a b c d e .listed) .0))
+      by-rules s call mark a b c d e m (λ x. inStatuses (x .status) (callAt call .statuses) ≡ true)
+      (λ h. has-in (callAt call .statuses) _ (both-true (has (callAt call .statuses) _) _ (answered-outcome call known s mark a b c d e m .listed) .0))
       (λ h. has-in (callAt call .statuses) BAD-STATE (listed-broken call known))
 
-  pub unknown-call : knownCalls ≤ call → (stepped s call mark a b c d e .status ≡ BAD-CALL) ⊎ (stepped s call mark a b c d e .status ≡ BAD-STATE)
+  pub unknown-call : knownCalls ≤ call → (stepped s call mark a b c d e m .status ≡ BAD-CALL) ⊎ (stepped s call mark a b c d e m .status ≡ BAD-STATE)
   unfolding badState plain answer
   unknown-call h =
-      by-rules s call mark a b c d e (λ x. (x .status ≡ BAD-CALL) ⊎ (x .status ≡ BAD-STATE))
-      (λ g. inl (ap (λ (x : Answer). x .status) (unknown s call mark a b c d e h)))
+      by-rules s call mark a b c d e m (λ x. (x .status ≡ BAD-CALL) ⊎ (x .status ≡ BAD-STATE))
+      (λ g. inl (ap (λ (x : Answer). x .status) (unknown s call mark a b c d e m h)))
       (λ g. inr refl)

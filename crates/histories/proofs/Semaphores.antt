@@ -17,7 +17,7 @@ use Rattle.scope.specs.declared.Semaphores.{Semaphores}
 use Rattle.scope.specs.declared.Waking.{Waking}
 use Rattle.scope.specs.declared.Found.the-variants.{At}
 use Rattle.scope.specs.Seats.{queueSeats, firstOf, standing, maskOf}
-use Rattle.scope.specs.Objects.{objectsOf}
+use Rattle.scope.specs.Objects.{objectsEnd, objectsOf}
 use Rattle.scope.specs.Views.{withLine, withSemaphores}
 use Rattle.scope.specs.Answers.{wakesWith}
 use Rattle.scope.specs.Waiting.{isTimeOut, waits, wakeNext, noneWoken, wakeAll}
@@ -116,6 +116,27 @@ runs-ready s ok h =
     ring-ready (s .line) (s .tasks) (objectsOf s) (ok .line) (s .running) h
     (omega (arith, runner-ring q m (omega (arith, h, ok .running)), ap (λ (v : ℕ). getD q v 0) (ok .running)))
 
+-- an object that tasks may wait for
+module _ (s : State) (ok : Sound s) (i : ℕ) (hi : i < objectsEnd) where
+  -- the running task waits for it, which lives and has no stock
+  pub waiter-sound : (fifo : Bool) → objectsOf s .fifo i ≡ fifo → objectsOf s .live i ≡ true → objectsOf s .stock i ≡ 0
+      → (ticks : ℕ) → isTimeOut ticks ≡ true → s .running < 32
+      → Sound (withLine s (waits (s .line) i fifo (getD (s .tasks .priority) (s .running) 0) ticks (s .running)))
+  waiter-sound fifo e alive none ticks time h =
+      let r : Ready (s .line) (s .tasks) (s .running) = runs-ready s ok h in
+      line-sound s ok _
+      (subst (λ (f : Bool). LineSound (waits (s .line) i f (getD (s .tasks .priority) (s .running) 0) ticks (s .running)) (s .tasks) (objectsOf s)) e
+      (waits-sound (s .line) (s .tasks) (objectsOf s) (ok .line) (s .running) h i (getD (s .tasks .priority) (s .running) 0) ticks r hi alive none time
+      (started-priority (s .tasks) (s .running) (ok .tasks) h (r .started))))
+
+  -- the first who waits for it is woken
+  pub first-sound : firstOf (s .line .seat) (queueSeats i) < 32
+      → Sound (withLine s (wakeNext (s .tasks) (noneWoken (s .line)) (firstOf (s .line .seat) (queueSeats i)) .line))
+  first-sound h =
+      line-sound s ok _
+      (next-sound (s .tasks) (objectsOf s) (noneWoken (s .line)) _ h (ok .line)
+      (queue-waits (s .line) (s .tasks) (objectsOf s) (ok .line) _ h i hi (first-in (s .line) (s .tasks) (objectsOf s) (ok .line) i h) .0))
+
 module _ (s : State) (ok : Sound s) where
   -- what an identifier names is a live semaphore
   pub named-slot : (id i : ℕ) → semFound s id ≡ At i → (i < 16) × (getD (s .semaphores .live) i false ≡ true)
@@ -146,21 +167,8 @@ module _ (s : State) (ok : Sound s) where
     pub caller-sound : (ticks : ℕ) → isTimeOut ticks ≡ true → getD (s .semaphores .units) i 0 ≡ 0 → s .running < 32
         → Sound (withLine s (waits (s .line) i (getD (s .semaphores .fifo) i false) (getD (s .tasks .priority) (s .running) 0) ticks (s .running)))
     caller-sound ticks time none h =
-        let r : Ready (s .line) (s .tasks) (s .running) = runs-ready s ok h in
-        line-sound s ok _
-        (subst (λ (f : Bool). LineSound (waits (s .line) i f (getD (s .tasks .priority) (s .running) 0) ticks (s .running)) (s .tasks) (objectsOf s))
-        (sem-fifo (s .semaphores) (s .queues) i hi)
-        (waits-sound (s .line) (s .tasks) (objectsOf s) (ok .line) (s .running) h i (getD (s .tasks .priority) (s .running) 0) ticks r (omega arith)
-        (sem-live (s .semaphores) (s .queues) i hi ∙ alive) (sem-stock (s .semaphores) (s .queues) i hi ∙ none) time
-        (started-priority (s .tasks) (s .running) (ok .tasks) h (r .started))))
-
-    -- the first who waits for it is woken
-    pub first-sound : firstOf (s .line .seat) (queueSeats i) < 32
-        → Sound (withLine s (wakeNext (s .tasks) (noneWoken (s .line)) (firstOf (s .line .seat) (queueSeats i)) .line))
-    first-sound h =
-        line-sound s ok _
-        (next-sound (s .tasks) (objectsOf s) (noneWoken (s .line)) _ h (ok .line)
-        (queue-waits (s .line) (s .tasks) (objectsOf s) (ok .line) _ h i (omega arith) (first-in (s .line) (s .tasks) (objectsOf s) (ok .line) i h) .0))
+        waiter-sound s ok i (omega arith) _ (sem-fifo (s .semaphores) (s .queues) i hi) (sem-live (s .semaphores) (s .queues) i hi ∙ alive)
+        (sem-stock (s .semaphores) (s .queues) i hi ∙ none) ticks time h
 
   -- what the semaphore calls do to the table, by what their tests showed
   pub sem-sound : (x : Event) {m : Semaphores} {v : ℕ} → SemChange s x m v → Sound (withSemaphores s m)

@@ -1,4 +1,4 @@
--- Every call keeps each semaphore's queue in order: tasks leave, or become ready, or one task, the caller, waits and is the last to
+-- Every call keeps each object's queue in order: tasks leave, or become ready, or one task, the caller, waits and is the last to
 -- arrive.
 -- Assumes nothing.
 use Prim.Native.Nat.{ℕ, suc, _<_}
@@ -15,18 +15,20 @@ use Rattle.scope.specs.declared.State.{State}
 use Rattle.scope.specs.declared.Line.{Line}
 use Rattle.scope.specs.declared.Tasks.{Tasks}
 use Rattle.scope.specs.declared.Semaphores.{Semaphores}
+use Rattle.scope.specs.declared.Queues.{Queues}
 use Rattle.scope.specs.declared.Answer.{Answer}
 use Rattle.scope.specs.declared.Found.the-variants.{At, Invalid}
 use Rattle.scope.specs.Choice.{pick}
 use Rattle.scope.specs.Statuses.{PENDING}
 use Rattle.scope.specs.Identifiers.{found}
 use Rattle.scope.specs.Seats.{queueSeats, firstOf, leaves, becomesReady}
-use Rattle.scope.specs.Objects.{objects, objectsOf}
-use Rattle.scope.specs.Views.{withSeats}
-use Rattle.scope.specs.Answers.{answer, plain, badState, wakesWith}
+use Rattle.scope.specs.Objects.{objectsEnd, queueObject, Objects, objects, objectsOf}
+use Rattle.scope.specs.Views.{withLine, withSeats}
+use Rattle.scope.specs.Answers.{answer, plain, badState, shows, wakesWith, deliversTo}
 use Rattle.scope.specs.Tasks.{taskFound}
 use Rattle.scope.specs.Waiting.{waits, noneWoken}
 use Rattle.scope.specs.Semaphores.{semFound, semDeleteAt}
+use Rattle.scope.specs.Queues.{queueFound, firstReceiver, queueDeleteAt}
 use Rattle.scope.specs.Ticks.{ticked, tick}
 use Rattle.scope.specs.Step.{stepped}
 use Rattle.laws.proofs.Branches.{eq-or-not, picked-yes, picked-no}
@@ -37,11 +39,14 @@ use Rattle.histories.specs.Order.{Arrivals, arrival, arrives}
 use Rattle.histories.specs.Sound.{Sound}
 use Rattle.histories.specs.History.{Event}
 use Rattle.histories.proofs.Deeds.{newSemaphore, TaskMove, task-deleted, task-started, task-suspended, task-resumed, priority-set, SemChange, sem-created, unit-claimed, unit-released}
+use Rattle.histories.proofs.Deeds.{newQueue, QueueChange, queue-created, message-put, message-received}
 use Rattle.histories.proofs.Deeds.{Deed, refused, tells, tasks-change, task-moves, sems-change, pools-change, caller-waits, first-woken, sem-deleted, time-passes, by-deed}
-use Rattle.histories.proofs.Objects.{sem-live, sem-fifo, Elsewhere, born-elsewhere, gone-elsewhere, units-fifo}
+use Rattle.histories.proofs.Deeds.{queues-change, receiver-waits, delivered, queue-deleted}
+use Rattle.histories.proofs.Objects.{sem-live, sem-fifo, queue-live, queue-fifo, Elsewhere, born-elsewhere, gone-elsewhere, units-fifo, born-apart, gone-apart, store-fifo}
 use Rattle.histories.proofs.Moves.{seats-low, idle-nowhere, off-nowhere}
 use Rattle.histories.proofs.Waking.{dead-nobody}
 use Rattle.histories.proofs.Semaphores.{runs-ready, sem-delete-at}
+use Rattle.histories.proofs.Queues.{queue-delete-at}
 use Rattle.histories.proofs.Staying.{Good, Fewer, stays-same, stays-then, leaves-stays, leaves-good, ready-stays, fewer-same, fewer-then, left-fewer, next-fewer, all-fewer, due-fewer, ticked-fewer}
 use Rattle.histories.proofs.Arriving.{Ordered, Passes, passes-ordered, ordered-later, waits-ordered}
 
@@ -89,7 +94,11 @@ pub broken-goes : (s : State) → Goes s (badState s)
 unfolding badState
 broken-goes s = passes refl same
 
--- nobody waits for a semaphore that is not live
+-- nobody waits for a queue that is not live, nor for a semaphore
+pub no-receivers : (s : State) → Sound s → (i : ℕ) → i < 8 → getD (s .queues .live) i false ≡ false → (t : ℕ) → In (s .line .seat) (queueSeats (queueObject i)) t → ⊥
+no-receivers s ok i hi dead =
+    dead-nobody (s .line) (s .tasks) (objectsOf s) (ok .line) (queueObject i) (omega arith) (queue-live (s .semaphores) (s .queues) i ∙ dead)
+
 pub no-waiters : (s : State) → Sound s → (i : ℕ) → i < 16 → getD (s .semaphores .live) i false ≡ false → (t : ℕ) → In (s .line .seat) (queueSeats i) t → ⊥
 no-waiters s ok i hi dead =
     dead-nobody (s .line) (s .tasks) (objectsOf s) (ok .line) i (omega arith) (sem-live (s .semaphores) (s .queues) i hi ∙ dead)
@@ -123,9 +132,12 @@ module _ (s : State) (ok : Sound s) where
   pub slot-room : (id i : ℕ) → semFound s id ≡ At i → i < 16
   slot-room id i e = omega (arith, found-below (m .serial) (m .live) id e, ok .semaphores .sized .serials)
 
-  -- a slot where nobody stands in the queue changes
-  slot-passes : (r : Line) (n : Semaphores) (i : ℕ) → Fewer l r → Elsewhere (objects m (s .queues)) (objects n (s .queues)) i → ((t : ℕ) → In (r .seat) (queueSeats i) t → ⊥)
-      → Passes l (objects m (s .queues) .fifo) r (objects n (s .queues) .fifo)
+  pub queue-room : (id i : ℕ) → queueFound s id ≡ At i → i < 8
+  queue-room id i e = omega (arith, found-below (s .queues .serial) (s .queues .live) id e, ok .queues .sized .serials)
+
+  -- an object for which nobody waits changes
+  slot-passes : (r : Line) (n : Objects) (i : ℕ) → Fewer l r → Elsewhere (objectsOf s) n i → ((t : ℕ) → In (r .seat) (queueSeats i) t → ⊥)
+      → Passes l (objectsOf s .fifo) r (n .fifo)
   slot-passes r n i f same none =
       record {
         line = f;
@@ -163,8 +175,29 @@ module _ (s : State) (ok : Sound s) where
     sem-passes (unit-claimed at i e f) = subst (λ (f : ℕ → Bool). Passes l (objects m (s .queues) .fifo) l f) (sym (units-fifo m (s .queues) i _)) same
     sem-passes (unit-released at i e f g) = subst (λ (f : ℕ → Bool). Passes l (objects m (s .queues) .fifo) l f) (sym (units-fifo m (s .queues) i _)) same
 
+    queue-passes : {u : Queues} {v : ℕ} {shown : List ℕ} → QueueChange s x u v shown → Passes l (objects m (s .queues) .fifo) l (objects m u .fifo)
+    queue-passes (queue-created at e f g) =
+        let h : newQueue s < length (s .queues .serial) = leb-false (length (s .queues .serial)) (newQueue s) g in
+        slot-passes l _ (queueObject (newQueue s)) (fewer-same l)
+        (born-apart m (s .queues) (newQueue s) _ _ _ _)
+        (no-receivers s ok (newQueue s) (omega (arith, h, ok .queues .sized .serials))
+        (usable-free (s .queues .serial) (s .queues .live) (newQueue s) (usable-at (s .queues .serial) (s .queues .live) h)))
+    queue-passes (message-put c i e f g h) = subst (λ (f : ℕ → Bool). Passes l (objects m (s .queues) .fifo) l f) (sym (store-fifo m (s .queues) i _)) same
+    queue-passes (message-received at i e f) = subst (λ (f : ℕ → Bool). Passes l (objects m (s .queues) .fifo) l f) (sym (store-fifo m (s .queues) i _)) same
+
+    -- the caller waits for object i
+    waiter-goes : (i : ℕ) → i < objectsEnd → (fifo : Bool) → objectsOf s .fifo i ≡ fifo → s .running < 32
+        → Goes s (answer (withLine s (waits l i fifo (getD (k .priority) (s .running) 0) (x .c) (s .running))) PENDING 0 0 0 0 false)
+    unfolding answer
+    waiter-goes i hi fifo e h =
+        let p : ℕ = getD (k .priority) (s .running) 0 in
+        arrived-goes refl
+        (λ told n before.
+        subst (λ (f : Bool). Ordered (waits l i f p (x .c) (s .running)) (objectsOf s .fifo) (arrival told (s .running) n p) (suc n)) e
+        (waits-ordered l k (objectsOf s) (ok .line) (s .running) h (runs-ready s ok h) i p (x .c) hi told n before))
+
     deed-goes : {a : Answer} → Deed s x a → Goes s a
-    unfolding plain answer wakesWith semDeleteAt tick
+    unfolding plain answer shows wakesWith deliversTo semDeleteAt queueDeleteAt tick
     deed-goes (refused status e f listed) = stay status f
     deed-goes (tells call at e v0 v1 v2 v3 negative) = passes refl same
     deed-goes (tasks-change c) = passes refl same
@@ -172,13 +205,8 @@ module _ (s : State) (ok : Sound s) where
     deed-goes (sems-change c) = passes refl (sem-passes c)
     deed-goes (pools-change c) = passes refl same
     deed-goes (caller-waits at i e f g time) =
-        let h : s .running < 32 = leb-false 32 (s .running) g in
         let hi : i < 16 = slot-room (x .a) i e in
-        let p : ℕ = getD (k .priority) (s .running) 0 in
-        arrived-goes refl
-        (λ told n before.
-        subst (λ (f : Bool). Ordered (waits l i f p (x .c) (s .running)) (objectsOf s .fifo) (arrival told (s .running) n p) (suc n)) (sem-fifo m (s .queues) i hi)
-        (waits-ordered l k (objectsOf s) (ok .line) (s .running) h (runs-ready s ok h) i p (x .c) (omega arith) told n before))
+        waiter-goes i (omega arith) _ (sem-fifo m (s .queues) i hi) (leb-false 32 (s .running) g)
     deed-goes (first-woken at i e f) = passes refl (moved (next-fewer k (noneWoken l) (firstOf (l .seat) (queueSeats i)) (ltb-true _ 32 f) good))
     deed-goes (sem-deleted at i e) =
         let hi : i < 16 = slot-room (x .a) i e in
@@ -187,11 +215,23 @@ module _ (s : State) (ok : Sound s) where
         (gone-elsewhere m (s .queues) i)
         (no-waiters (semDeleteAt s i .state) (sem-delete-at s ok i hi (found-live (m .serial) (m .live) (x .a) e)) i hi
         (getD-set-same (m .live) i false false (omega (arith, ok .semaphores .sized .lives)))))
+    deed-goes (queues-change c) = passes refl (queue-passes c)
+    deed-goes (receiver-waits at i e f g time) =
+        let hi : i < 8 = queue-room (x .a) i e in
+        waiter-goes (queueObject i) (omega arith) _ (queue-fifo m (s .queues) i) (leb-false 32 (s .running) g)
+    deed-goes (delivered c i e f g) = passes refl (moved (next-fewer k (noneWoken l) (firstReceiver s i) (ltb-true _ 32 g) good))
+    deed-goes (queue-deleted at i e) =
+        let hi : i < 8 = queue-room (x .a) i e in
+        passes refl
+        (slot-passes _ _ (queueObject i) (all-fewer k (queueObject i) 32 (noneWoken l) good)
+        (gone-apart m (s .queues) i)
+        (no-receivers (queueDeleteAt s i .state) (queue-delete-at s ok i hi (found-live (s .queues .serial) (s .queues .live) (x .a) e)) i hi
+        (getD-set-same (s .queues .live) i false false (omega (arith, ok .queues .sized .lives)))))
     deed-goes (time-passes at) =
         passes refl (moved (fewer-then l (ticked l) _ (ticked-fewer l) (due-fewer k 32 0 (noneWoken (ticked l)) (omega arith) good)))
 
 -- each step
-pub step-goes : (s : State) → Sound s → (call mark a b c d e : ℕ) → Goes s (stepped s call mark a b c d e)
-step-goes s ok call mark a b c d e =
-    let x : Event = record { call = call; mark = mark; a = a; b = b; c = c; d = d; e = e } in
+pub step-goes : (s : State) → Sound s → (call mark a b c d e : ℕ) (m : List ℕ) → Goes s (stepped s call mark a b c d e m)
+step-goes s ok call mark a b c d e m =
+    let x : Event = record { call = call; mark = mark; a = a; b = b; c = c; d = d; e = e; message = m } in
     by-deed s x (Goes s) (λ y d. deed-goes s ok x d) (λ h. broken-goes s)

@@ -16,8 +16,9 @@ use Rattle.scope.specs.declared.Found.the-variants.{At}
 use Rattle.scope.specs.Statuses.{OK}
 use Rattle.scope.specs.Identifiers.{identifier}
 use Rattle.scope.specs.Seats.{queueSeats, firstOf}
+use Rattle.scope.specs.Queues.{queueDeleteAt}
 use Rattle.scope.specs.Ticks.{tick}
-use Rattle.scope.specs.Answers.{answer, plain, badState, wakesWith}
+use Rattle.scope.specs.Answers.{answer, plain, badState, shows, wakesWith, deliversTo}
 use Rattle.scope.specs.Views.{withSemaphores}
 use Rattle.scope.specs.Waiting.{wakeNext, noneWoken}
 use Rattle.scope.specs.Semaphores.{semFound, withUnits, semDeleteAt}
@@ -26,8 +27,9 @@ use Rattle.tables.proofs.Laws.{found-names, usable-at, usable-free}
 use Rattle.histories.specs.Sound.{Sound}
 use Rattle.histories.specs.History.{Event, answerTo}
 use Rattle.histories.specs.Books.{answeredOK, releases, grants}
-use Rattle.histories.proofs.Deeds.{newSemaphore, SemChange, sem-created, unit-claimed, unit-released, change-call, move-call, pool-call, not-asked}
+use Rattle.histories.proofs.Deeds.{newSemaphore, SemChange, sem-created, unit-claimed, unit-released, change-call, move-call, pool-call, put-call, queue-call, not-asked}
 use Rattle.histories.proofs.Deeds.{Deed, refused, tells, tasks-change, task-moves, sems-change, pools-change, caller-waits, first-woken, sem-deleted, time-passes, by-deed}
+use Rattle.histories.proofs.Deeds.{queues-change, receiver-waits, delivered, queue-deleted}
 use Rattle.histories.proofs.Accounts.{Account, Entered, other-call, not-done, enters-none, enters-born, enters-gone, enters-one}
 use Rattle.histories.proofs.Answered.{by-call, by-other, by-status, counts-as, Creates}
 
@@ -137,14 +139,14 @@ module _ (s : State) (ok : Sound s) (x : Event) where
       changed i e a (other-call semaphoreAccount s x a (λ z. omega arith)) (n + 1) refl (omega (arith, r .0, r .1))
 
   deed-fair : {a : Answer} → Deed s x a → Fair a
-  unfolding plain answer wakesWith wakeNext semDeleteAt tick
+  unfolding plain answer shows wakesWith deliversTo wakeNext semDeleteAt queueDeleteAt tick
   deed-fair (refused status e f listed) = refusal _ refl e
   deed-fair (tells call at e v0 v1 v2 v3 negative) =
       elsewhere _ refl (λ z. not-asked call 8 e refl (sym at ∙ z)) (λ z. not-asked call 11 e refl (sym at ∙ z)) (λ z. not-asked call 12 e refl (sym at ∙ z))
   deed-fair (tasks-change c) = let h = change-call c in elsewhere _ refl (λ z. omega arith) (λ z. omega arith) (λ z. omega arith)
   deed-fair (task-moves c) = let h = move-call c in elsewhere _ refl (λ z. omega arith) (λ z. omega arith) (λ z. omega arith)
   deed-fair (sems-change c) = sem-fair c
-  deed-fair (pools-change c) = let h = pool-call c in elsewhere _ refl (λ z. omega arith) (λ z. omega arith) (λ z. omega arith)
+  deed-fair (pools-change c) = let h = pool-call c .0 in elsewhere _ refl (λ z. omega arith) (λ z. omega arith) (λ z. omega arith)
   deed-fair (caller-waits at i e f g time) = refusal _ refl refl
   deed-fair (first-woken at i e f) =
       -- the first waiter is woken with OK: that is its grant
@@ -155,6 +157,10 @@ module _ (s : State) (ok : Sound s) (x : Event) where
       enters-gone semaphoreAccount s x _ i (omega (arith, slot (x .a) i e, ok .semaphores .sized .lives)) refl refl
       (λ j ne. getD-set-other (s .semaphores .units) i j 0 0 ne) (no-books (λ z. omega arith) (λ z. omega arith) _)
       (other-call semaphoreAccount s x _ (λ z. omega arith))
+  deed-fair (queues-change c) = let h = queue-call c in elsewhere _ refl (λ z. omega arith) (λ z. omega arith) (λ z. omega arith)
+  deed-fair (receiver-waits at i e f g time) = refusal _ refl refl
+  deed-fair (delivered c i e f g) = let h = put-call c .0 in elsewhere _ refl (λ z. omega arith) (λ z. omega arith) (λ z. omega arith)
+  deed-fair (queue-deleted at i e) = elsewhere _ refl (λ z. omega arith) (λ z. omega arith) (λ z. omega arith)
   deed-fair (time-passes at) = elsewhere _ refl (λ z. omega arith) (λ z. omega arith) (λ z. omega arith)
 
   -- every event's answer keeps the semaphores' books

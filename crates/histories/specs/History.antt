@@ -9,7 +9,7 @@ use Rattle.scope.specs.declared.Found.the-variants.{At}
 use Rattle.scope.specs.Identifiers.{found}
 use Rattle.scope.specs.Step.{stepped}
 
--- a call by a caller, with its arguments
+-- a call by a caller, with its arguments and the message that it lends (M-100)
 pub record Event : Type 0 where
   pub call : ℕ
   pub mark : ℕ
@@ -18,10 +18,11 @@ pub record Event : Type 0 where
   pub c : ℕ
   pub d : ℕ
   pub e : ℕ
+  pub message : List ℕ
 
 -- what the kernel answers to it
 abbrev pub answerTo : State → Event → Answer
-answerTo s x = stepped s (x .call) (x .mark) (x .a) (x .b) (x .c) (x .d) (x .e)
+answerTo s x = stepped s (x .call) (x .mark) (x .a) (x .b) (x .c) (x .d) (x .e) (x .message)
 
 -- the state after a history
 abbrev pub after : State → List Event → State
@@ -33,7 +34,7 @@ abbrev pub total : (Event → Answer → ℕ) → State → List Event → ℕ
 total f s [] = 0
 total f s (x ∷ xs) = f x (answerTo s x) + total f (answerTo s x .state) xs
 
--- the identifier names the live task in slot t, the live semaphore in slot i, the live pool in slot i
+-- the identifier names the live task in slot t, the live semaphore, pool or queue in slot i
 abbrev pub TaskAt : State → ℕ → ℕ → Type 0
 TaskAt s id t = found (s .tasks .serial) (s .tasks .live) id ≡ At t
 
@@ -42,3 +43,6 @@ SemaphoreAt s id i = found (s .semaphores .serial) (s .semaphores .live) id ≡ 
 
 abbrev pub PoolAt : State → ℕ → ℕ → Type 0
 PoolAt s id i = found (s .pools .serial) (s .pools .live) id ≡ At i
+
+abbrev pub QueueAt : State → ℕ → ℕ → Type 0
+QueueAt s id i = found (s .queues .serial) (s .queues .live) id ≡ At i

@@ -5,7 +5,7 @@ use Prim.Native.Nat.{ℕ, zero, suc, _+_}
 use mathlib.Core.List.{List, [], _∷_, _++_}
 use Rattle.scope.specs.declared.State.{State}
 use Rattle.scope.specs.Replies.{Reply, replyOf}
-use Rattle.scope.specs.Script.{number32, recordCount, firstOffset}
+use Rattle.scope.specs.Script.{number32, recordCount, firstOffset, messageAt}
 use Rattle.scope.specs.Listing.{lineOf}
 use Rattle.histories.specs.History.{Event, answerTo}
 
@@ -20,6 +20,7 @@ eventAt script at =
       c = number32 script (at + 16);
       d = number32 script (at + 20);
       e = number32 script (at + 24);
+      message = messageAt script at;
     }
 
 -- n records from a place on

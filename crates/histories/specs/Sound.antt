@@ -18,7 +18,7 @@ use Rattle.scope.specs.Objects.{objectsEnd, Objects, objectsOf}
 use Rattle.scope.specs.Waiting.{isTimeOut}
 use Rattle.scope.specs.Pools.{poolBuffers, poolRow}
 use Rattle.scope.specs.Queues.{mostOf}
-use Rattle.scope.specs.Rules.{queueRight, poolRight, poolsApart}
+use Rattle.scope.specs.Rules.{queueRight, messagesRight, poolRight, poolsApart}
 use Rattle.places.specs.Order.{Ordered}
 use Rattle.seats.specs.Rule.{In, Sorted, AllSeated}
 
@@ -62,6 +62,7 @@ pub record QueuesSized (u : Queues) : Type 0 where
   pub fifos : length (u .fifo) ≡ 8
   pub limitss : length (u .limits) ≡ 16
   pub helds : length (u .held) ≡ 8
+  pub cellss : length (u .cells) ≡ 8320
 
 pub record Sized (s : State) : Type 0 where
   pub line : LineSized (s .line)
@@ -148,11 +149,12 @@ pub record PoolsSound (p : Pools) : Type 0 where
   pub orders : (i : ℕ) → i < 8 → Ordered (poolRow p i) (getD (p .out) i 0) (poolBuffers p i)
   pub apart : poolsApart p ≡ true
 
--- each slot of the queues is right, and no queue holds more than its most messages
+-- each slot of the queues is right, no queue holds more than its most messages, and what they hold is in its one form
 pub record QueuesSound (u : Queues) : Type 0 where
   pub sized : QueuesSized u
   pub each : (i : ℕ) → i < 8 → queueRight u i ≡ true
   pub held : (i : ℕ) → i < 8 → getD (u .held) i 0 ≤ mostOf u i
+  pub messages : messagesRight u ≡ true
 
 pub record Sound (s : State) : Type 0 where
   pub line : LineSound (s .line) (s .tasks) (objectsOf s)

@@ -8,7 +8,10 @@ pub mod Sound
 pub mod Again
 pub mod Tasks
 pub mod Wakes
+pub mod Waiting
 pub mod Semaphores
+pub mod Queues
+pub mod Messages
 pub mod Form
 pub mod Rings
 pub mod Ticks

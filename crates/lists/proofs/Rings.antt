@@ -65,9 +65,9 @@ module _ (s : State) (ok : Sound s) where
       (ok .line .queues .seated (ringSeats p) (omega arith))
 
 -- ".. after every call and tick"
-pub rings-after : (s : State) → Sound s → (call mark a b c d e : ℕ)
-    → ringsRead (stepped s call mark a b c d e .state) ≡ readyOf (stepped s call mark a b c d e .state)
-rings-after s ok call mark a b c d e = rings-read (stepped s call mark a b c d e .state) (step-keeps s ok call mark a b c d e)
+pub rings-after : (s : State) → Sound s → (call mark a b c d e : ℕ) (m : List ℕ)
+    → ringsRead (stepped s call mark a b c d e m .state) ≡ readyOf (stepped s call mark a b c d e m .state)
+rings-after s ok call mark a b c d e m = rings-read (stepped s call mark a b c d e m .state) (step-keeps s ok call mark a b c d e m)
 
 -- so in every history from a fresh state
 pub rings-always : (p : ℕ) (xs : List Event) → ringsRead (after (fresh p .state) xs) ≡ readyOf (after (fresh p .state) xs)

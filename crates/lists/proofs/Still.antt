@@ -9,11 +9,13 @@ use Rattle.scope.specs.declared.Answer.{Answer}
 use Rattle.scope.specs.declared.Tasks.{Tasks}
 use Rattle.scope.specs.declared.Semaphores.{Semaphores}
 use Rattle.scope.specs.declared.Pools.{Pools}
-use Rattle.scope.specs.Views.{withTasks, withSemaphores, withPools}
+use Rattle.scope.specs.declared.Queues.{Queues}
+use Rattle.scope.specs.Views.{withTasks, withSemaphores, withPools, withQueues}
 use Rattle.scope.specs.Answers.{answer, plain, gives}
 use Rattle.scope.specs.Tasks.{taskCreateAt, taskCreate, taskIdentAt, taskIdent}
 use Rattle.scope.specs.Semaphores.{semCreateAt, semCreate, semIdentAt, semIdent, semInfoAt}
 use Rattle.scope.specs.Pools.{poolCreateAt, poolCreate, poolDeleteAt, poolIdentAt, poolIdent, poolGetBuffer, poolGetBuffAt, poolRetBuffer, poolRetBuffAt, poolInfoAt}
+use Rattle.scope.specs.Queues.{queueCreateAt, queueCreate, queueIdentAt, queueIdent, queueInfoAt}
 use Rattle.scope.proofs.Rows.{by-choice}
 use Rattle.lists.specs.Rules.{readyOf, queueIn}
 use Rattle.lists.specs.Calls.{ListsAfter}
@@ -43,6 +45,10 @@ module _ (s : State) where
   changed-pools : (p : Pools) (v : ℕ) → Still (gives (withPools s p) v)
   unfolding gives answer
   changed-pools p v = record { ready = refl; waiting = λ i h. refl }
+
+  born-queue : (u : Queues) (v : ℕ) → Still (gives (withQueues s u) v)
+  unfolding gives answer
+  born-queue u v = record { ready = refl; waiting = λ i h. refl }
 
   done-pools : (p : Pools) (x : ℕ) → Still (plain (withPools s p) x)
   unfolding plain answer
@@ -102,3 +108,18 @@ module _ (s : State) where
   pub pool-info-still : (i : ℕ) → Still (poolInfoAt s i)
   unfolding poolInfoAt
   pool-info-still i = answered _ _ _ _ _ _
+
+  -- a queue's other calls are in Queues.antt
+  pub queue-create-still : (name most longest options : ℕ) → Still (queueCreate s name most longest options)
+  unfolding queueCreate queueCreateAt
+  queue-create-still name most longest options =
+      by-choice Still _ (λ y. same _)
+      (λ n. by-choice Still _ (λ y. same _) (λ n. by-choice Still _ (λ y. same _) (λ n. born-queue _ _)))
+
+  pub queue-ident-still : (name : ℕ) → Still (queueIdent s name)
+  unfolding queueIdent queueIdentAt
+  queue-ident-still name = by-choice Still _ (λ y. same _) (λ n. told _)
+
+  pub queue-info-still : (i : ℕ) → Still (queueInfoAt s i)
+  unfolding queueInfoAt
+  queue-info-still i = answered _ _ _ _ _ _

@@ -2,4 +2,5 @@
 pub mod Along
 pub mod Rules
 pub mod Calls
+pub mod Messages
 pub mod Orders
