@@ -1,10 +1,10 @@
--- The caller of a claim that is answered PENDING joins the queue of the semaphore that it named: all others go on waiting, and the
--- answers tell of the caller what the state says.
+-- The caller of a claim, or a receive, that is answered PENDING joins the queue of the object that it named: all others go on waiting,
+-- and the answers tell of the caller what the state says.
 -- Assumes nothing.
 use Prim.Native.Nat.{ℕ, suc, _+_, _%_, _≤_, _<_}
 use native.Mathlib.Omega.{arith}
-use mathlib.Core.Path.{_≡_, sym, subst, _∙_}
-use mathlib.Core.Logic.{⊎-elim}
+use mathlib.Core.Path.{_≡_, refl, sym, subst, _∙_}
+use mathlib.Core.Logic.{inl, ⊎-elim}
 use mathlib.Core.Bool.{Bool, true, false}
 use mathlib.Core.List.{List, [], _∷_, _++_}
 use lib.ListN.{length, getD}
@@ -15,7 +15,7 @@ use Rattle.scope.specs.Statuses.{OK, PENDING}
 use Rattle.scope.specs.Identifiers.{identifier}
 use Rattle.scope.specs.Seats.{queueSeats, standing, leaves, joins}
 use Rattle.scope.specs.Lists.{has}
-use Rattle.scope.specs.Objects.{objectsOf}
+use Rattle.scope.specs.Objects.{objectsEnd, objectsOf}
 use Rattle.scope.specs.Views.{withLine}
 use Rattle.scope.specs.Waiting.{waits}
 use Rattle.scope.proofs.Seats.{ahead-from}
@@ -31,11 +31,11 @@ use Rattle.histories.proofs.Moves.{seats-low}
 use Rattle.histories.proofs.Staying.{Good, leaves-stays, leaves-good}
 use Rattle.histories.proofs.Arriving.{joined-stood}
 use Rattle.books.specs.Past.{Turn, isAnswer, isAnswerOf, runningIn}
-use Rattle.books.specs.Waiting.{priorityIn, claimed, joinedWith, arrivedAt, endsWait, waiting}
+use Rattle.books.specs.Waiting.{Kind, aSemaphore, aQueue, deletion, waitCall, priorityIn, namedBy, joinedAs, arrivalOf, endsWait, waitersFor}
 use Rattle.books.proofs.Members.{has-before, has-last, has-grown, once-grown, has-kept, kept-has, once-kept, none-has}
 use Rattle.books.proofs.Woken.{leaves-others}
-use Rattle.books.proofs.Agreeing.{Waiter, Waiters, is-of, of-is, pends-other, is-pending, waiting-more, waiting-less}
-use Rattle.books.specs.Told.{taskId, semId, Once}
+use Rattle.books.proofs.Agreeing.{WaiterOf, Waiters, object-room, one-object, is-of, of-is, pends-on-other, is-pending-on, waiters-grown, waiters-kept, waiters-fewer}
+use Rattle.books.specs.Told.{roomOf, objectOf, taskId, idOf, Once}
 
 -- identifiers of two slots differ
 pub apart-slots : (a b t u : ℕ) → t < 64 → u < 64 → identifier a t ≡ identifier b u → t ≡ u
@@ -56,111 +56,165 @@ joins-others q key t o x rule level b flat u ne a =
     (λ s. (omega (arith, s .1, a), omega (arith, s .1, a)))
     (joins-is q key t o x u ne)
 
--- What is told after the caller, in slot r, joined queue i. `line` is where tasks stand then.
-module _ (p : ℕ) (s : State) (line : Line) (y : Turn) (past : List Turn) (told : Arrivals) (ok : Waiters p s past told) (rule : AllSeated (s .line .seat))
-    (times : length (told .time) ≡ 32) (r i : ℕ) (room : r < 32) (hi : i < 16)
-    (called : isAnswer 11 PENDING y ≡ true)
-    (mine : y .event .a ≡ semId s i)
-    (unshut : (id : ℕ) → isAnswerOf 9 id OK y ≡ false)
+-- where tasks stand does not change an object's identifier
+line-id : (kind : Kind) (s : State) (line : Line) (i : ℕ) → idOf kind (withLine s line) i ≡ idOf kind s i
+line-id aSemaphore s line i = refl
+line-id aQueue s line i = refl
+
+-- What is told of the kind after the caller, in slot r, joined the queue of its object i. `line` is where tasks stand then.
+module _ (kind : Kind) (p : ℕ) (s : State) (line : Line) (y : Turn) (past : List Turn) (told : Arrivals) (ok : Waiters kind p s past told)
+    (rule : AllSeated (s .line .seat))
+    (times : length (told .time) ≡ 32) (r i : ℕ) (room : r < 32) (hi : i < roomOf kind)
+    (called : isAnswer (waitCall kind) PENDING y ≡ true)
+    (mine : y .event .a ≡ idOf kind s i)
+    (unshut : (id : ℕ) → isAnswerOf (deletion kind) id OK y ≡ false)
     (lasts : (z : ℕ) → endsWait past y z ≡ false)
     (runs : runningIn past ≡ taskId s r)
     (urgent : priorityIn p past (taskId s r) ≡ getD (line .joined) r 0)
-    (stays : (j : ℕ) → j < 16 → (t : ℕ) → WaitsFor s j t → (t ≡ r → ⊥) × WaitsFor (withLine s line) j t)
-    (came : (j : ℕ) → j < 16 → (t : ℕ) → (t ≡ r → ⊥) → WaitsFor (withLine s line) j t → WaitsFor s j t)
+    (stays : (j : ℕ) → j < objectsEnd → (t : ℕ) → WaitsFor s j t → (t ≡ r → ⊥) × WaitsFor (withLine s line) j t)
+    (came : (j : ℕ) → j < objectsEnd → (t : ℕ) → (t ≡ r → ⊥) → WaitsFor (withLine s line) j t → WaitsFor s j t)
     (kept : (t : ℕ) → (t ≡ r → ⊥) → getD (line .joined) t 0 ≡ getD (s .line .joined) t 0)
-    (new : WaitsFor (withLine s line) i r) (priority : ℕ) where
+    (new : WaitsFor (withLine s line) (objectOf kind i) r) (priority : ℕ) where
   abbrev s2 : State
   s2 = withLine s line
 
-  here : (j : ℕ) → WaitsFor s2 j r → j ≡ i
-  here j w = omega (arith, w, new)
+  abbrev on-list : List Turn → ℕ → List ℕ
+  on-list = waitersFor kind
 
-  other : (j : ℕ) → j < 16 → (t : ℕ) → (t ≡ r → ⊥) → WaitsFor s2 j t → runningIn past ≡ taskId s t → ⊥
+  -- where a waiter of the kind stands
+  abbrev Now : ℕ → ℕ → Type 0
+  Now j t = WaitsFor s2 (objectOf kind j) t
+
+  abbrev Then : ℕ → ℕ → Type 0
+  Then j t = WaitsFor s (objectOf kind j) t
+
+  came-here : (j : ℕ) → j < roomOf kind → (t : ℕ) → (t ≡ r → ⊥) → Now j t → Then j t
+  came-here j h t ne w = came (objectOf kind j) (object-room kind j h) t ne w
+
+  here : (j : ℕ) → Now j r → j ≡ i
+  here j w = one-object kind j i (omega (arith, w, new))
+
+  other : (j : ℕ) → j < roomOf kind → (t : ℕ) → (t ≡ r → ⊥) → Now j t → runningIn past ≡ taskId s t → ⊥
   other j h t ne w e =
-      ne (apart-slots _ _ t r (omega (arith, waits-room s rule j t (came j h t ne w))) (omega arith) (sym e ∙ runs))
+      ne (apart-slots _ _ t r (omega (arith, waits-room s rule (objectOf kind j) t (came-here j h t ne w))) (omega arith) (sym e ∙ runs))
 
-  -- the list of semaphore id
-  grown : (id : ℕ) → isAnswerOf 11 id PENDING y ≡ true → waiting (y ∷ past) id ≡ waiting past id ++ (runningIn past ∷ [])
-  grown id e = waiting-more y past id (unshut id) e
+  -- the list of object id
+  grown : (id : ℕ) → isAnswerOf (waitCall kind) id PENDING y ≡ true → on-list (y ∷ past) id ≡ on-list past id ++ (runningIn past ∷ [])
+  grown id e = waiters-grown y past kind id (unshut id) e
 
-  had : (id z : ℕ) → has (waiting past id) z ≡ true → has (waiting (y ∷ past) id) z ≡ true
+  had : (id z : ℕ) → has (on-list past id) z ≡ true → has (on-list (y ∷ past) id) z ≡ true
   had id z b =
       ⊎-elim
-      (λ e. subst (λ (l : List ℕ). has l z ≡ true) (sym (grown id e)) (has-before (waiting past id) (runningIn past) z b))
-      (λ e. subst (λ (l : List ℕ). has l z ≡ true) (sym (waiting-less y past id (unshut id) e))
-      (has-kept _ (waiting past id) z b (not-of-false _ (lasts z))))
-      (true-or-false (isAnswerOf 11 id PENDING y))
+      (λ e. subst (λ (l : List ℕ). has l z ≡ true) (sym (grown id e)) (has-before (on-list past id) (runningIn past) z b))
+      (λ e. subst (λ (l : List ℕ). has l z ≡ true) (sym (waiters-kept y past kind id (unshut id) e))
+      (has-kept _ (on-list past id) z b (not-of-false _ (lasts z))))
+      (true-or-false (isAnswerOf (waitCall kind) id PENDING y))
 
-  now-on : (j : ℕ) → j < 16 → (t : ℕ) → WaitsFor s2 j t → has (waiting (y ∷ past) (semId s j)) (taskId s t) ≡ true
+  now-on : (j : ℕ) → j < roomOf kind → (t : ℕ) → Now j t → has (on-list (y ∷ past) (idOf kind s j)) (taskId s t) ≡ true
   now-on j h t w =
       ⊎-elim
-      (λ e. let d : j ≡ i = here j (subst (λ (v : ℕ). WaitsFor s2 j v) e w) in
-      subst (λ (v : ℕ). has (waiting (y ∷ past) (semId s j)) (taskId s v) ≡ true) (sym e)
-      (subst (λ (v : ℕ). has (waiting (y ∷ past) (semId s v)) (taskId s r) ≡ true) (sym d)
-      (subst (λ (l : List ℕ). has l (taskId s r) ≡ true) (sym (grown (semId s i) (is-of y 11 (semId s i) PENDING called mine)))
-      (subst (λ (v : ℕ). has (waiting past (semId s i) ++ (runningIn past ∷ [])) v ≡ true) runs
-      (has-last (waiting past (semId s i)) (runningIn past))))))
-      (λ ne. had (semId s j) (taskId s t) (ok .on j h t (came j h t ne w)))
+      (λ e. let d : j ≡ i = here j (subst (λ (v : ℕ). Now j v) e w) in
+      subst (λ (v : ℕ). has (on-list (y ∷ past) (idOf kind s j)) (taskId s v) ≡ true) (sym e)
+      (subst (λ (v : ℕ). has (on-list (y ∷ past) (idOf kind s v)) (taskId s r) ≡ true) (sym d)
+      (subst (λ (l : List ℕ). has l (taskId s r) ≡ true)
+      (sym (grown (idOf kind s i) (is-of y (waitCall kind) (idOf kind s i) PENDING called mine)))
+      (subst (λ (v : ℕ). has (on-list past (idOf kind s i) ++ (runningIn past ∷ [])) v ≡ true) runs
+      (has-last (on-list past (idOf kind s i)) (runningIn past))))))
+      (λ ne. had (idOf kind s j) (taskId s t) (ok .on j h t (came-here j h t ne w)))
       (eq-or-not t r)
 
-  older : (id z : ℕ) → has (waiting past id) z ≡ true → Waiter s2 id z
+  older : (id z : ℕ) → has (on-list past id) z ≡ true → WaiterOf kind s2 id z
   older id z b =
-      let w : Waiter s id z = ok .off id z b in
-      record { slot = w .slot; task = w .task; room = w .room; waits = stays (w .slot) (w .room) (w .task) (w .waits) .1; of = w .of; who = w .who }
+      let w : WaiterOf kind s id z = ok .off id z b in
+      record {
+        slot = w .slot;
+        task = w .task;
+        room = w .room;
+        waits = stays (objectOf kind (w .slot)) (object-room kind (w .slot) (w .room)) (w .task) (w .waits) .1;
+        of = w .of ∙ sym (line-id kind s line (w .slot));
+        who = w .who;
+      }
 
-  now-off : (id z : ℕ) → has (waiting (y ∷ past) id) z ≡ true → Waiter s2 id z
+  now-off : (id z : ℕ) → has (on-list (y ∷ past) id) z ≡ true → WaiterOf kind s2 id z
   now-off id z b =
       ⊎-elim
       (λ e. ⊎-elim (older id z)
-      (λ f. record { slot = i; task = r; room = hi; waits = new; of = sym (of-is y 11 id PENDING e) ∙ mine; who = sym f ∙ runs })
-      (has-grown (waiting past id) (runningIn past) z (subst (λ (l : List ℕ). has l z ≡ true) (grown id e) b)))
-      (λ e. older id z (kept-has _ (waiting past id) z (subst (λ (l : List ℕ). has l z ≡ true) (waiting-less y past id (unshut id) e) b) .0))
-      (true-or-false (isAnswerOf 11 id PENDING y))
+      (λ f. record { slot = i; task = r; room = hi; waits = new; of = sym (of-is y (waitCall kind) id PENDING e) ∙ mine ∙ sym (line-id kind s line i); who = sym f ∙ runs })
+      (has-grown (on-list past id) (runningIn past) z (subst (λ (l : List ℕ). has l z ≡ true) (grown id e) b)))
+      (λ e. older id z (kept-has _ (on-list past id) z (subst (λ (l : List ℕ). has l z ≡ true) (waiters-kept y past kind id (unshut id) e) b) .0))
+      (true-or-false (isAnswerOf (waitCall kind) id PENDING y))
 
-  first-time : (id : ℕ) → has (waiting past id) (runningIn past) ≡ false
+  first-time : (id : ℕ) → has (on-list past id) (runningIn past) ≡ false
   first-time id =
-      none-has (waiting past id) (runningIn past)
-      (λ b. let w : Waiter s id (runningIn past) = ok .off id (runningIn past) b in
-      let z = stays (w .slot) (w .room) (w .task) (w .waits) in
+      none-has (on-list past id) (runningIn past)
+      (λ b. let w : WaiterOf kind s id (runningIn past) = ok .off id (runningIn past) b in
+      let z = stays (objectOf kind (w .slot)) (object-room kind (w .slot) (w .room)) (w .task) (w .waits) in
       other (w .slot) (w .room) (w .task) (z .0) (z .1) (w .who))
 
-  now-once : (id : ℕ) → Once (waiting (y ∷ past) id)
+  now-once : (id : ℕ) → Once (on-list (y ∷ past) id)
   now-once id =
       ⊎-elim
-      (λ e. subst Once (sym (grown id e)) (once-grown (waiting past id) (runningIn past) (ok .once id) (first-time id)))
-      (λ e. subst Once (sym (waiting-less y past id (unshut id) e)) (once-kept _ (waiting past id) (ok .once id)))
-      (true-or-false (isAnswerOf 11 id PENDING y))
+      (λ e. subst Once (sym (grown id e)) (once-grown (on-list past id) (runningIn past) (ok .once id) (first-time id)))
+      (λ e. subst Once (sym (waiters-kept y past kind id (unshut id) e)) (once-kept _ (on-list past id) (ok .once id)))
+      (true-or-false (isAnswerOf (waitCall kind) id PENDING y))
 
   -- a fact of each waiter: of the caller, and of the others
-  each : (P : ℕ → ℕ → Type 0) → P i r → ((j : ℕ) → j < 16 → (t : ℕ) → (t ≡ r → ⊥) → WaitsFor s2 j t → WaitsFor s j t → P j t)
-      → (j : ℕ) → j < 16 → (t : ℕ) → WaitsFor s2 j t → P j t
+  each : (P : ℕ → ℕ → Type 0) → P i r → ((j : ℕ) → j < roomOf kind → (t : ℕ) → (t ≡ r → ⊥) → Now j t → Then j t → P j t)
+      → (j : ℕ) → j < roomOf kind → (t : ℕ) → Now j t → P j t
   each P mine2 others j h t w =
       ⊎-elim
-      (λ e. let d : j ≡ i = here j (subst (λ (v : ℕ). WaitsFor s2 j v) e w) in
+      (λ e. let d : j ≡ i = here j (subst (λ (v : ℕ). Now j v) e w) in
       subst (λ (v : ℕ). P j v) (sym e) (subst (λ (v : ℕ). P v r) (sym d) mine2))
-      (λ ne. others j h t ne w (came j h t ne w))
+      (λ ne. others j h t ne w (came-here j h t ne w))
       (eq-or-not t r)
 
-  pub waiters-more : Waiters p s2 (y ∷ past) (arrival told r (suc (length past)) priority)
+  pub waiters-more : Waiters kind p s2 (y ∷ past) (arrival told r (suc (length past)) priority)
   waiters-more =
       record {
-        on = now-on;
+        on = λ j h t w. subst (λ (v : ℕ). has (on-list (y ∷ past) v) (taskId s t) ≡ true) (sym (line-id kind s line j)) (now-on j h t w);
         off = now-off;
         once = now-once;
-        claim = each (λ j t. claimed (y ∷ past) (taskId s t) ≡ semId s j)
-            (picked-yes _ _ _ (is-pending y past _ called runs) ∙ mine)
-            (λ j h t ne w v. picked-no _ _ _ (pends-other y past _ (other j h t ne w)) ∙ ok .claim j h t v);
-        since = each (λ j t. arrivedAt (y ∷ past) (taskId s t) ≡ getD (arrival told r (suc (length past)) priority .time) t 0)
-            (picked-yes _ _ _ (is-pending y past _ called runs) ∙ sym (getD-set-same (told .time) r (suc (length past)) 0 (omega arith)))
-            (λ j h t ne w v. picked-no _ _ _ (pends-other y past _ (other j h t ne w)) ∙ ok .since j h t v
+        claim = each (λ j t. namedBy kind (y ∷ past) (taskId s t) ≡ idOf kind s2 j)
+            (picked-yes _ _ _ (is-pending-on y past kind _ called runs) ∙ mine ∙ sym (line-id kind s line i))
+            (λ j h t ne w v. picked-no _ _ _ (pends-on-other y past kind _ (other j h t ne w)) ∙ ok .claim j h t v ∙ sym (line-id kind s line j));
+        since = each (λ j t. arrivalOf kind (y ∷ past) (taskId s t) ≡ getD (arrival told r (suc (length past)) priority .time) t 0)
+            (picked-yes _ _ _ (is-pending-on y past kind _ called runs) ∙ sym (getD-set-same (told .time) r (suc (length past)) 0 (omega arith)))
+            (λ j h t ne w v. picked-no _ _ _ (pends-on-other y past kind _ (other j h t ne w)) ∙ ok .since j h t v
             ∙ sym (getD-set-other (told .time) r t (suc (length past)) 0 ne));
-        joined = each (λ j t. joinedWith p (y ∷ past) (taskId s t) ≡ getD (line .joined) t 0)
-            (picked-yes _ _ _ (is-pending y past _ called runs) ∙ urgent)
-            (λ j h t ne w v. picked-no _ _ _ (pends-other y past _ (other j h t ne w)) ∙ ok .joined j h t v ∙ sym (kept t ne));
+        joined = each (λ j t. joinedAs kind p (y ∷ past) (taskId s t) ≡ getD (line .joined) t 0)
+            (picked-yes _ _ _ (is-pending-on y past kind _ called runs) ∙ urgent)
+            (λ j h t ne w v. picked-no _ _ _ (pends-on-other y past kind _ (other j h t ne w)) ∙ ok .joined j h t v ∙ sym (kept t ne));
       }
 
--- The line after a claim: the running task r leaves the ready order and joins queue i.
-module _ (s : State) (ok : Sound s) (r i : ℕ) (room : r < 32) (hi : i < 16) (ready : Ready (s .line) (s .tasks) r) (fifo : Bool) (priority ticks : ℕ) where
+-- And of the other kind: the caller joined the queue of object o, which is none of it.
+module _ (kind : Kind) (p : ℕ) (s : State) (line : Line) (y : Turn) (past : List Turn) (told : Arrivals) (ok : Waiters kind p s past told) (r o : ℕ)
+    (mute : isAnswer (waitCall kind) PENDING y ≡ false)
+    (unshut : (id : ℕ) → isAnswerOf (deletion kind) id OK y ≡ false)
+    (lasts : (z : ℕ) → endsWait past y z ≡ false)
+    (stays : (j : ℕ) → j < objectsEnd → (t : ℕ) → WaitsFor s j t → (t ≡ r → ⊥) × WaitsFor (withLine s line) j t)
+    (came : (j : ℕ) → j < objectsEnd → (t : ℕ) → (t ≡ r → ⊥) → WaitsFor (withLine s line) j t → WaitsFor s j t)
+    (kept : (t : ℕ) → (t ≡ r → ⊥) → getD (line .joined) t 0 ≡ getD (s .line .joined) t 0)
+    (new : WaitsFor (withLine s line) o r)
+    (apart : (j : ℕ) → j < roomOf kind → objectOf kind j ≡ o → ⊥) (n priority : ℕ) where
+  elsewhere : (j : ℕ) → j < roomOf kind → (t : ℕ) → WaitsFor (withLine s line) (objectOf kind j) t → t ≡ r → ⊥
+  elsewhere j h t w e =
+      let z : WaitsFor (withLine s line) (objectOf kind j) r = subst (λ (v : ℕ). WaitsFor (withLine s line) (objectOf kind j) v) e w in
+      apart j h (omega (arith, z, new))
+
+  pub waiters-same : Waiters kind p (withLine s line) (y ∷ past) (arrival told r n priority)
+  waiters-same =
+      waiters-fewer kind p s (withLine s line) y past told (arrival told r n priority) ok mute
+      (λ j h t w. came (objectOf kind j) (object-room kind j h) t (elsewhere j h t w) w)
+      (λ j h t w. kept t (elsewhere j h t w))
+      (λ j h t w. getD-set-other (told .time) r t n 0 (elsewhere j h t w))
+      (λ j h t w. inl (stays (objectOf kind j) (object-room kind j h) t w .1))
+      (λ j h t w. lasts (taskId s t))
+      (λ j h t w. unshut (idOf kind s j))
+      (λ j h t w. refl)
+      (λ j h t w. line-id kind s line j)
+
+-- The line after a claim or a receive: the running task r leaves the ready order and joins the queue of object i.
+module _ (s : State) (ok : Sound s) (r i : ℕ) (room : r < 32) (hi : i < objectsEnd) (ready : Ready (s .line) (s .tasks) r) (fifo : Bool) (priority ticks : ℕ) where
   abbrev after : Line
   after = waits (s .line) i fifo priority ticks r
 
@@ -170,7 +224,7 @@ module _ (s : State) (ok : Sound s) (r i : ℕ) (room : r < 32) (hi : i < 16) (r
   good : Good q
   good = record { queues = ok .line .queues; low = seats-low (s .line) (s .tasks) (objectsOf s) (ok .line) }
 
-  pub claim-stays : (j : ℕ) → j < 16 → (t : ℕ) → WaitsFor s j t → (t ≡ r → ⊥) × WaitsFor (withLine s after) j t
+  pub claim-stays : (j : ℕ) → j < objectsEnd → (t : ℕ) → WaitsFor s j t → (t ≡ r → ⊥) × WaitsFor (withLine s after) j t
   unfolding waits
   claim-stays j h t w =
       let ne : t ≡ r → ⊥ = λ e. let z = subst (λ (v : ℕ). WaitsFor s j v) e w in omega (arith, z .1, ready .stands .0) in (
@@ -179,7 +233,7 @@ module _ (s : State) (ok : Sound s) (r i : ℕ) (room : r < 32) (hi : i < 16) (r
             (leaves-others q good r (queueSeats j) (omega arith) t ne w),
       )
 
-  pub claim-came : (j : ℕ) → j < 16 → (t : ℕ) → (t ≡ r → ⊥) → WaitsFor (withLine s after) j t → WaitsFor s j t
+  pub claim-came : (j : ℕ) → j < objectsEnd → (t : ℕ) → (t ≡ r → ⊥) → WaitsFor (withLine s after) j t → WaitsFor s j t
   unfolding waits
   claim-came j h t ne w =
       leaves-stays q good r .stood (queueSeats j) (omega arith) (omega arith) t

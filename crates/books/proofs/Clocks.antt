@@ -1,5 +1,5 @@
--- What is left of a waiter's time_out and the ticks since its claim make up the time_out that it asked for: every event's answer keeps
--- this, whoever is suspended. Who waits after a turn waited before it, or is the caller who was answered PENDING.
+-- What is left of a waiter's time_out and the ticks since its claim or receive make up the time_out that it asked for: every event's
+-- answer keeps this, whoever is suspended. Who waits after a turn waited before it, or is the caller who was answered PENDING.
 -- Assumes nothing.
 use Prim.Native.Nat.{ℕ, zero, suc, _+_, _-_, _≤_, _<_}
 use native.Mathlib.Omega.{arith}
@@ -9,7 +9,7 @@ use mathlib.Core.Bool.{true, false, not}
 use mathlib.Core.List.{List, [], _∷_}
 use lib.ListN.{length, getD}
 use lib.Dec.{ltb, eqb}
-use borrow.Author.Tests.{ltb-true, eqb-true, eqb-false}
+use borrow.Author.Tests.{ltb-true, eq-eqb, ne-eqb, eqb-true, eqb-false}
 use Rattle.scope.specs.declared.State.{State}
 use Rattle.scope.specs.declared.Answer.{Answer}
 use Rattle.scope.specs.Choice.{pick}
@@ -22,7 +22,7 @@ use Rattle.scope.specs.Answers.{answer, plain, badState, wakesWith}
 use Rattle.scope.specs.Waiting.{FOREVER, isTimeOut, noneWoken}
 use Rattle.scope.specs.Ticks.{ticked, tick}
 use Rattle.scope.proofs.Times.{forever-stays, takes-one}
-use Rattle.laws.proofs.Branches.{both-true, true-false, true-or-false, picked-yes, picked-no}
+use Rattle.laws.proofs.Branches.{both, both-true, second-fails, true-false, true-or-false, picked-yes, picked-no}
 use Rattle.histories.specs.Sound.{Waits, Ready, Sound}
 use Rattle.histories.specs.History.{Event, answerTo, after}
 use Rattle.histories.specs.Order.{Arrivals, arrives, WaitsFor}
@@ -32,11 +32,11 @@ use Rattle.histories.proofs.Semaphores.{runs-ready}
 use Rattle.histories.proofs.Ticks.{time-out-says, never-zero}
 use Rattle.histories.proofs.Ledger.{event-keeps}
 use Rattle.books.specs.Past.{Turn, isAnswer, isAnswerOf, runningIn, pastFrom}
-use Rattle.books.specs.Waiting.{pends, waiting}
-use Rattle.books.specs.Times.{timeOutOf, ticksSince}
+use Rattle.books.specs.Waiting.{Kind, deletion, waitCall, waitersFor}
+use Rattle.books.specs.Times.{pauses, timeOutOf, ticksSince}
 use Rattle.books.proofs.Members.{has-grown, kept-has}
-use Rattle.books.specs.Told.{taskId, semId}
-use Rattle.books.proofs.Agreeing.{turnOf, Waiter, Agrees, not-call, pends-other, is-pending, waiting-shut, waiting-more, waiting-less}
+use Rattle.books.specs.Told.{roomOf, objectOf, taskId, idOf}
+use Rattle.books.proofs.Agreeing.{turnOf, WaiterOf, Agrees, waiters-of, object-room, not-status, waiters-shut, waiters-grown, waiters-kept}
 use Rattle.books.proofs.Claiming.{apart-slots, waits-room}
 use Rattle.books.proofs.Steps.{waiter-live}
 use Rattle.books.proofs.Telling.{event-steps}
@@ -48,7 +48,7 @@ Runs n k left = ((n ≡ FOREVER) × (left ≡ FOREVER)) ⊎ ((left + k ≡ n) ×
 
 -- what is left of each waiter's time_out is what the history tells
 pub record Clocked (s : State) (past : List Turn) : Type 0 where
-  pub runs : (i : ℕ) → i < 16 → (t : ℕ) → WaitsFor s i t
+  pub runs : (kind : Kind) (i : ℕ) → i < roomOf kind → (t : ℕ) → WaitsFor s (objectOf kind i) t
       → Runs (timeOutOf past (taskId s t)) (ticksSince past (taskId s t)) (getD (s .line .left) t 0)
 
 -- a waiter of a sound state has a time_out left, and its identifier is not 0
@@ -89,40 +89,54 @@ module _ (s : State) (ok : Sound s) where
       let r = running-is (taskId s t) e (some-name s ok i h t w) in
       runner-waits-not i h t w (apart-slots _ _ t (s .running) (omega (arith, room s ok i h t w)) (omega (arith, r .0)) (r .1))
 
--- One turn. Who waits after it waited before it, under the same identifier, or is the caller of a claim answered PENDING.
-module _ (p : ℕ) (s : State) (ok : Sound s) (s2 : State) (ok2 : Sound s2) (y : Turn) (past : List Turn) (told told2 : Arrivals)
-    (ag : Agrees p s past told) (ag2 : Agrees p s2 (y ∷ past) told2) (i : ℕ) (h : i < 16) (t : ℕ) (w : WaitsFor s2 i t) where
+-- One turn. Who waits after it waited before it, under the same identifier, or is the caller of a claim or receive answered PENDING.
+module _ (kind : Kind) (p : ℕ) (s : State) (ok : Sound s) (s2 : State) (ok2 : Sound s2) (y : Turn) (past : List Turn) (told told2 : Arrivals)
+    (ag : Agrees p s past told) (ag2 : Agrees p s2 (y ∷ past) told2) (i : ℕ) (h : i < roomOf kind) (t : ℕ) (w : WaitsFor s2 (objectOf kind i) t) where
   abbrev z : ℕ
   z = taskId s2 t
 
   abbrev id : ℕ
-  id = semId s2 i
+  id = idOf kind s2 i
+
+  abbrev on-list : List Turn → List ℕ
+  on-list l = waitersFor kind l id
 
   abbrev Stood : Type 0
-  Stood = (j : ℕ) × (j < 16) × WaitsFor s j t × (taskId s t ≡ z)
+  Stood = (j : ℕ) × (j < roomOf kind) × WaitsFor s (objectOf kind j) t × (taskId s t ≡ z)
 
-  stood : has (waiting past id) z ≡ true → Stood
+  stood : has (on-list past) z ≡ true → Stood
   stood b =
-      let v : Waiter s id z = ag .waiters .off id z b in
-      let here : v .task < 32 = waits-room s (ok .line .queues) (v .slot) (v .task) (v .waits) in
-      let d : v .task ≡ t = apart-slots _ _ (v .task) t (omega (arith, here)) (omega (arith, room s2 ok2 i (omega arith) t w)) (sym (v .who)) in (
+      let v : WaiterOf kind s id z = waiters-of ag kind .off id z b in
+      let here : v .task < 32 = waits-room s (ok .line .queues) (objectOf kind (v .slot)) (v .task) (v .waits) in
+      let there : t < 32 = room s2 ok2 (objectOf kind i) (object-room kind i h) t w in
+      let d : v .task ≡ t = apart-slots _ _ (v .task) t (omega (arith, here)) (omega (arith, there)) (sym (v .who)) in (
         v .slot,
         v .room,
-        subst (λ (u : ℕ). WaitsFor s (v .slot) u) d (v .waits),
+        subst (λ (u : ℕ). WaitsFor s (objectOf kind (v .slot)) u) d (v .waits),
         sym (v .who ∙ ap (taskId s) d),
       )
 
-  before : Stood ⊎ ((isAnswerOf 11 id PENDING y ≡ true) × (runningIn past ≡ z))
+  before : Stood ⊎ ((isAnswerOf (waitCall kind) id PENDING y ≡ true) × (runningIn past ≡ z))
   before =
-      let on : has (waiting (y ∷ past) id) z ≡ true = ag2 .waiters .on i h t w in
+      let on : has (on-list (y ∷ past)) z ≡ true = waiters-of ag2 kind .on i h t w in
       ⊎-elim
-      (λ e. absurd (true-false (subst (λ (l : List ℕ). has l z ≡ true) (waiting-shut y past id e) on) refl))
+      (λ e. absurd (true-false (subst (λ (l : List ℕ). has l z ≡ true) (waiters-shut y past kind id e) on) refl))
       (λ e. ⊎-elim
       (λ f. ⊎-elim (λ b. inl (stood b)) (λ b. inr (f, b))
-      (has-grown (waiting past id) (runningIn past) z (subst (λ (l : List ℕ). has l z ≡ true) (waiting-more y past id e f) on)))
-      (λ f. inl (stood (kept-has _ (waiting past id) z (subst (λ (l : List ℕ). has l z ≡ true) (waiting-less y past id e f) on) .0)))
-      (true-or-false (isAnswerOf 11 id PENDING y)))
-      (true-or-false (isAnswerOf 9 id OK y))
+      (has-grown (on-list past) (runningIn past) z (subst (λ (l : List ℕ). has l z ≡ true) (waiters-grown y past kind id e f) on)))
+      (λ f. inl (stood (kept-has _ (on-list past) z (subst (λ (l : List ℕ). has l z ≡ true) (waiters-kept y past kind id e f) on) .0)))
+      (true-or-false (isAnswerOf (waitCall kind) id PENDING y)))
+      (true-or-false (isAnswerOf (deletion kind) id OK y))
+
+-- whose turn it was to wait
+module _ (y : Turn) (past : List Turn) (t : ℕ) where
+  pauses-other : (runningIn past ≡ t → ⊥) → pauses past t y ≡ false
+  unfolding pauses
+  pauses-other ne = second-fails (eqb (y .reply .status) PENDING) _ (ne-eqb _ _ ne)
+
+  is-pause : y .reply .status ≡ PENDING → runningIn past ≡ t → pauses past t y ≡ true
+  unfolding pauses
+  is-pause e f = both _ _ (eq-eqb _ _ e) (eq-eqb _ _ f)
 
 -- what a turn's answer says
 pub answer-is : (y : Turn) (k status : ℕ) → isAnswer k status y ≡ true → (y .event .call ≡ k) × (y .reply .status ≡ status)
@@ -184,7 +198,13 @@ module _ (p : ℕ) (s : State) (ok : Sound s) (x : Event) (past : List Turn) (to
   agrees2 : Agrees p (a .state) (y ∷ past) told2
   agrees2 = event-steps s ok x .steps p past told ag
 
-  module _ (i : ℕ) (h : i < 16) (t : ℕ) (w : WaitsFor (a .state) i t) where
+  module _ (kind : Kind) (i : ℕ) (h : i < roomOf kind) (t : ℕ) (w : WaitsFor (a .state) (objectOf kind i) t) where
+    abbrev o : ℕ
+    o = objectOf kind i
+
+    at-object : o < objectsEnd
+    at-object = object-room kind i h
+
     abbrev me : ℕ
     me = taskId (a .state) t
 
@@ -195,24 +215,30 @@ module _ (p : ℕ) (s : State) (ok : Sound s) (x : Event) (past : List Turn) (to
     Told = Runs (timeOutOf (y ∷ past) me) (ticksSince (y ∷ past) me) now
 
     left2 : now ≡ 0 → ⊥
-    left2 = some-left (a .state) sound2 i (omega arith) t w
+    left2 = some-left (a .state) sound2 o at-object t w
 
     -- it waited before
-    module _ (j : ℕ) (hj : j < 16) (wj : WaitsFor s j t) (same : taskId s t ≡ me) where
+    module _ (j : ℕ) (hj : j < roomOf kind) (wj : WaitsFor s (objectOf kind j) t) (same : taskId s t ≡ me) where
+      abbrev from : ℕ
+      from = objectOf kind j
+
+      was-object : from < objectsEnd
+      was-object = object-room kind j hj
+
       abbrev was : ℕ
       was = getD (s .line .left) t 0
 
-      quiet : pends past me y ≡ false
-      quiet = pends-other y past me (λ e. waiter-other s ok j (omega arith) t wj (sym (ag .running) ∙ e ∙ sym same))
+      quiet : pauses past me y ≡ false
+      quiet = pauses-other y past me (λ e. waiter-other s ok from was-object t wj (sym (ag .running) ∙ e ∙ sym same))
 
       ran : Runs (timeOutOf past me) (ticksSince past me) was
-      ran = subst (λ (v : ℕ). Runs (timeOutOf past v) (ticksSince past v) was) same (clock .runs j hj t wj)
+      ran = subst (λ (v : ℕ). Runs (timeOutOf past v) (ticksSince past v) was) same (clock .runs kind j hj t wj)
 
       asked : timeOutOf (y ∷ past) me ≡ timeOutOf past me
-      asked = picked-no (pends past me y) _ _ quiet
+      asked = picked-no (pauses past me y) _ _ quiet
 
       ticks : ticksSince (y ∷ past) me ≡ pick (isAnswer 0 OK y) 1 0 + ticksSince past me
-      ticks = picked-no (pends past me y) 0 _ quiet
+      ticks = picked-no (pauses past me y) 0 _ quiet
 
       by-tick : isAnswer 0 OK y ≡ true → Told
       by-tick e =
@@ -222,7 +248,7 @@ module _ (p : ℕ) (s : State) (ok : Sound s) (x : Event) (past : List Turn) (to
           subst (λ (v : Answer). (getD (v .state .line .left) t 0 ≡ getD (ticked (s .line) .left) t 0) ⊎ (getD (v .state .line .left) t 0 ≡ 0)) (sym d)
           (tick-left s t) in
           ⊎-elim
-          (λ f. runs-less (timeOutOf past me) (ticksSince past me) was _ _ now ran (some-left s ok j (omega arith) t wj) asked
+          (λ f. runs-less (timeOutOf past me) (ticksSince past me) was _ _ now ran (some-left s ok from was-object t wj) asked
           (ticks ∙ ap (λ (v : ℕ). v + ticksSince past me) (picked-yes (isAnswer 0 OK y) 1 0 e))
           (λ g. f ∙ forever-stays (s .line) t g) (λ g. f ∙ takes-one (s .line) t g))
           (λ f. absurd (left2 f))
@@ -233,28 +259,28 @@ module _ (p : ℕ) (s : State) (ok : Sound s) (x : Event) (past : List Turn) (to
           ⊎-elim
           (λ f. runs-on (timeOutOf past me) (ticksSince past me) was _ _ now ran asked
           (ticks ∙ ap (λ (v : ℕ). v + ticksSince past me) (picked-no (isAnswer 0 OK y) 1 0 e) ∙ omega arith) f)
-          (λ f. ⊎-elim (λ g. absurd (left2 g)) (λ g. absurd (runner-waits-not s ok j (omega arith) t wj (g .0))) f)
+          (λ f. ⊎-elim (λ g. absurd (left2 g)) (λ g. absurd (runner-waits-not s ok from was-object t wj (g .0))) f)
           (event-lasts s ok x e .each t)
 
       stayed : Told
       stayed = ⊎-elim by-tick by-other (true-or-false (isAnswer 0 OK y))
 
     -- it is the caller, who was answered PENDING
-    arrived : isAnswer 11 PENDING y ≡ true → runningIn past ≡ me → Told
+    arrived : y .reply .status ≡ PENDING → runningIn past ≡ me → Told
     arrived e r =
-        let pend : pends past me y ≡ true = is-pending y past me e r in
-        let runs = running-is s ok me (sym (ag .running) ∙ r) (some-name (a .state) sound2 i (omega arith) t w) in
-        let mine : t ≡ s .running = apart-slots _ _ t (s .running) (omega (arith, room (a .state) sound2 i (omega arith) t w)) (omega (arith, runs .0)) (runs .1) in
-        let other : isAnswer 0 OK y ≡ false = not-call y 0 OK (ap (λ (v : ℕ). eqb v 0) (answer-is y 11 PENDING e .0)) in
-        let n : timeOutOf (y ∷ past) me ≡ x .c = picked-yes (pends past me y) _ _ pend in
-        let k : ticksSince (y ∷ past) me ≡ 0 = picked-yes (pends past me y) 0 _ pend in
+        let pend : pauses past me y ≡ true = is-pause y past me e r in
+        let runs = running-is s ok me (sym (ag .running) ∙ r) (some-name (a .state) sound2 o at-object t w) in
+        let mine : t ≡ s .running = apart-slots _ _ t (s .running) (omega (arith, room (a .state) sound2 o at-object t w)) (omega (arith, runs .0)) (runs .1) in
+        let other : isAnswer 0 OK y ≡ false = not-status y 0 OK (ap (λ (v : ℕ). eqb v OK) e) in
+        let n : timeOutOf (y ∷ past) me ≡ x .c = picked-yes (pauses past me y) _ _ pend in
+        let k : ticksSince (y ∷ past) me ≡ 0 = picked-yes (pauses past me y) 0 _ pend in
         ⊎-elim
         (λ f. absurd (left2 (f ∙ ap (λ (v : ℕ). getD (s .line .left) v 0) mine ∙ runs-ready s ok (runs .0) .left)))
         (λ f. ⊎-elim (λ g. absurd (left2 g))
         (λ g. ⊎-elim
         (λ c. inl (n ∙ sym (g .1) ∙ c, c))
         (λ c. inr (omega (arith, n, k, g .1), omega (arith, n, g .1, c .1)))
-        (time-out-says now (has-time (a .state) sound2 i (omega arith) t w)))
+        (time-out-says now (has-time (a .state) sound2 o at-object t w)))
         f)
         (event-lasts s ok x other .each t)
 
@@ -262,8 +288,8 @@ module _ (p : ℕ) (s : State) (ok : Sound s) (x : Event) (past : List Turn) (to
     goes-on =
         ⊎-elim
         (λ b. stayed (b .0) (b .1) (b .2) (b .3))
-        (λ b. arrived (answer-of y 11 _ PENDING (b .0)) (b .1))
-        (before p s ok (a .state) sound2 y past told told2 ag agrees2 i h t w)
+        (λ b. arrived (answer-is y (waitCall kind) PENDING (answer-of y (waitCall kind) _ PENDING (b .0)) .1) (b .1))
+        (before kind p s ok (a .state) sound2 y past told told2 ag agrees2 i h t w)
 
   event-clocked : Clocked (a .state) (y ∷ past)
   event-clocked = record { runs = goes-on }

@@ -424,7 +424,7 @@ module _ (s : State) (ok : Sound s) (past : List Turn) (agrees : Agrees (s .pool
       (eq-or-not (x .call) 15))
       (eq-or-not (x .call) 14)
     where
-      own : (k : ℕ) → x .call ≡ k → Fair (callAt k .does s (x .a) (x .b) (x .c) (x .d) (x .e)) → Fair (answerTo s x)
+      own : (k : ℕ) → x .call ≡ k → Fair (callAt k .does s (x .a) (x .b) (x .c) (x .d) (x .e) (x .message)) → Fair (answerTo s x)
       own k e does = by-number Fair s plain-fair x k e bad-fair does
 
       named : (f : ℕ → Answer) → ((i : ℕ) → NamedAt p (x .a) i → Fair (f i)) → Fair (onFound (poolFound s (x .a)) s f)

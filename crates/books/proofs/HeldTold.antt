@@ -143,7 +143,7 @@ module _ (s : State) (ok : Sound s) (past : List Turn) (agrees : Agrees (s .pool
       unfolding plain answer
       not-done status e d = absurd (eqb-false status OK e d)
 
-      by-pool : (k : ℕ) (f : ℕ → Answer) → x .call ≡ k → callAt k .does s (x .a) (x .b) (x .c) (x .d) (x .e) ≡ onFound (poolFound s (x .a)) s f
+      by-pool : (k : ℕ) (f : ℕ → Answer) → x .call ≡ k → callAt k .does s (x .a) (x .b) (x .c) (x .d) (x .e) (x .message) ≡ onFound (poolFound s (x .a)) s f
           → ((i : ℕ) → NamedAt p (x .a) i → IfDone (f i)) → IfDone (answerTo s x)
       unfolding badState
       by-pool k f at row g =

@@ -16,6 +16,7 @@ pub mod Steps
 pub mod Telling
 pub mod Told
 pub mod Releasing
+pub mod Sending
 pub mod Totals
 pub mod Info
 pub mod TimesLeft

@@ -33,7 +33,7 @@ use Rattle.histories.proofs.Answered.{by-name, by-number}
 use Rattle.histories.proofs.Order.{history-grants}
 use Rattle.histories.proofs.Demand.{end-sound}
 use Rattle.books.specs.Past.{Turn, pastOf}
-use Rattle.books.specs.Waiting.{waiting, Precedes}
+use Rattle.books.specs.Waiting.{aSemaphore, waiting, Precedes}
 use Rattle.books.proofs.Granting.{nobody}
 use Rattle.books.proofs.Members.{has-here}
 use Rattle.books.proofs.Told.{fresh-same, history-agrees, in-order, precedes-told, seats-told}
@@ -51,17 +51,18 @@ pub record Released (s : State) (id : ℕ) (a : Answer) : Type 0 where
   pub slot : ℕ
   pub names : SemaphoreAt s id slot
   pub why : a .why ≡ OK
+  pub says : a .delivers ≡ false
   pub woke : (a .woken ≡ 0) ⊎ ((t : ℕ) × WaitsFor s slot t × (a .woken ≡ 1) × (getD (a .wakes) 0 0 ≡ taskId s t))
 
 module _ (s : State) where
   module _ (id i : ℕ) (names : SemaphoreAt s id i) where
     released-none : (t : State) → Released s id (plain t OK)
     unfolding plain answer
-    released-none t = record { slot = i; names = names; why = refl; woke = inl refl }
+    released-none t = record { slot = i; names = names; why = refl; says = refl; woke = inl refl }
 
     released-one : (w : Waking) (t : ℕ) → WaitsFor s i t → w .woken ≡ 1 → getD (w .wakes) 0 0 ≡ taskId s t → Released s id (wakesWith s w OK)
     unfolding wakesWith
-    released-one w t a b c = record { slot = i; names = names; why = refl; woke = inr (t, a, b, c) }
+    released-one w t a b c = record { slot = i; names = names; why = refl; says = refl; woke = inr (t, a, b, c) }
 
     release-at : semReleaseAt s i .status ≡ OK → Released s id (semReleaseAt s i)
     unfolding semReleaseAt wakeNext plain answer
@@ -125,7 +126,7 @@ module _ (p : ℕ) (h : p ≤ 15) (xs : List Event) (x : Event) (at : x .call �
             let a : WaitsFor now i (w .task) = subst (λ (v : ℕ). WaitsFor now v (w .task)) d (w .waits) in
             subst (λ (v : ℕ). Precedes p past v (taskId now (g .task)) u) (sym id)
             (subst (λ (v : ℕ). Precedes p past (semId now i) (taskId now (g .task)) v) (sym (w .who))
-            (precedes-told p now (end-sound p h xs) past (arrivals (freshState p) xs) (history-agrees p h xs) (in-order p h xs) i hi (g .task) (w .task) (g .waited) a
+            (precedes-told aSemaphore p now (end-sound p h xs) past (arrivals (freshState p) xs) (history-agrees p h xs) (in-order p h xs) i hi (g .task) (w .task) (g .waited) a
             (g .first (w .task) a (λ f. ne (w .who ∙ ap (taskId now) f)))));
       }
     where

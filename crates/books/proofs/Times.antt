@@ -1,5 +1,5 @@
 -- M-101, "A time_out of n always ends at the n-th tick", for every history from a fresh state, whoever is suspended and resumed on the
--- way: what is left of a waiter's time_out and the ticks since its claim make up the time_out that it asked for. So while it waits
+-- way: what is left of a waiter's time_out and the ticks since its claim or receive make up the time_out that it asked for. So while it waits
 -- there were fewer, and the next tick wakes it with 13 exactly if it is the n-th.
 -- Assumes nothing.
 use Prim.Native.Nat.{ℕ, zero, suc, _+_, _-_, _≤_, _<_}
@@ -39,11 +39,11 @@ use Rattle.histories.proofs.Ticks.{tick-sound}
 use Rattle.histories.proofs.Turns.{good}
 use Rattle.histories.proofs.Demand.{end-sound}
 use Rattle.books.specs.Past.{Turn, pastOf}
-use Rattle.books.specs.Waiting.{wakes, waiting}
+use Rattle.books.specs.Waiting.{Kind, wakes, waitersFor}
 use Rattle.books.specs.Times.{timeOutOf, ticksSince, endsNext, wakesAs}
 use Rattle.books.proofs.Woken.{Left, wake-left, none-woke, due-woke}
-use Rattle.books.specs.Told.{taskId}
-use Rattle.books.proofs.Agreeing.{Waiter}
+use Rattle.books.specs.Told.{objectOf, taskId}
+use Rattle.books.proofs.Agreeing.{WaiterOf, waiters-of, object-room}
 use Rattle.books.proofs.Steps.{Moves, moves-woke}
 use Rattle.books.proofs.Told.{fresh-idle, fresh-agrees, history-agrees}
 use Rattle.books.proofs.Clocks.{Runs, Clocked, some-left, tick-left, tick-done, clocked-after}
@@ -92,12 +92,14 @@ wakes-as (suc n) k tasks why z = go (eqb (getD tasks k 0) z) (eqb why why) (eq-e
 
 module _ (s : State) (ok : Sound s) where
   tick-moves : Moves s (tick s)
-  unfolding tick
+  unfolding tick wakesWith
   tick-moves =
-      moves-woke s ok s (ticked (s .line)) (wakeDue (s .tasks) 32 0 (noneWoken (ticked (s .line)))) TIME-OUT refl
-      (fewer-then (s .line) (ticked (s .line)) _ (ticked-fewer (s .line))
-      (due-fewer (s .tasks) 32 0 (noneWoken (ticked (s .line))) (omega arith) (good s ok)))
-      (due-woke (s .tasks) (ticked (s .line)) 32 0 (noneWoken (ticked (s .line))) (omega arith) (omega arith) (none-woke (s .tasks) (ticked (s .line)) (good s ok)))
+      record {
+        leave = moves-woke s ok (ticked (s .line)) (wakeDue (s .tasks) 32 0 (noneWoken (ticked (s .line)))) TIME-OUT refl
+            (fewer-then (s .line) (ticked (s .line)) _ (ticked-fewer (s .line))
+            (due-fewer (s .tasks) 32 0 (noneWoken (ticked (s .line))) (omega arith) (good s ok)))
+            (due-woke (s .tasks) (ticked (s .line)) 32 0 (noneWoken (ticked (s .line))) (omega arith) (omega arith) (none-woke (s .tasks) (ticked (s .line)) (good s ok)));
+      }
 
   tick-spares : (i : ℕ) → i < objectsEnd → (t : ℕ) → WaitsFor s i t → (getD (ticked (s .line) .left) t 0 ≡ 0 → ⊥) → WaitsFor (tick s .state) i t
   unfolding tick wakesWith
@@ -118,11 +120,11 @@ module _ (s : State) (ok : Sound s) where
         ⊎-elim
         (λ b. absurd (some-left (tick s .state) (tick-sound s ok) i h t b (⊎-elim (λ c. c ∙ none) (λ c. c) (tick-left s t))))
         (λ b. b)
-        (tick-moves .went i h t w)
+        (tick-moves .leave .went i h t w)
 
     more-spared : (left ≡ 1 → ⊥) → wakes (wakeList (tick s)) (taskId s t) ≡ false
     more-spared ne =
-        tick-moves .gone i h t
+        tick-moves .leave .gone i h t
         (tick-spares i h t w (λ e. ⊎-elim
         (λ f. let g = forever-stays (s .line) t f in omega (arith, e, g))
         (λ f. ne (one left (some-left s ok i h t w) (sym (takes-one (s .line) t f) ∙ e)))
@@ -160,22 +162,28 @@ module _ (p : ℕ) (h : p ≤ 15) (xs : List Event) where
   pub history-clocked : Clocked now past
   history-clocked =
       clocked-after p (freshState p) (fresh-sound p h) xs [] noArrivals (fresh-agrees p h)
-      (record { runs = λ i hi t w. absurd (fresh-idle p h i hi t w) })
+      (record { runs = λ kind i hi t w. absurd (fresh-idle p h (objectOf kind i) (object-room kind i hi) t w) })
 
-  -- task z waits, for whichever semaphore
-  module _ (id z : ℕ) (waits : has (waiting past id) z ≡ true) where
-    who : Waiter now id z
-    who = history-agrees p h xs .waiters .off id z waits
+  -- task z waits, for whichever semaphore or queue
+  module _ (kind : Kind) (id z : ℕ) (waits : has (waitersFor kind past id) z ≡ true) where
+    who : WaiterOf kind now id z
+    who = waiters-of (history-agrees p h xs) kind .off id z waits
+
+    abbrev o : ℕ
+    o = objectOf kind (who .slot)
+
+    at-object : o < objectsEnd
+    at-object = object-room kind (who .slot) (who .room)
 
     runs : Runs (timeOutOf past z) (ticksSince past z) (getD (now .line .left) (who .task) 0)
     runs =
         subst (λ (v : ℕ). Runs (timeOutOf past v) (ticksSince past v) (getD (now .line .left) (who .task) 0)) (sym (who .who))
-        (history-clocked .runs (who .slot) (who .room) (who .task) (who .waits))
+        (history-clocked .runs kind (who .slot) (who .room) (who .task) (who .waits))
 
     -- while it waits there were fewer ticks than its time_out
     pub time-runs : (timeOutOf past z ≡ FOREVER → ⊥) → ticksSince past z < timeOutOf past z
     time-runs ne =
-        let some = some-left now (end-sound p h xs) (who .slot) (omega (arith, who .room)) (who .task) (who .waits) in
+        let some = some-left now (end-sound p h xs) o at-object (who .task) (who .waits) in
         ⊎-elim (λ e. absurd (ne (e .0))) (λ e. less (getD (now .line .left) (who .task) 0) some (e .0)) runs
       where
         less : (v : ℕ) → (v ≡ 0 → ⊥) → v + ticksSince past z ≡ timeOutOf past z → ticksSince past z < timeOutOf past z
@@ -185,14 +193,13 @@ module _ (p : ℕ) (h : p ≤ 15) (xs : List Event) where
     tick-wakes : wakes (wakeList (tick now)) z ≡ endsNext past z
     tick-wakes =
         let at = who .waits in
-        let room : who .slot < objectsEnd = omega (arith, who .room) in
         ap (wakes (wakeList (tick now))) (who .who)
         ∙ ⊎-elim
-        (λ e. one-woken now (end-sound p h xs) (who .slot) room (who .task) at e ∙ sym (ends-yes past z _ runs e))
-        (λ ne. more-spared now (end-sound p h xs) (who .slot) room (who .task) at ne ∙ sym (ends-no past z _ runs ne))
+        (λ e. one-woken now (end-sound p h xs) o at-object (who .task) at e ∙ sym (ends-yes past z _ runs e))
+        (λ ne. more-spared now (end-sound p h xs) o at-object (who .task) at ne ∙ sym (ends-no past z _ runs ne))
         (eq-or-not (getD (now .line .left) (who .task) 0) 1)
 
-    -- the next tick wakes it with 13 exactly if it is the n-th since its claim, n being its time_out
+    -- the next tick wakes it with 13 exactly if it is the n-th since its claim or receive, n being its time_out
     module _ (x : Event) (at : x .call ≡ 0) (done : answerTo now x .status ≡ OK) where
       pub ends-at-its-tick : wakesAs TIME-OUT (replyOf (answerTo now x) .wakes) z ≡ endsNext past z
       ends-at-its-tick =

@@ -1,7 +1,7 @@
 -- What an answer that is no tick leaves of the time_outs: each is what it was, or nothing is left of it, or it is the caller's, who asked
--- for it. One walk over the call table.
+-- for it. By the deeds.
 -- Assumes nothing.
-use Prim.Native.Nat.{ℕ, zero, suc}
+use Prim.Native.Nat.{ℕ, zero, suc, _<_}
 use native.Mathlib.Omega.{arith}
 use mathlib.Core.Path.{_≡_, refl, ap, _∙_}
 use mathlib.Core.Logic.{_⊎_, inl, inr, ⊎-elim}
@@ -9,26 +9,28 @@ use mathlib.Core.Bool.{Bool, true, false}
 use mathlib.Core.List.{List, [], _∷_}
 use lib.ListN.{getD, set}
 use lib.Seq.{getD-set-same, getD-set-other}
-use lib.Dec.{ltb, eqb}
+use lib.Dec.{ltb}
 use borrow.Author.Tests.{leb-false}
 use Rattle.scope.specs.declared.State.{State}
+use Rattle.scope.specs.declared.Line.{Line}
 use Rattle.scope.specs.declared.Tasks.{Tasks}
 use Rattle.scope.specs.declared.Waking.{Waking}
 use Rattle.scope.specs.declared.Answer.{Answer}
-use Rattle.scope.specs.Statuses.{OK}
+use Rattle.scope.specs.Statuses.{OK, PENDING}
 use Rattle.scope.specs.Seats.{queueSeats, firstOf}
-use Rattle.scope.specs.Answers.{answer, plain, gives, badState, wakesWith}
-use Rattle.scope.specs.Tasks.{taskCreateAt, taskCreate, taskDeleteAt, taskDelete, taskIdentAt, taskIdent, taskStartAt, taskStart, taskSuspendAt, taskSuspend, taskResumeAt, taskResume, taskSetPriorityAt, taskSetPriority}
+use Rattle.scope.specs.Objects.{queueObject}
+use Rattle.scope.specs.Views.{withLine, withTasks}
+use Rattle.scope.specs.Answers.{answer, plain, badState, shows, wakesWith, deliversTo}
 use Rattle.scope.specs.Waiting.{wake, wakeNext, wakeAll, noneWoken, waits}
-use Rattle.scope.specs.Semaphores.{semCreateAt, semCreate, semDeleteAt, semDelete, semIdentAt, semIdent, semWaitAt, semClaimAt, semClaim, semReleaseAt, semRelease, semInfoAt, semInfo}
-use Rattle.scope.specs.Pools.{poolCreateAt, poolCreate, poolDeleteAt, poolDelete, poolIdentAt, poolIdent, poolGetBuffer, poolGetBuffAt, poolGetBuff, poolRetBuffer, poolRetBuffAt, poolRetBuff, poolInfoAt, poolInfo}
+use Rattle.scope.specs.Semaphores.{semDeleteAt}
+use Rattle.scope.specs.Queues.{queueDeleteAt}
 use Rattle.scope.specs.Ticks.{isDue, wakeDue, tick}
-use Rattle.scope.specs.Calls.{calls}
-use Rattle.scope.proofs.Rows.{either, by-choice}
 use Rattle.laws.proofs.Branches.{true-false, eq-or-not}
 use Rattle.histories.specs.Sound.{Sound}
 use Rattle.histories.specs.History.{Event, answerTo}
-use Rattle.histories.proofs.Answered.{Rows, none, more, by-name, by-row, Does}
+use Rattle.histories.proofs.Deeds.{TaskMove, task-deleted, task-started, task-suspended, task-resumed, priority-set}
+use Rattle.histories.proofs.Deeds.{Deed, refused, tells, tasks-change, task-moves, sems-change, pools-change, queues-change, caller-waits, first-woken, sem-deleted}
+use Rattle.histories.proofs.Deeds.{receiver-waits, delivered, queue-deleted, time-passes, by-deed}
 use Rattle.books.specs.Past.{isAnswer}
 use Rattle.books.proofs.Agreeing.{turnOf, is-answer}
 
@@ -91,114 +93,29 @@ module _ (s : State) (x : Event) where
   stay status = kept (plain s status) refl
 
 module _ (s : State) (ok : Sound s) (x : Event) where
-  abbrev P : Answer → Type 0
-  P a = Lasts s x a
-
-  still : (status : ℕ) → eqb status OK ≡ false → P (plain s status)
-  still status e = stay s x status
-
-  task-create : P (taskCreate s (x .a) (x .b))
-  unfolding taskCreate taskCreateAt gives answer
-  task-create = either P _ (stay s x _) (either P _ (stay s x _) (kept s x _ refl))
-
-  task-delete : P (taskDelete s (x .a))
-  unfolding taskDeleteAt plain answer
-  task-delete = by-name P s still _ (taskDeleteAt s) (λ t e. zeroed s x (taskDeleteAt s t) (zeroed-one (s .line .left) t))
-
-  task-ident : P (taskIdent s (x .a))
-  unfolding taskIdent taskIdentAt gives answer
-  task-ident = either P _ (stay s x _) (kept s x _ refl)
-
-  task-start : P (taskStart s (x .a))
-  unfolding taskStartAt plain answer
-  task-start = by-name P s still _ (taskStartAt s) (λ t e. either P _ (stay s x _) (kept s x _ refl))
-
-  task-suspend : P (taskSuspend s (x .a))
-  unfolding taskSuspendAt plain answer
-  task-suspend =
-      by-name P s still _ (taskSuspendAt s)
-      (λ t e. either P _ (stay s x _) (either P _ (stay s x _) (either P _ (kept s x _ refl) (kept s x _ refl))))
-
-  task-resume : P (taskResume s (x .a))
-  unfolding taskResumeAt plain answer
-  task-resume =
-      by-name P s still _ (taskResumeAt s)
-      (λ t e. either P _ (stay s x _) (either P _ (stay s x _) (either P _ (kept s x _ refl) (kept s x _ refl))))
-
-  task-set-priority : P (taskSetPriority s (x .a) (x .b))
-  unfolding taskSetPriorityAt gives answer
-  task-set-priority =
-      by-name P s still _ (taskSetPriorityAt s (x .b)) (λ t e. either P _ (stay s x _) (either P _ (kept s x _ refl) (kept s x _ refl)))
-
-  sem-create : P (semCreate s (x .a) (x .b) (x .c))
-  unfolding semCreate semCreateAt gives answer
-  sem-create = either P _ (stay s x _) (either P _ (stay s x _) (either P _ (stay s x _) (kept s x _ refl)))
-
-  sem-delete : P (semDelete s (x .a))
-  unfolding semDeleteAt wakesWith
-  sem-delete =
-      by-name P s still _ (semDeleteAt s) (λ i e. zeroed s x (semDeleteAt s i) (all-zeroed (s .tasks) i 32 (noneWoken (s .line))))
-
-  sem-ident : P (semIdent s (x .a))
-  unfolding semIdent semIdentAt gives answer
-  sem-ident = either P _ (stay s x _) (kept s x _ refl)
-
   -- the caller waits, with the time_out that it asked for
-  pending : (i : ℕ) → P (semWaitAt s (x .c) i)
-  unfolding semWaitAt waits plain answer
-  pending i =
-      by-choice P _ (λ e. kept s x _ refl)
-      (λ e. record {
+  pending : (o : ℕ) (fifo : Bool) (priority : ℕ) → s .running < 32
+      → Lasts s x (answer (withLine s (waits (s .line) o fifo priority (x .c) (s .running))) PENDING 0 0 0 0 false)
+  unfolding waits answer
+  pending o fifo priority h =
+      record {
         each = λ t. ⊎-elim
             (λ d. inr (inr (
               d,
               ap (λ (v : ℕ). getD (set (s .line .left) (s .running) (x .c)) v 0) d
-                  ∙ getD-set-same (s .line .left) (s .running) (x .c) 0 (omega (arith, leb-false 32 (s .running) e, ok .line .lefts)),
+                  ∙ getD-set-same (s .line .left) (s .running) (x .c) 0 (omega (arith, h, ok .line .lefts)),
             )))
             (λ ne. inl (getD-set-other (s .line .left) (s .running) t (x .c) 0 ne))
             (eq-or-not t (s .running));
-      })
+      }
 
-  sem-claim : P (semClaim s (x .a) (x .b) (x .c))
-  unfolding semClaimAt plain answer
-  sem-claim =
-      by-name P s still _ (semClaimAt s (x .b) (x .c))
-      (λ i e. either P _ (kept s x _ refl) (either P _ (kept s x _ refl) (either P _ (kept s x _ refl) (either P _ (kept s x _ refl) (pending i)))))
-
-  sem-release : P (semRelease s (x .a))
-  unfolding semReleaseAt wakesWith plain answer
-  sem-release =
-      by-name P s still _ (semReleaseAt s)
-      (λ i e. either P _ (kept s x _ refl) (either P _ (zeroed s x _ (next-zeroed (s .tasks) (noneWoken (s .line)) _)) (kept s x _ refl)))
-
-  sem-info : P (semInfo s (x .a))
-  unfolding semInfoAt answer
-  sem-info = by-name P s still _ (semInfoAt s) (λ i e. kept s x (semInfoAt s i) refl)
-
-  pool-create : P (poolCreate s (x .a) (x .b) (x .c) (x .d) (x .e))
-  unfolding poolCreate poolCreateAt gives answer
-  pool-create =
-      either P _ (stay s x _) (either P _ (stay s x _) (either P _ (stay s x _) (either P _ (stay s x _) (either P _ (stay s x _) (kept s x _ refl)))))
-
-  pool-delete : P (poolDelete s (x .a))
-  unfolding poolDeleteAt plain answer
-  pool-delete = by-name P s still _ (poolDeleteAt s) (λ i e. either P _ (kept s x _ refl) (kept s x _ refl))
-
-  pool-ident : P (poolIdent s (x .a))
-  unfolding poolIdent poolIdentAt gives answer
-  pool-ident = either P _ (stay s x _) (kept s x _ refl)
-
-  pool-get : P (poolGetBuff s (x .a))
-  unfolding poolGetBuffAt poolGetBuffer gives answer
-  pool-get = by-name P s still _ (poolGetBuffAt s) (λ i e. either P _ (stay s x _) (kept s x _ refl))
-
-  pool-return : P (poolRetBuff s (x .a) (x .b))
-  unfolding poolRetBuffAt poolRetBuffer plain answer
-  pool-return = by-name P s still _ (poolRetBuffAt s (x .b)) (λ i e. either P _ (kept s x _ refl) (kept s x _ refl))
-
-  pool-info : P (poolInfo s (x .a))
-  unfolding poolInfoAt answer
-  pool-info = by-name P s still _ (poolInfoAt s) (λ i e. kept s x (poolInfoAt s i) refl)
+  move-lasts : {k : Tasks} {l : Line} {v : ℕ} → TaskMove s x k l v → Lasts s x (answer (withLine (withTasks s k) l) OK v 0 0 0 false)
+  unfolding answer
+  move-lasts (task-deleted at t e) = zeroed s x _ (zeroed-one (s .line .left) t)
+  move-lasts (task-started at t e f) = kept s x _ refl
+  move-lasts (task-suspended at t e f g h) = kept s x _ refl
+  move-lasts (task-resumed at t e f g h) = kept s x _ refl
+  move-lasts (priority-set at t e f g) = kept s x _ refl
 
   -- but a tick answered OK
   abbrev Q : Answer → Type 0
@@ -208,30 +125,23 @@ module _ (s : State) (ok : Sound s) (x : Event) where
   unfolding tick wakesWith
   a-tick at other = absurd (true-false (is-answer (turnOf x (tick s)) 0 OK at refl) other)
 
-  all-rows : Rows (Does Q s (λ status e other. stay s x status) x) 0 calls
-  all-rows =
-      more a-tick
-      (more (λ at other. task-create)
-      (more (λ at other. task-delete)
-      (more (λ at other. task-ident)
-      (more (λ at other. task-start)
-      (more (λ at other. task-suspend)
-      (more (λ at other. task-resume)
-      (more (λ at other. task-set-priority)
-      (more (λ at other. sem-create)
-      (more (λ at other. sem-delete)
-      (more (λ at other. sem-ident)
-      (more (λ at other. sem-claim)
-      (more (λ at other. sem-release)
-      (more (λ at other. sem-info)
-      (more (λ at other. pool-create)
-      (more (λ at other. pool-delete)
-      (more (λ at other. pool-ident)
-      (more (λ at other. pool-get)
-      (more (λ at other. pool-return)
-      (more (λ at other. pool-info)
-      none)))))))))))))))))))
+  deed-lasts : {a : Answer} → Deed s x a → Q a
+  unfolding plain answer shows wakesWith deliversTo semDeleteAt queueDeleteAt
+  deed-lasts (refused status e f listed) other = stay s x status
+  deed-lasts (tells call at e v0 v1 v2 v3 negative) other = kept s x _ refl
+  deed-lasts (tasks-change c) other = kept s x _ refl
+  deed-lasts (task-moves c) other = move-lasts c
+  deed-lasts (sems-change c) other = kept s x _ refl
+  deed-lasts (pools-change c) other = kept s x _ refl
+  deed-lasts (queues-change c) other = kept s x _ refl
+  deed-lasts (caller-waits at i e f g time) other = pending i _ _ (leb-false 32 (s .running) g)
+  deed-lasts (first-woken at i e f) other = zeroed s x _ (next-zeroed (s .tasks) (noneWoken (s .line)) _)
+  deed-lasts (sem-deleted at i e) other = zeroed s x _ (all-zeroed (s .tasks) i 32 (noneWoken (s .line)))
+  deed-lasts (receiver-waits at i e f g time) other = pending (queueObject i) _ _ (leb-false 32 (s .running) g)
+  deed-lasts (delivered c i e f g) other = zeroed s x _ (next-zeroed (s .tasks) (noneWoken (s .line)) _)
+  deed-lasts (queue-deleted at i e) other = zeroed s x _ (all-zeroed (s .tasks) (queueObject i) 32 (noneWoken (s .line)))
+  deed-lasts (time-passes at) other = a-tick at other
 
   pub event-lasts : isAnswer 0 OK (turnOf x (answerTo s x)) ≡ false → Lasts s x (answerTo s x)
   unfolding badState
-  event-lasts = by-row Q s (λ status e other. stay s x status) x (λ other. kept s x (badState s) refl) all-rows
+  event-lasts = by-deed s x Q (λ a d. deed-lasts d) (λ h other. kept s x (badState s) refl)

@@ -1,5 +1,5 @@
 -- What the answers tell of releases, grants and initial counts agrees with the totals over a history: turn by turn, since a wake
--- with 0 is a grant of the semaphore that the woken task waited for, and an identifier is given out once.
+-- with 0 that delivers no message is a grant of the semaphore that the woken task waited for, and an identifier is given out once.
 -- Assumes nothing.
 use Prim.Native.Nat.{ℕ, _+_, _/_, _%_, _≤_, _<_}
 use native.Mathlib.Omega.{arith}
@@ -17,7 +17,6 @@ use Rattle.scope.specs.Statuses.{OK}
 use Rattle.scope.specs.Identifiers.{identifier, lowestUsable}
 use Rattle.scope.specs.Answers.{answer, plain, gives, badState, wakesWith}
 use Rattle.scope.specs.Semaphores.{semFound, semCreateAt, semCreate, semReleaseAt}
-use Rattle.scope.specs.Replies.{Wake, wakeList}
 use Rattle.scope.specs.Fresh.{freshState}
 use Rattle.scope.proofs.Rows.{by-choice}
 use Rattle.laws.proofs.Branches.{both, both-true, first-fails, true-or-false, eq-or-not, picked-yes, picked-no}
@@ -32,13 +31,13 @@ use Rattle.histories.proofs.Units.{semaphores-entered}
 use Rattle.histories.proofs.Ledger.{Creation, event-keeps}
 use Rattle.histories.proofs.Fresh.{fresh-sound}
 use Rattle.books.specs.Past.{Turn, isAnswer, isAnswerOf, value, creates, pastFrom, pastOf}
-use Rattle.books.specs.Waiting.{initialCount, claimed, releases, grantedTo, grants}
-use Rattle.books.proofs.Granting.{nobody, only-releases-grant}
+use Rattle.books.specs.Waiting.{initialCount, claimed, releases, grantedTo, wakesGrant, grants}
+use Rattle.books.proofs.Granting.{nobody, wakes-all, wakes-none, wakes-nobody, only-releases-grant}
 use Rattle.books.proofs.Agreeing.{turnOf, Agrees, is-answer, is-new}
 use Rattle.books.proofs.Telling.{event-steps}
 use Rattle.books.proofs.Told.{fresh-agrees}
 use Rattle.books.proofs.Releasing.{Released, release-done, wakes-one}
-use Rattle.books.specs.Told.{taskId, NoGrant}
+use Rattle.books.specs.Told.{taskId}
 
 and-swap : (a b c : Bool) → ((a && b) && c) ≡ (a && (c && b))
 and-swap true true true = refl
@@ -55,11 +54,6 @@ same-test call id x a = and-swap (eqb (x .call) call) (eqb (a .status) OK) (eqb 
 releases-turn : (id : ℕ) (x : Event) (a : Answer) → pick {A = ℕ} (isAnswerOf 12 id OK (turnOf x a)) 1 0 ≡ releasesOf id x a
 unfolding releasesOf
 releases-turn id x a = ap (λ (b : Bool). pick {A = ℕ} b 1 0) (same-test 12 id x a)
-
-none-granted : (past : List Turn) (id : ℕ) (ws : List Wake) → NoGrant ws → grantedTo past id ws ≡ 0
-none-granted past id [] n = refl
-none-granted past id (w ∷ ws) n =
-    omega (arith, picked-no {A = ℕ} (eqb (w .status) OK && eqb (claimed past (w .task)) id) 1 0 (first-fails _ _ (ne-eqb _ _ (n .0))), none-granted past id ws (n .1))
 
 module _ (s : State) where
   -- a release that is refused wakes nobody
@@ -81,10 +75,14 @@ module _ (p : ℕ) (s : State) (ok : Sound s) (past : List Turn) (told : Arrival
   abbrev a : Answer
   a = answerTo s x
 
+  abbrev y : Turn
+  y = turnOf x a
+
   -- the grants of a release
-  released-one : x .call ≡ 12 → a .status ≡ OK → Released s (x .a) a → grantedTo past id (wakeList a) ≡ pick (answeredOK 12 id x a && eqb (a .why) OK) (a .woken) 0
+  released-one : x .call ≡ 12 → a .status ≡ OK → Released s (x .a) a → wakesGrant past id y ≡ pick (answeredOK 12 id x a && eqb (a .why) OK) (a .woken) 0
   released-one at done r =
-      ⊎-elim
+      wakes-all past id y (r .says)
+      ∙ ⊎-elim
       (λ z. ap (grantedTo past id) (nobody (a .woken) z (a .wakes) (a .why)) ∙ nothing z)
       (λ z. let hi : r .slot < 16 = omega (arith, found-below (s .semaphores .serial) (s .semaphores .live) (x .a) (r .names), ok .semaphores .sized .serials) in
       let c : claimed past (taskId s (z .0)) ≡ x .a =
@@ -114,22 +112,22 @@ module _ (p : ℕ) (s : State) (ok : Sound s) (past : List Turn) (told : Arrival
           ))
           (eq-or-not (x .a) id)
 
-  by-release : x .call ≡ 12 → grantedTo past id (wakeList a) ≡ pick (answeredOK 12 id x a && eqb (a .why) OK) (a .woken) 0
+  by-release : x .call ≡ 12 → wakesGrant past id y ≡ pick (answeredOK 12 id x a && eqb (a .why) OK) (a .woken) 0
   by-release at =
       ⊎-elim
       (λ done. released-one at done (release-done s x at done))
-      (λ n. ap (grantedTo past id) (nobody (a .woken) (release-quiet s x at n) (a .wakes) (a .why))
+      (λ n. wakes-nobody past id y (nobody (a .woken) (release-quiet s x at n) (a .wakes) (a .why))
       ∙ sym (picked-no {A = ℕ} _ (a .woken) 0 (first-fails _ _ (by-status 12 id x a (ne-eqb _ _ n)))))
       (eq-or-not (a .status) OK)
 
-  grants-turn : pick (isAnswerOf 11 id OK (turnOf x a)) 1 0 + grantedTo past id (wakeList a) ≡ grantsOf id x a
+  grants-turn : pick (isAnswerOf 11 id OK y) 1 0 + wakesGrant past id y ≡ grantsOf id x a
   unfolding grantsOf
   grants-turn =
       ⊎-elim
       (λ at. let none : answeredOK 11 id x a ≡ false = by-call 11 id x a (ap (λ (k : ℕ). eqb k 11) at) in
       omega (
         arith,
-        picked-no {A = ℕ} (isAnswerOf 11 id OK (turnOf x a)) 1 0 (same-test 11 id x a ∙ none),
+        picked-no {A = ℕ} (isAnswerOf 11 id OK y) 1 0 (same-test 11 id x a ∙ none),
         picked-no {A = ℕ} (answeredOK 11 id x a) 1 (pick (answeredOK 12 id x a && eqb (a .why) OK) (a .woken) 0) none,
         by-release at,
       ))
@@ -137,7 +135,7 @@ module _ (p : ℕ) (s : State) (ok : Sound s) (past : List Turn) (told : Arrival
       picked-no {A = ℕ} _ (a .woken) 0 (first-fails _ _ (by-call 12 id x a (ne-eqb _ _ ne))) in
       omega (
         arith,
-        none-granted past id (wakeList a) (only-releases-grant s x ne),
+        wakes-none past id y (only-releases-grant s x ne),
         ap (λ (b : Bool). pick {A = ℕ} b 1 0) (same-test 11 id x a),
         ap (λ (n : ℕ). pick {A = ℕ} (answeredOK 11 id x a) 1 n) e,
       ))

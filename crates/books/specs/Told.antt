@@ -1,63 +1,100 @@
--- What is proved of the answers: what the state says beside them, and what sem_info, a release, pool_info and a get answer, told by
--- the turns before.
+-- What is proved of the answers: what the state says beside them, and what sem_info, a release, a send or jump, pool_info and a get
+-- answer, told by the turns before.
 -- Assumes nothing.
 use Prim.Native.Nat.{ℕ, _+_, _*_, _<_}
 use mathlib.Core.Path.{_≡_}
-use mathlib.Core.Bool.{true, false}
+use mathlib.Core.Bool.{Bool, true, false}
 use mathlib.Core.List.{List, [], _∷_}
 use lib.ListN.{length, getD}
 use Rattle.scope.specs.declared.State.{State}
 use Rattle.scope.specs.Statuses.{OK}
-use Rattle.scope.specs.Identifiers.{identifier}
+use Rattle.scope.specs.declared.Found.the-variants.{At}
+use Rattle.scope.specs.Identifiers.{identifier, found}
+use Rattle.scope.specs.Objects.{queueObject}
 use Rattle.scope.specs.Lists.{has}
 use Rattle.scope.specs.Views.{waitersOf, less, runningTask}
 use Rattle.scope.specs.Answers.{bitOf}
+use Rattle.scope.specs.Messages.{shownOf}
 use Rattle.scope.specs.Replies.{Wake, Reply}
-use Rattle.histories.specs.History.{SemaphoreAt}
 use Rattle.histories.specs.Order.{WaitsFor}
 use Rattle.books.specs.Past.{Turn, runningIn}
-use Rattle.books.specs.Waiting.{initialCount, isFifo, priorityIn, claimed, joinedWith, waiting, releases, grants, Precedes}
+use Rattle.books.specs.Waiting.{Kind, aSemaphore, aQueue, initialCount, fifoOf, isFifo, priorityIn, namedBy, joinedAs, waitersFor, waiting, receiving, releases, grants, PrecedesIn, Precedes}
 use Rattle.books.specs.Held.{addressIn, sizeIn, isForced, buffersIn, poolLives, held, freeLonger}
 
--- a task's identifier, a semaphore's, by its slot
+-- how many semaphores there are, and queues; which object one is, by its slot; and the columns of its table
+abbrev pub roomOf : Kind → ℕ
+roomOf aSemaphore = 16
+roomOf aQueue = 8
+
+abbrev pub objectOf : Kind → ℕ → ℕ
+objectOf aSemaphore i = i
+objectOf aQueue i = queueObject i
+
+abbrev pub serialsOf : Kind → State → List ℕ
+serialsOf aSemaphore s = s .semaphores .serial
+serialsOf aQueue s = s .queues .serial
+
+abbrev pub livesOf : Kind → State → List Bool
+livesOf aSemaphore s = s .semaphores .live
+livesOf aQueue s = s .queues .live
+
+abbrev pub fifosOf : Kind → State → List Bool
+fifosOf aSemaphore s = s .semaphores .fifo
+fifosOf aQueue s = s .queues .fifo
+
+-- a task's identifier, a semaphore's or a queue's, by its slot
 abbrev pub taskId : State → ℕ → ℕ
 taskId s t = identifier (getD (s .tasks .serial) t 0) t
 
+abbrev pub idOf : Kind → State → ℕ → ℕ
+idOf kind s i = identifier (getD (serialsOf kind s) i 0) i
+
 abbrev pub semId : State → ℕ → ℕ
-semId s i = identifier (getD (s .semaphores .serial) i 0) i
+semId = idOf aSemaphore
 
 -- each stands on the list once
 abbrev pub Once : List ℕ → Type 0
 Once [] = Unit {0}
 Once (x ∷ xs) = (has xs x ≡ false) × Once xs
 
--- y is a task that waits for the semaphore that id names
-pub record StandsAt (s : State) (id y : ℕ) : Type 0 where
+-- id names the live semaphore, or queue, in slot i
+abbrev pub ObjectAt : Kind → State → ℕ → ℕ → Type 0
+ObjectAt kind s id i = found (serialsOf kind s) (livesOf kind s) id ≡ At i
+
+-- y is a task that waits for the object of this kind that id names
+pub record StandsFor (kind : Kind) (s : State) (id y : ℕ) : Type 0 where
   pub slot : ℕ
   pub task : ℕ
-  pub names : SemaphoreAt s id slot
-  pub waits : WaitsFor s slot task
+  pub names : ObjectAt kind s id slot
+  pub waits : WaitsFor s (objectOf kind slot) task
   pub who : y ≡ taskId s task
 
--- The state says what the answers tell.
-pub record SeatsTold (p : ℕ) (s : State) (past : List Turn) : Type 0 where
+abbrev pub StandsAt : State → ℕ → ℕ → Type 0
+StandsAt = StandsFor aSemaphore
+
+-- The state says what the answers tell, of the objects of a kind.
+pub record QueuesTold (kind : Kind) (p : ℕ) (s : State) (past : List Turn) : Type 0 where
   pub running : runningIn past ≡ runningTask s
   pub priority : (t : ℕ) → t < 32 → getD (s .tasks .live) t false ≡ true → priorityIn p past (taskId s t) ≡ getD (s .tasks .priority) t 0
-  pub fifo : (i : ℕ) → i < 16 → getD (s .semaphores .live) i false ≡ true → isFifo past (semId s i) ≡ getD (s .semaphores .fifo) i false
-  -- who stands in a queue is on the semaphore's list, and the other way round; each once
-  pub listed : (i : ℕ) → i < 16 → (t : ℕ) → WaitsFor s i t → has (waiting past (semId s i)) (taskId s t) ≡ true
-  pub stands : (i : ℕ) → i < 16 → (t : ℕ) → t < 32 → has (waiting past (semId s i)) (taskId s t) ≡ true → WaitsFor s i t
-  pub others : (id y : ℕ) → has (waiting past id) y ≡ true → StandsAt s id y
-  pub once : (id : ℕ) → Once (waiting past id)
-  pub number : (i : ℕ) → i < 16 → length (waiting past (semId s i)) ≡ waitersOf (s .line) i
+  pub fifo : (i : ℕ) → i < roomOf kind → getD (livesOf kind s) i false ≡ true → fifoOf kind past (idOf kind s i) ≡ getD (fifosOf kind s) i false
+  -- who stands in a queue is on the object's list, and the other way round; each once
+  pub listed : (i : ℕ) → i < roomOf kind → (t : ℕ) → WaitsFor s (objectOf kind i) t → has (waitersFor kind past (idOf kind s i)) (taskId s t) ≡ true
+  pub stands : (i : ℕ) → i < roomOf kind → (t : ℕ) → t < 32 → has (waitersFor kind past (idOf kind s i)) (taskId s t) ≡ true
+      → WaitsFor s (objectOf kind i) t
+  pub others : (id y : ℕ) → has (waitersFor kind past id) y ≡ true → StandsFor kind s id y
+  pub once : (id : ℕ) → Once (waitersFor kind past id)
+  pub number : (i : ℕ) → i < roomOf kind → length (waitersFor kind past (idOf kind s i)) ≡ waitersOf (s .line) (objectOf kind i)
   -- what is told of who stands in a queue
-  pub claims : (i : ℕ) → i < 16 → (t : ℕ) → WaitsFor s i t → claimed past (taskId s t) ≡ semId s i
-  pub joined : (i : ℕ) → i < 16 → (t : ℕ) → WaitsFor s i t → joinedWith p past (taskId s t) ≡ getD (s .line .joined) t 0
+  pub claims : (i : ℕ) → i < roomOf kind → (t : ℕ) → WaitsFor s (objectOf kind i) t → namedBy kind past (taskId s t) ≡ idOf kind s i
+  pub joined : (i : ℕ) → i < roomOf kind → (t : ℕ) → WaitsFor s (objectOf kind i) t → joinedAs kind p past (taskId s t) ≡ getD (s .line .joined) t 0
   -- the order
-  pub forward : (i : ℕ) → i < 16 → (t u : ℕ) → WaitsFor s i t → WaitsFor s i u → getD (s .line .seat) t 0 < getD (s .line .seat) u 0
-      → Precedes p past (semId s i) (taskId s t) (taskId s u)
-  pub back : (i : ℕ) → i < 16 → (t u : ℕ) → WaitsFor s i t → WaitsFor s i u → Precedes p past (semId s i) (taskId s t) (taskId s u)
-      → getD (s .line .seat) t 0 < getD (s .line .seat) u 0
+  pub forward : (i : ℕ) → i < roomOf kind → (t u : ℕ) → WaitsFor s (objectOf kind i) t → WaitsFor s (objectOf kind i) u
+      → getD (s .line .seat) t 0 < getD (s .line .seat) u 0 → PrecedesIn kind p past (idOf kind s i) (taskId s t) (taskId s u)
+  pub back : (i : ℕ) → i < roomOf kind → (t u : ℕ) → WaitsFor s (objectOf kind i) t → WaitsFor s (objectOf kind i) u
+      → PrecedesIn kind p past (idOf kind s i) (taskId s t) (taskId s u) → getD (s .line .seat) t 0 < getD (s .line .seat) u 0
+
+abbrev pub SeatsTold : ℕ → State → List Turn → Type 0
+SeatsTold = QueuesTold aSemaphore
 
 -- "sem_info gives options, count, tasks waiting": what it gives of semaphore id. A negative count's size is the second value.
 pub record SemInfoTold (past : List Turn) (id : ℕ) (reply : Reply) : Type 0 where
@@ -75,6 +112,17 @@ pub record GrantTold (p : ℕ) (past : List Turn) (id : ℕ) (wakes : List Wake)
   pub only : wakes ≡ record { task = task; status = OK } ∷ []
   pub waited : has (waiting past id) task ≡ true
   pub first : (u : ℕ) → has (waiting past id) u ≡ true → (u ≡ task → ⊥) → Precedes p past id task u
+
+-- M-100, "A message goes to the first waiter": the reply to a send or jump of n bytes of the message lent wakes one task, with status 0,
+-- and shows it the message: it waited for queue id, and precedes all others who do
+pub record DeliveryTold (p : ℕ) (past : List Turn) (id n : ℕ) (message : List ℕ) (reply : Reply) : Type 0 where
+  pub task : ℕ
+  pub only : reply .wakes ≡ record { task = task; status = OK } ∷ []
+  pub says : reply .delivers ≡ true
+  pub long : reply .length ≡ n
+  pub shown : reply .shown ≡ shownOf message n
+  pub waited : has (receiving past id) task ≡ true
+  pub first : (u : ℕ) → has (receiving past id) u ≡ true → (u ≡ task → ⊥) → PrecedesIn aQueue p past id task u
 
 -- nobody on the wake list is woken with 0
 abbrev pub NoGrant : List Wake → Type 0

@@ -1,11 +1,12 @@
 -- The grants that the grid counts are those of demand 3's books: from each semaphore as many as its books have, in every history. Turn by
--- turn: a claim answered OK is one of both; only a release wakes with 0, and whom it wakes had claimed that semaphore.
+-- turn: a claim answered OK is one of both; only a release wakes with 0, and whom it wakes had claimed that semaphore; a delivery, which
+-- wakes with 0 too, is none of either.
 -- Assumes nothing.
 use Prim.Native.Nat.{ℕ, _+_, _≤_, _<_}
 use native.Mathlib.Omega.{arith}
 use mathlib.Core.Path.{_≡_, refl, sym, ap, _∙_}
 use mathlib.Core.Logic.{⊎-elim}
-use mathlib.Core.Bool.{Bool, true, false, _&&_}
+use mathlib.Core.Bool.{Bool, true, false}
 use mathlib.Core.List.{List, [], _∷_, _++_}
 use lib.ListN.{length}
 use lib.Dec.{eqb}
@@ -14,21 +15,22 @@ use Rattle.scope.specs.declared.State.{State}
 use Rattle.scope.specs.declared.Answer.{Answer}
 use Rattle.scope.specs.Choice.{pick}
 use Rattle.scope.specs.Statuses.{OK}
-use Rattle.scope.specs.Answers.{answer, plain, badState, wakesWith}
-use Rattle.scope.specs.Replies.{Wake}
+use Rattle.scope.specs.Answers.{answer, plain, badState, shows, wakesWith, deliversTo}
 use Rattle.scope.specs.Semaphores.{semDeleteAt}
+use Rattle.scope.specs.Queues.{queueDeleteAt}
 use Rattle.scope.specs.Ticks.{tick}
-use Rattle.laws.proofs.Branches.{eq-or-not, first-fails, true-or-false, second-decides, picked-no}
+use Rattle.laws.proofs.Branches.{eq-or-not, true-or-false, second-decides, picked-no}
 use Rattle.tables.proofs.Laws.{found-below, found-identifier}
 use Rattle.histories.specs.Sound.{Sound}
 use Rattle.histories.specs.History.{Event, answerTo}
 use Rattle.histories.specs.Order.{Arrivals, WaitsFor}
-use Rattle.histories.proofs.Deeds.{Deed, refused, tells, tasks-change, task-moves, sems-change, pools-change, caller-waits, first-woken, sem-deleted, time-passes, by-deed}
+use Rattle.histories.proofs.Deeds.{Deed, refused, tells, tasks-change, task-moves, sems-change, pools-change, queues-change, caller-waits, first-woken, sem-deleted}
+use Rattle.histories.proofs.Deeds.{receiver-waits, delivered, queue-deleted, time-passes, by-deed}
 use Rattle.books.specs.Past.{Turn, isAnswer, isAnswerOf, pastOf}
-use Rattle.books.specs.Told.{NoGrant, taskId, semId}
-use Rattle.books.specs.Waiting.{claimed, grantedTo, grants}
+use Rattle.books.specs.Told.{taskId, semId}
+use Rattle.books.specs.Waiting.{grantedTo, wakesGrant, grants}
 use Rattle.books.proofs.Agreeing.{turnOf, Agrees, not-call, not-status, is-answer, not-of}
-use Rattle.books.proofs.Granting.{nobody, only-releases-grant}
+use Rattle.books.proofs.Granting.{nobody, wakes-all, wakes-none, wakes-nobody, only-releases-grant}
 use Rattle.books.proofs.Releasing.{Released, release-done, wakes-one}
 use Rattle.grids.specs.Grants.{Given, wokenBy, grantsAt, grantsSince, fromSemaphore}
 use Rattle.grids.proofs.Along.{history-has}
@@ -38,32 +40,25 @@ from-both : (id : ℕ) (xs ys : List Given) → fromSemaphore id (xs ++ ys) ≡ 
 from-both id [] ys = omega arith
 from-both id (x ∷ xs) ys = omega (arith, from-both id xs ys)
 
--- nobody is woken with 0
-none-granted : (past : List Turn) (id : ℕ) (ws : List Wake) → NoGrant ws → grantedTo past id ws ≡ 0
-none-granted past id [] free = refl
-none-granted past id (w ∷ ws) free =
-    omega (
-      arith,
-      none-granted past id ws (free .1),
-      picked-no {A = ℕ} (eqb (w .status) OK && eqb (claimed past (w .task)) id) 1 0
-          (first-fails (eqb (w .status) OK) (eqb (claimed past (w .task)) id) (ne-eqb (w .status) OK (free .0))),
-    )
-
 -- what is not done wakes nobody
 record Wakes (a : Answer) : Type 0 where
   unless : eqb (a .status) OK ≡ false → a .woken ≡ 0
 
 deed-wakes : (s : State) (x : Event) {a : Answer} → Deed s x a → Wakes a
-unfolding plain answer wakesWith semDeleteAt tick
+unfolding plain answer shows wakesWith deliversTo semDeleteAt queueDeleteAt tick
 deed-wakes s x (refused status e f listed) = record { unless = λ d. refl }
 deed-wakes s x (tells call at e v0 v1 v2 v3 negative) = record { unless = λ d. refl }
 deed-wakes s x (tasks-change c) = record { unless = λ d. refl }
 deed-wakes s x (task-moves c) = record { unless = λ d. refl }
 deed-wakes s x (sems-change c) = record { unless = λ d. refl }
 deed-wakes s x (pools-change c) = record { unless = λ d. refl }
+deed-wakes s x (queues-change c) = record { unless = λ d. refl }
 deed-wakes s x (caller-waits at i e f g time) = record { unless = λ d. refl }
 deed-wakes s x (first-woken at i e f) = record { unless = λ d. absurd (eqb-false OK OK d refl) }
 deed-wakes s x (sem-deleted at i e) = record { unless = λ d. absurd (eqb-false OK OK d refl) }
+deed-wakes s x (receiver-waits at i e f g time) = record { unless = λ d. refl }
+deed-wakes s x (delivered c i e f g) = record { unless = λ d. absurd (eqb-false OK OK d refl) }
+deed-wakes s x (queue-deleted at i e) = record { unless = λ d. absurd (eqb-false OK OK d refl) }
 deed-wakes s x (time-passes at) = record { unless = λ d. absurd (eqb-false OK OK d refl) }
 
 event-wakes : (s : State) (x : Event) → Wakes (answerTo s x)
@@ -76,7 +71,7 @@ module _ (s : State) (ok : Sound s) (x : Event) (past : List Turn) (p : ℕ) (to
   y = turnOf x (answerTo s x)
 
   abbrev Same : Type 0
-  Same = fromSemaphore id (grantsAt past y) ≡ pick (isAnswerOf 11 id OK y) 1 0 + grantedTo past id (y .reply .wakes)
+  Same = fromSemaphore id (grantsAt past y) ≡ pick (isAnswerOf 11 id OK y) 1 0 + wakesGrant past id y
 
   not-claim : isAnswer 11 OK y ≡ false → pick {A = ℕ} (isAnswerOf 11 id OK y) 1 0 ≡ 0
   not-claim e = picked-no (isAnswerOf 11 id OK y) 1 0 (not-of y 11 id OK e)
@@ -88,13 +83,13 @@ module _ (s : State) (ok : Sound s) (x : Event) (past : List Turn) (p : ℕ) (to
   other-call : (x .call ≡ 12 → ⊥) → Same
   other-call ne =
       ⊎-elim
-      (λ e. ap (fromSemaphore id) (claim-grants y past e) ∙ (let z : pick {A = ℕ} (eqb (x .a) id) 1 0 + 0 ≡ pick (isAnswerOf 11 id OK y) 1 0 + grantedTo past id (y .reply .wakes) =
+      (λ e. ap (fromSemaphore id) (claim-grants y past e) ∙ (let z : pick {A = ℕ} (eqb (x .a) id) 1 0 + 0 ≡ pick (isAnswerOf 11 id OK y) 1 0 + wakesGrant past id y =
       omega (arith, none, ap (λ (b : Bool). pick {A = ℕ} b 1 0) (claim e)) in z))
-      (λ e. ap (fromSemaphore id) (no-grants y past e no12) ∙ (let z : 0 ≡ pick {A = ℕ} (isAnswerOf 11 id OK y) 1 0 + grantedTo past id (y .reply .wakes) = omega (arith, none, not-claim e) in z))
+      (λ e. ap (fromSemaphore id) (no-grants y past e no12) ∙ (let z : 0 ≡ pick {A = ℕ} (isAnswerOf 11 id OK y) 1 0 + wakesGrant past id y = omega (arith, none, not-claim e) in z))
       (true-or-false (isAnswer 11 OK y))
     where
-      none : grantedTo past id (y .reply .wakes) ≡ 0
-      none = none-granted past id (y .reply .wakes) (only-releases-grant s x ne)
+      none : wakesGrant past id y ≡ 0
+      none = wakes-none past id y (only-releases-grant s x ne)
 
       no12 : isAnswer 12 OK y ≡ false
       no12 = not-call y 12 OK (ne-eqb (x .call) 12 ne)
@@ -105,7 +100,7 @@ module _ (s : State) (ok : Sound s) (x : Event) (past : List Turn) (p : ℕ) (to
 
     -- nobody is woken
     silent : y .reply .wakes ≡ [] → fromSemaphore id (grantsAt past y) ≡ 0 → Same
-    silent e d = d ∙ (let z : 0 ≡ pick {A = ℕ} (isAnswerOf 11 id OK y) 1 0 + grantedTo past id (y .reply .wakes) = omega (arith, not-claim no11, ap (grantedTo past id) e) in z)
+    silent e d = d ∙ (let z : 0 ≡ pick {A = ℕ} (isAnswerOf 11 id OK y) 1 0 + wakesGrant past id y = omega (arith, not-claim no11, wakes-nobody past id y e) in z)
 
     undone : (answerTo s x .status ≡ OK → ⊥) → Same
     undone ne =
@@ -135,8 +130,14 @@ module _ (s : State) (ok : Sound s) (x : Event) (past : List Turn) (p : ℕ) (to
         one : (t : ℕ) → WaitsFor s (r .slot) t → y .reply .wakes ≡ record { task = taskId s t; status = OK } ∷ [] → Same
         one t w only =
             ap (fromSemaphore id) (grants12 ∙ ap (wokenBy (x .a)) only ∙ one-woken (x .a) (taskId s t))
-            ∙ (let z : pick {A = ℕ} (eqb (x .a) id) 1 0 + 0 ≡ pick (isAnswerOf 11 id OK y) 1 0 + grantedTo past id (y .reply .wakes) =
-            omega (arith, not-claim no11, ap (grantedTo past id) only, ap (λ (v : ℕ). pick {A = ℕ} (eqb v id) 1 0) (ag .waiters .claim (r .slot) room t w ∙ sym named)) in z)
+            ∙ (let z : pick {A = ℕ} (eqb (x .a) id) 1 0 + 0 ≡ pick (isAnswerOf 11 id OK y) 1 0 + wakesGrant past id y =
+            omega (
+              arith,
+              not-claim no11,
+              wakes-all past id y (r .says),
+              ap (grantedTo past id) only,
+              ap (λ (v : ℕ). pick {A = ℕ} (eqb v id) 1 0) (ag .waiters .claim (r .slot) room t w ∙ sym named),
+            ) in z)
 
   turn-same : Same
   turn-same = ⊎-elim (λ at. ⊎-elim (λ d. done at d) (λ ne. undone at ne) (eq-or-not (answerTo s x .status) OK)) other-call (eq-or-not (x .call) 12)

@@ -14,6 +14,7 @@ use Rattle.scope.specs.declared.Tasks.{Tasks}
 use Rattle.scope.specs.declared.Line.{Line}
 use Rattle.scope.specs.declared.Semaphores.{Semaphores}
 use Rattle.scope.specs.declared.Pools.{Pools}
+use Rattle.scope.specs.declared.Queues.{Queues}
 use Rattle.scope.specs.declared.Answer.{Answer}
 use Rattle.scope.specs.declared.Found.the-variants.{At}
 use Rattle.scope.specs.Replies.{wakeList}
@@ -23,10 +24,12 @@ use Rattle.scope.specs.Choice.{pick}
 use Rattle.scope.specs.Statuses.{OK, PENDING}
 use Rattle.scope.specs.Identifiers.{identifier, slotOf}
 use Rattle.scope.specs.Seats.{queueSeats, firstOf}
-use Rattle.scope.specs.Views.{withTasks, withLine, withSemaphores, withPools, runningTask}
-use Rattle.scope.specs.Answers.{answer, plain, badState, wakesWith}
+use Rattle.scope.specs.Views.{withTasks, withLine, withSemaphores, withPools, withQueues, runningTask}
+use Rattle.scope.specs.Answers.{answer, plain, badState, shows, wakesWith, deliversTo}
 use Rattle.scope.specs.Waiting.{wakeNext}
 use Rattle.scope.specs.Semaphores.{semFound, semDeleteAt}
+use Rattle.scope.specs.Messages.{Store}
+use Rattle.scope.specs.Queues.{queueDeleteAt}
 use Rattle.scope.specs.Ticks.{tick}
 use Rattle.scope.specs.Calls.{knownCalls, callAt, mayCall}
 use Rattle.scope.specs.Rules.{sound}
@@ -39,8 +42,10 @@ use Rattle.histories.specs.History.{Event, answerTo}
 use Rattle.histories.proofs.Meaning.{sound-right}
 use Rattle.histories.proofs.Deeds.{newTask, newSemaphore, not-asked, TaskChange, task-created, waiter-suspended, waiter-resumed, priority-noted}
 use Rattle.histories.proofs.Deeds.{TaskMove, task-deleted, task-started, task-suspended, task-resumed, priority-set, SemChange, sem-created, unit-claimed, unit-released}
-use Rattle.histories.proofs.Deeds.{PoolChange, pool-created, pool-deleted, buffer-got, buffer-returned}
-use Rattle.histories.proofs.Deeds.{Deed, refused, tells, tasks-change, task-moves, sems-change, pools-change, caller-waits, first-woken, sem-deleted, time-passes, by-deed}
+use Rattle.histories.proofs.Deeds.{PoolChange, pool-created, pool-deleted, buffer-got, buffer-returned, Puts, sends, jumps, QueueChange, queue-created, message-put}
+use Rattle.histories.proofs.Deeds.{message-received}
+use Rattle.histories.proofs.Deeds.{Deed, refused, tells, tasks-change, task-moves, sems-change, pools-change, queues-change, caller-waits, first-woken, sem-deleted}
+use Rattle.histories.proofs.Deeds.{receiver-waits, delivered, queue-deleted, time-passes, by-deed}
 use Rattle.books.specs.Past.{Turn, isAnswer, value, runningIn}
 use Rattle.books.specs.Told.{taskId, semId}
 use Rattle.books.proofs.Agreeing.{turnOf, not-call, not-status, is-answer}
@@ -100,12 +105,12 @@ claim-runs s x at = whole (sound s)
     status = callerRefusal (x .call) (x .mark) (s .running)
 
     part : (b : Bool) → eqb status OK ≡ b
-        → (elim b as (λ y. Answer) [ true ↦ callAt (x .call) .does s (x .a) (x .b) (x .c) (x .d) (x .e) | false ↦ plain s status ]) .status ≡ OK → s .running < 32
+        → (elim b as (λ y. Answer) [ true ↦ callAt (x .call) .does s (x .a) (x .b) (x .c) (x .d) (x .e) (x .message) | false ↦ plain s status ]) .status ≡ OK → s .running < 32
     part true e d = refusal-runs (x .mark) (s .running) (ap (λ (c : ℕ). callerRefusal c (x .mark) (s .running)) (sym at) ∙ eqb-true status OK e)
     part false e d = absurd (eqb-false status OK e d)
 
     whole : (b : Bool)
-        → (elim b as (λ y. Answer) [ true ↦ answered s (x .call) (x .mark) (x .a) (x .b) (x .c) (x .d) (x .e) | false ↦ badState s ]) .status ≡ OK → s .running < 32
+        → (elim b as (λ y. Answer) [ true ↦ answered s (x .call) (x .mark) (x .a) (x .b) (x .c) (x .d) (x .e) (x .message) | false ↦ badState s ]) .status ≡ OK → s .running < 32
     whole true d = part (eqb status OK) refl d
     whole false d = absurd (omega (arith, d))
 
@@ -246,6 +251,18 @@ module _ (s : State) (x : Event) where
   pool-noted (buffer-got at i e f) = other _ (refl, refl) 17 at refl refl refl refl
   pool-noted (buffer-returned at i e f) = other _ (refl, refl) 18 at refl refl refl refl
 
+  -- a queue's calls are none of the grid's: a delivery is no grant (M-100)
+  queue-noted : {u : Queues} {v : ℕ} {shown : List ℕ} → QueueChange s x u v shown → Noted s x (shows (withQueues s u) v shown)
+  unfolding shows
+  queue-noted (queue-created at e f g) = other _ (refl, refl) 20 at refl refl refl refl
+  queue-noted (message-put (sends at) i e f g h) = other _ (refl, refl) 23 at refl refl refl refl
+  queue-noted (message-put (jumps at) i e f g h) = other _ (refl, refl) 24 at refl refl refl refl
+  queue-noted (message-received at i e f) = other _ (refl, refl) 25 at refl refl refl refl
+
+  delivery-noted : {put : Store → ℕ → List ℕ → Store} → Puts x put → (a : Answer) → serialsSame s (a .state) → Noted s x a
+  delivery-noted (sends at) a same = other a same 23 at refl refl refl refl
+  delivery-noted (jumps at) a same = other a same 24 at refl refl refl refl
+
   sem-noted : (ok : Sound s) → (x .call ≡ 11 → s .running < 32) → {m : Semaphores} {v : ℕ} → SemChange s x m v
       → Noted s x (answer (withSemaphores s m) OK v 0 0 0 false)
   unfolding answer
@@ -256,7 +273,7 @@ module _ (s : State) (x : Event) where
   sem-noted ok runs (unit-released at i e f g) = release-none ok i e _ at refl (refl, refl) refl
 
   deed-noted : (ok : Sound s) → {a : Answer} → (x .call ≡ 11 → a .status ≡ OK → s .running < 32) → Deed s x a → Noted s x a
-  unfolding answer plain wakesWith wakeNext semDeleteAt tick
+  unfolding answer plain shows wakesWith deliversTo wakeNext semDeleteAt queueDeleteAt tick
   deed-noted ok runs (refused status e f listed) = undone (plain s status) (refl, refl) e
   deed-noted ok runs (tells call at e v0 v1 v2 v3 negative) =
       other _ (refl, refl) call at (ne-eqb call 1 (not-asked call 1 e refl)) (ne-eqb call 8 (not-asked call 8 e refl))
@@ -265,10 +282,14 @@ module _ (s : State) (x : Event) where
   deed-noted ok runs (task-moves c) = move-noted c
   deed-noted ok runs (sems-change c) = sem-noted ok (λ at. runs at refl) c
   deed-noted ok runs (pools-change c) = pool-noted c
+  deed-noted ok runs (queues-change c) = queue-noted c
   deed-noted ok runs (caller-waits at i e f g time) = undone _ (refl, refl) refl
   deed-noted ok runs (first-woken at i e f) =
       release-one ok i e _ at refl (refl, refl) (firstOf (s .line .seat) (queueSeats i)) (ltb-true _ 32 f) refl refl refl
   deed-noted ok runs (sem-deleted at i e) = other _ (refl, refl) 9 at refl refl refl refl
+  deed-noted ok runs (receiver-waits at i e f g time) = undone _ (refl, refl) refl
+  deed-noted ok runs (delivered c i e f g) = delivery-noted c _ (refl, refl)
+  deed-noted ok runs (queue-deleted at i e) = other _ (refl, refl) 21 at refl refl refl refl
   deed-noted ok runs (time-passes at) = other _ (refl, refl) 0 at refl refl refl refl
 
   -- every event's answer

@@ -21,7 +21,7 @@ abbrev pub wokenBy : ℕ → List Wake → List Given
 wokenBy id [] = []
 wokenBy id (w ∷ ws) = pick (eqb (w .status) OK) (record { task = w .task; semaphore = id } ∷ wokenBy id ws) (wokenBy id ws)
 
--- the grants of a turn: a claim answered OK, to the task that ran; a release's wakes with 0
+-- the grants of a turn: a claim answered OK, to the task that ran; a release's wakes with 0 (a delivery's, M-100, are none)
 unfoldable pub grantsAt : List Turn → Turn → List Given
 grantsAt past x =
     pick (isAnswer 11 OK x) (record { task = runningIn past; semaphore = x .event .a } ∷ [])
