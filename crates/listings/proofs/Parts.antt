@@ -19,6 +19,7 @@ use Rattle.scope.specs.Replies.{replyOf}
 use Rattle.scope.specs.Listing.{lineOf, linesFrom, refusedLine, listing}
 use Rattle.histories.specs.Sound.{Sound}
 use Rattle.laws.proofs.Branches.{lt-or-le, pick-yes, pick-no, picked-yes, picked-no}
+use Rattle.text.specs.Lines.{longestLine}
 use Rattle.text.proofs.Laws.{line-length}
 use Rattle.player.specs.Place.{Point, Reached, toCome, Playing, Begun, PlayedPart}
 use Rattle.listings.specs.Whole.{Whole}
@@ -30,8 +31,8 @@ pub paste-more : (x y t : List ℕ) (at n k : ℕ) → (at + n ≤ length x) × 
 paste-more x y t at n k h l e =
     ap (λ (o : List ℕ). set o (at + k) (getD t k 0)) e ∙ rw add-one (paste-suc x at t k 0 (omega arith) (omega arith))
 
--- a line has at most 782 bytes, so the lines of n records at most n times as many
-lines-short : (script : List ℕ) (n k at : ℕ) (s : State) → Sound s → length (linesFrom script n k at s) ≤ 782 * n
+-- no line is longer than the longest, so the lines of n records at most n times as many
+lines-short : (script : List ℕ) (n k at : ℕ) (s : State) → Sound s → length (linesFrom script n k at s) ≤ longestLine * n
 unfolding linesFrom
 lines-short script zero k at s ok = omega arith
 lines-short script (suc n) k at s ok =
@@ -39,7 +40,7 @@ lines-short script (suc n) k at s ok =
     let rest : List ℕ = linesFrom script n (suc k) (at + 28) (a .state) in
     omega (arith, length-append (lineOf k (replyOf a)) rest, line-length k a (step-few script at s ok), lines-short script n (suc k) (at + 28) (a .state) (step-sound script at s ok))
 
-pub come-short : (script : List ℕ) (p : Point) → Playing script p → length (toCome script p) ≤ 782 * p .left
+pub come-short : (script : List ℕ) (p : Point) → Playing script p → length (toCome script p) ≤ longestLine * p .left
 unfolding toCome
 come-short script p h = lines-short script (p .left) (p .number) (p .at) (p .state) (h .state)
 
@@ -59,7 +60,7 @@ part-length script p out r d =
 -- n bytes were played from place p to place q; all the lines of a script's 2,340 records at most are few enough for a sum
 pub record Counted (script : List ℕ) (p : Point) (part₀ part : List ℕ) (q : Point) (n : ℕ) : Type 0 where
   pub sum : n + length (toCome script q) ≡ length (toCome script p)
-  pub small : length (toCome script p) ≤ 782 * 2341
+  pub small : length (toCome script p) ≤ longestLine * 2341
   pub same : length part ≡ length part₀
   pub playing : Playing script q
 
@@ -70,7 +71,7 @@ module _ (script : List ℕ) (p : Point) (part₀ : List ℕ) where
 
   module _ (part : List ℕ) (q : Point) (n : ℕ) (g : Counted script p part₀ part q n) where
     -- the sum of the lengths stays small
-    pub counted-small : (last : List ℕ) (r : Reached) → PlayedPart script q last r → n + r .written ≤ 782 * 2341
+    pub counted-small : (last : List ℕ) (r : Reached) → PlayedPart script q last r → n + r .written ≤ longestLine * 2341
     counted-small last r d = omega (arith, g .sum, g .small, part-length script q last r d)
 
     pub counted-more : (last : List ℕ) (r : Reached) → PlayedPart script q last r → length last ≡ length part
@@ -157,7 +158,7 @@ module _ (script : List ℕ) (keep : Bool) (p : Point) (part₀ out₀ : List �
     pub run-fits : (last : List ℕ) (r : Reached) → PlayedPart script q last r → keep ≡ true → n + r .written ≤ length out
     run-fits last r d e = copied-fits script p part₀ out₀ part out q n (g .copied e) last r d
 
-    pub run-small : (last : List ℕ) (r : Reached) → PlayedPart script q last r → n + r .written ≤ 1830662
+    pub run-small : (last : List ℕ) (r : Reached) → PlayedPart script q last r → n + r .written ≤ longestLine * 2341
     run-small last r d = counted-small script p part₀ part q n (g .counted) last r d
 
     module _ (last to : List ℕ) (r : Reached) (d : PlayedPart script q last r) (e : length last ≡ length part)
@@ -204,7 +205,7 @@ refused-is script e = rw (listing, e)
 pub refused-exact : (script : List ℕ) (r : ℕ) → isScript script ≡ false → r ≡ 0 + length refusedLine → r ≡ length (listing script)
 refused-exact script r e n = omega (arith, n, ap length (refused-is script e))
 
-pub refused-short : (n o r : ℕ) → r ≡ 0 + length refusedLine → o ≡ n → 782 ≤ n → r ≤ o
+pub refused-short : (n o r : ℕ) → r ≡ 0 + length refusedLine → o ≡ n → longestLine ≤ n → r ≤ o
 refused-short n o r e same room = omega (arith, refused-length)
 
 pub refused-put : (script part₀ part before out : List ℕ) (r : ℕ) → isScript script ≡ false → take r part ≡ take 0 part₀ ++ refusedLine
@@ -249,7 +250,7 @@ pub no-keep : {n m : ℕ} → false ≡ true → n ≤ m
 no-keep e = absurd (subst (λ (b : Bool). T (not b)) e tt)
 
 -- the lines of a script are the lines to come at its start
-pub begun-short : (script : List ℕ) (p : Point) → Begun script p → length (listing script) ≤ 782 * p .left
+pub begun-short : (script : List ℕ) (p : Point) → Begun script p → length (listing script) ≤ longestLine * p .left
 begun-short script p b = omega (arith, come-short script p (b .playing), ap length (b .whole))
 
 -- any two answers are the same

@@ -5,12 +5,13 @@ use text::LONGEST_LINE;
 ghost use mathlib.Core.Path.{_≡_};
 ghost use mathlib.Core.Bool.{true, false};
 ghost use mathlib.Core.List.{_++_};
-ghost use Prim.Native.Nat.{_+_, _≤_};
+ghost use Prim.Native.Nat.{_+_, _*_, _≤_};
 ghost use lib.ListN.{length, drop};
 ghost use lib.Seq.{paste};
 ghost use Rattle.scope.specs.Script.{isScript};
 ghost use Rattle.scope.specs.Choice.{pick};
 ghost use Rattle.scope.specs.Listing.{listing};
+ghost use Rattle.text.specs.Lines.{longestLine};
 ghost use Rattle.listings.specs.Whole.{Whole};
 
 fn wide(n: u32) -> usize
@@ -39,9 +40,9 @@ fn copy(out: &mut [u8], at: usize, part: &[u8], n: usize)
 }
 
 // What becomes of a part behind n bytes: it is counted, and where the listing is kept it is copied behind those before it.
-// (782 bytes for each of 2,341 records are 1,830,662: no listing has more.)
+// (No listing has more than the longest line for each of 2,341 records.)
 fn add_part(out: &mut [u8], n: usize, part: &[u8], written: usize, keep: bool) -> usize
-    requires { ⌜ (n + written ≤ 1830662) × (written ≤ length (now part)) × (keep ≡ true → n + written ≤ length (now out)) ⌝ }
+    requires { ⌜ (n + written ≤ longestLine * 2341) × (written ≤ length (now part)) × (keep ≡ true → n + written ≤ length (now out)) ⌝ }
     ensures { λ r. ⌜ (r ≡ n + written) × (now (out .exit) ≡ pick keep (paste (now (out .entry)) n (now (part .entry)) written) (now (out .entry))) ⌝ }
 {
     if !keep {
@@ -54,7 +55,7 @@ fn add_part(out: &mut [u8], n: usize, part: &[u8], written: usize, keep: bool) -
 // Plays a script from its first state, which is kept here and lent to each part. Answers the listing's length; where the listing is kept,
 // it is put at the start of `out`, which has room for it.
 fn play_parts(script: &[u8], part: &mut [u8], out: &mut [u8], keep: bool) -> usize
-    requires { ⌜ (isScript (now script) ≡ true) × (782 ≤ length (now part)) × (keep ≡ true → length (listing (now script)) ≤ length (now out)) ⌝ }
+    requires { ⌜ (isScript (now script) ≡ true) × (longestLine ≤ length (now part)) × (keep ≡ true → length (listing (now script)) ≤ length (now out)) ⌝ }
     ensures { λ r. ⌜ (r ≡ length (listing (now (script .entry)))) × (now (out .exit) ≡ pick keep (listing (now (script .entry)) ++ drop r (now (out .entry))) (now (out .entry))) ⌝ }
 {
     let mut s = player::first_state(script);
@@ -70,7 +71,7 @@ fn play_parts(script: &[u8], part: &mut [u8], out: &mut [u8], keep: bool) -> usi
 
 // The one line of a script that is refused.
 fn list_refused(script: &[u8], part: &mut [u8], out: &mut [u8]) -> usize
-    requires { ⌜ (isScript (now script) ≡ false) × (782 ≤ length (now part)) ⌝ }
+    requires { ⌜ (isScript (now script) ≡ false) × (longestLine ≤ length (now part)) ⌝ }
     ensures { λ r. ⌜ Whole (now (script .entry)) (now (out .entry)) (now (out .exit)) r ⌝ }
 {
     let n = text::put_refused(part, 0);

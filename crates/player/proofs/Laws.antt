@@ -18,12 +18,12 @@ use Rattle.scope.specs.declared.Fresh.{Fresh}
 use Rattle.scope.specs.Fresh.{freshState, fresh}
 use Rattle.scope.specs.Views.{runningTask}
 use Rattle.scope.specs.Step.{answered}
-use Rattle.scope.specs.Script.{number32, recordCount, firstOffset, firstPriority, isScript, stepAt}
+use Rattle.scope.specs.Script.{number32, recordCount, firstOffset, firstPriority, isScript, messageAt, stepAt}
 use Rattle.scope.specs.Replies.{replyOf}
 use Rattle.scope.specs.Listing.{lineOf, linesFrom, listing}
 use Rattle.laws.proofs.Branches.{both-true, picked-no, lt-or-le}
 use Rattle.answers.specs.declared.Outcome.{Outcome}
-use Rattle.answers.specs.Outcomes.{nowRuns, told, answerOf}
+use Rattle.answers.specs.Outcomes.{nowRuns, told, answerShown}
 use Rattle.kernel.proofs.Laws.{checked-sound}
 use Rattle.histories.specs.Sound.{Sound}
 use Rattle.histories.proofs.Meaning.{sound-right}
@@ -31,7 +31,7 @@ use Rattle.histories.proofs.Stays.{step-keeps}
 use Rattle.histories.proofs.Fresh.{fresh-sound}
 use Rattle.text.specs.declared.Record.{Record}
 use Rattle.text.specs.Records.{recordAt}
-use Rattle.text.specs.Lines.{replyBy}
+use Rattle.text.specs.Lines.{longestLine, replyBy}
 use Rattle.text.proofs.Laws.{line-length}
 use Rattle.player.specs.declared.Place.{Place}
 use Rattle.player.specs.Place.{Point, Reached, pointAt, toCome, next, after, linesTo, Playing, Begun, LinePut, Played, PlayedPart}
@@ -97,24 +97,26 @@ module _ (script : List ℕ) (at : ℕ) (s : State) (ok : Sound s) where
   abbrev answerAt : Answer
   answerAt =
       answered s (number32 script at) (number32 script (at + 4)) (number32 script (at + 8)) (number32 script (at + 12))
-      (number32 script (at + 16)) (number32 script (at + 20)) (number32 script (at + 24))
+      (number32 script (at + 16)) (number32 script (at + 20)) (number32 script (at + 24)) (messageAt script at)
 
   step-is : {r : Answer} → r ≡ answerAt → r ≡ stepAt script at s
   unfolding stepAt
-  step-is e = checked-sound s _ _ _ _ _ _ _ (sound-right s ok) e
+  step-is e = checked-sound s _ _ _ _ _ _ _ _ (sound-right s ok) e
 
-  -- of the numbers as they were read
-  pub record-step : (q : Record) {r : Answer} → q ≡ recordAt script at
-      → r ≡ answered s (q .call) (q .mark) (q .a) (q .b) (q .c) (q .d) (q .e) → r ≡ stepAt script at s
-  record-step q {r} e p =
-      step-is (subst (λ (x : Record). r ≡ answered s (x .call) (x .mark) (x .a) (x .b) (x .c) (x .d) (x .e)) e p)
+  -- of the numbers and the message as they were read
+  pub record-step : (q : Record) (m : List ℕ) {r : Answer} → q ≡ recordAt script at → m ≡ messageAt script at
+      → r ≡ answered s (q .call) (q .mark) (q .a) (q .b) (q .c) (q .d) (q .e) m → r ≡ stepAt script at s
+  record-step q m {r} e f p =
+      step-is
+      (subst (λ (x : Record). r ≡ answered s (x .call) (x .mark) (x .a) (x .b) (x .c) (x .d) (x .e) (messageAt script at)) e
+      (subst (λ (x : List ℕ). r ≡ answered s (q .call) (q .mark) (q .a) (q .b) (q .c) (q .d) (q .e) x) f p))
 
   pub step-sound : Sound (stepAt script at s .state)
   unfolding stepAt
-  step-sound = step-keeps s ok _ _ _ _ _ _ _
+  step-sound = step-keeps s ok _ _ _ _ _ _ _ _
 
   pub step-few : stepAt script at s .woken ≤ 32
-  step-few = subst (λ (r : Answer). r .woken ≤ 32) (step-is refl) (woken-few s _ _ _ _ _ _ _)
+  step-few = subst (λ (r : Answer). r .woken ≤ 32) (step-is refl) (woken-few s _ _ _ _ _ _ _ _)
 
 line-some : (n : ℕ) (a : Answer) → 0 < length (lineOf n (replyOf a))
 unfolding lineOf
@@ -127,7 +129,7 @@ unfolding linesFrom
 lines-are script n m k at s e = rw (← e, add-one m, add-one k)
 
 pub played : (script : List ℕ) (p : Point) (before out : List ℕ) (k : ℕ) (r : Reached) (a : Answer) → Playing script p → 1 ≤ p .left
-    → a ≡ stepAt script (p .at) (p .state) → k + 782 ≤ length before → length out ≡ length before
+    → a ≡ stepAt script (p .at) (p .state) → k + longestLine ≤ length before → length out ≡ length before
     → r .written ≡ k + length (lineOf (p .number) (replyOf a))
     → take (r .written) out ≡ take k before ++ lineOf (p .number) (replyOf a)
     → r .place .left + 1 ≡ p .left → r .place .number ≡ p .number + 1 → r .place .at ≡ p .at + 28 → r .place .state ≡ a .state
@@ -160,14 +162,14 @@ played script p before out k r a h some is room same written put left number at 
     }
 
 -- what a line was put for is the record's answer
-pub line-told : (script : List ℕ) (at number k id : ℕ) (s n : State) (wakes : List ℕ) (o : Outcome) (before lines : List ℕ) (written : ℕ)
-    → answerOf n wakes o ≡ stepAt script at s → id ≡ runningTask (nowRuns n (o .runs))
-    → (written ≡ k + length (lineOf number (replyBy wakes o id)))
-    × (take written lines ≡ take k before ++ lineOf number (replyBy wakes o id))
+pub line-told : (script : List ℕ) (at number k id : ℕ) (s n : State) (wakes shown : List ℕ) (o : Outcome) (before lines : List ℕ) (written : ℕ)
+    → answerShown n wakes shown o ≡ stepAt script at s → id ≡ runningTask (nowRuns n (o .runs))
+    → (written ≡ k + length (lineOf number (replyBy wakes shown o id)))
+    × (take written lines ≡ take k before ++ lineOf number (replyBy wakes shown o id))
     → LinePut script at number s before k (nowRuns n (o .runs)) lines written
-unfolding answerOf
-line-told script at number k id s n wakes o before lines written e f p =
-    let t : told (nowRuns n (o .runs)) wakes o id ≡ stepAt script at s = rw f e in
+unfolding answerShown
+line-told script at number k id s n wakes shown o before lines written e f p =
+    let t : told (nowRuns n (o .runs)) wakes shown o id ≡ stepAt script at s = rw f e in
     record {
       state = ap (λ (a : Answer). a .state) e;
       grown = p .0 ∙ ap (λ (a : Answer). k + length (lineOf number (replyOf a))) t;
@@ -176,7 +178,7 @@ line-told script at number k id s n wakes o before lines written e f p =
 
 -- and the place after it
 pub line-played : (script : List ℕ) (p : Point) (n : State) (before lines : List ℕ) (k written : ℕ) → Playing script p → 1 ≤ p .left
-    → k + 782 ≤ length before → length lines ≡ length before
+    → k + longestLine ≤ length before → length lines ≡ length before
     → LinePut script (p .at) (p .number) (p .state) before k n lines written
     → Played script p before k lines
     (record { place = record { state = n; left = p .left - 1; number = p .number + 1; at = p .at + 28 }; written = written })
@@ -189,13 +191,13 @@ line-played script p n before lines k written h some room same d =
 -- while records are played: k bytes were written since place p, and none only if no record was played
 pub record Going (script : List ℕ) (p : Point) (out₀ out : List ℕ) (q : Point) (k : ℕ) : Type 0 where
   pub lines : take k out ≡ linesTo script (p .left - q .left) p
-  pub each : (n : ℕ) → n < p .left - q .left → length (linesTo script n p) + 782 ≤ length out₀
+  pub each : (n : ℕ) → n < p .left - q .left → length (linesTo script n p) + longestLine ≤ length out₀
   pub put : take k out ++ toCome script q ≡ toCome script p
   pub room : k ≤ length out
   pub same : length out ≡ length out₀
   pub fewer : q .left ≤ p .left
   pub place : q ≡ after script (p .left - q .left) p
-  pub short : k + 782 * q .left ≤ 782 * p .left
+  pub short : k + longestLine * q .left ≤ longestLine * p .left
   pub still : q .left ≡ p .left → k ≡ 0
   pub onward : q .left < p .left → 0 < k
   pub playing : Playing script q
@@ -232,7 +234,7 @@ module _ (script : List ℕ) (p : Point) (out₀ : List ℕ) where
   long out q k g = sym (ap length (g .lines)) ∙ length-take-le k out (g .room)
 
   more-each : (out last : List ℕ) (q : Point) (k m : ℕ) (r : Reached) → Going script p out₀ out q k → Played script q out k last r
-      → m ≡ suc (p .left - q .left) → (n : ℕ) → n < m → length (linesTo script n p) + 782 ≤ length out₀
+      → m ≡ suc (p .left - q .left) → (n : ℕ) → n < m → length (linesTo script n p) + longestLine ≤ length out₀
   more-each out last q k m r g d e n l =
       ⊎-elim (λ h. g .each n h)
       (λ h.
@@ -260,7 +262,7 @@ module _ (script : List ℕ) (p : Point) (out₀ : List ℕ) where
         playing = d .playing;
       }
 
-  pub going-done : (out : List ℕ) (q : Point) (k : ℕ) (r : Reached) → Going script p out₀ out q k → (1 ≤ q .left → length out < k + 782)
+  pub going-done : (out : List ℕ) (q : Point) (k : ℕ) (r : Reached) → Going script p out₀ out q k → (1 ≤ q .left → length out < k + longestLine)
       → r .place ≡ q → r .written ≡ k → PlayedPart script p out r
   going-done out q k r g stop place written =
       record {
@@ -276,11 +278,11 @@ module _ (script : List ℕ) (p : Point) (out₀ : List ℕ) where
         playing = rw place (g .playing);
       }
     where
-      ended : 782 * p .left ≤ length out → q .left ≡ 0
+      ended : longestLine * p .left ≤ length out → q .left ≡ 0
       ended wide =
           ⊎-elim (λ l. omega arith) (λ l. absurd (omega (arith, stop l, g .short))) (lt-or-le (q .left) 1)
 
-      moved : 1 ≤ p .left → 782 ≤ length out → q .left < p .left
+      moved : 1 ≤ p .left → longestLine ≤ length out → q .left < p .left
       moved some wide =
           ⊎-elim (λ l. l)
           (λ l.

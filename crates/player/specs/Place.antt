@@ -10,6 +10,7 @@ use Rattle.scope.specs.declared.State.{State}
 use Rattle.scope.specs.Replies.{replyOf}
 use Rattle.scope.specs.Listing.{lineOf, linesFrom, listing}
 use Rattle.histories.specs.Sound.{Sound}
+use Rattle.text.specs.Lines.{longestLine}
 use Rattle.player.specs.declared.Place.{Place}
 use Rattle.player.specs.declared.Part.{Part}
 
@@ -78,12 +79,12 @@ pub record LinePut (script : List ℕ) (at number : ℕ) (s : State) (before : L
 
 -- one record was played from point p, and its line put behind the first k bytes
 pub record Played (script : List ℕ) (p : Point) (before : List ℕ) (k : ℕ) (out : List ℕ) (r : Reached) : Type 0 where
-  pub fitted : k + 782 ≤ length before
+  pub fitted : k + longestLine ≤ length before
   pub line : take (r .written) out ≡ take k before ++ lineOf (p .number) (replyOf (stepAt script (p .at) (p .state)))
   pub put : take (r .written) out ++ toCome script (r .place) ≡ take k before ++ toCome script p
   pub grows : k < r .written
   pub room : r .written ≤ length out
-  pub short : r .written ≤ k + 782
+  pub short : r .written ≤ k + longestLine
   pub fewer : r .place .left + 1 ≡ p .left
   pub place : r .place ≡ next script p
   pub playing : Playing script (r .place)
@@ -96,9 +97,9 @@ pub record PlayedPart (script : List ℕ) (p : Point) (out : List ℕ) (r : Reac
   pub place : r .place ≡ after script (p .left - r .place .left) p
   pub lines : take (r .written) out ≡ linesTo script (p .left - r .place .left) p
   pub room : r .written ≤ length out
-  pub each : (n : ℕ) → n < p .left - r .place .left → length (linesTo script n p) + 782 ≤ length out
-  pub stop : 1 ≤ r .place .left → length out < r .written + 782
+  pub each : (n : ℕ) → n < p .left - r .place .left → length (linesTo script n p) + longestLine ≤ length out
+  pub stop : 1 ≤ r .place .left → length out < r .written + longestLine
   pub put : take (r .written) out ++ toCome script (r .place) ≡ toCome script p
-  pub whole : 782 * p .left ≤ length out → r .place .left ≡ 0
-  pub onward : 1 ≤ p .left → 782 ≤ length out → (r .place .left < p .left) × (0 < r .written)
+  pub whole : longestLine * p .left ≤ length out → r .place .left ≡ 0
+  pub onward : 1 ≤ p .left → longestLine ≤ length out → (r .place .left < p .left) × (0 < r .written)
   pub playing : Playing script (r .place)

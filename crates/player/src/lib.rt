@@ -7,6 +7,7 @@ ghost use mathlib.Core.Bool.{true, false};
 ghost use Prim.Native.Nat.{_+_, _≤_, _<_};
 ghost use Rattle.scope.specs.Script.{isScript, firstPriority};
 ghost use Rattle.scope.specs.Fresh.{freshState};
+ghost use Rattle.text.specs.Lines.{longestLine};
 ghost use Rattle.player.specs.Place.{pointAt, reached, Begun, Playing, PlayedPart};
 
 // Where a script has got to, beside the state: how many records are left, the number of the next and where it starts.
@@ -44,8 +45,8 @@ pub fn begin(script: &[u8]) -> Place
 
 // Whether a record is left, and room for its line behind `k` bytes.
 fn goes_on(left: u32, k: usize, room: usize) -> bool
-    ensures yes { λ r. ⌜ (r ≡ true → (1 ≤ left) × (k + 782 ≤ room)) ⌝ }
-    ensures no { λ r. ⌜ (r ≡ false → 1 ≤ left → room < k + 782) ⌝ }
+    ensures yes { λ r. ⌜ (r ≡ true → (1 ≤ left) × (k + longestLine ≤ room)) ⌝ }
+    ensures no { λ r. ⌜ (r ≡ false → 1 ≤ left → room < k + longestLine) ⌝ }
 {
     if left == 0 {
         return false;
@@ -62,13 +63,27 @@ pub fn play_part(script: &[u8], s: &mut State, p: Place, lines: &mut [u8]) -> Pa
     ensures { λ r. ⌜ PlayedPart (now (script .entry)) (pointAt (now (s .entry)) p) (now (lines .exit)) (reached (now (s .exit)) r) ⌝ }
 {
     let mut wakes = [0u32; 32];
+    let mut shown = [0u8; 64];
     let mut more = p.left;
     let mut number = p.number;
     let mut at = p.at;
     let mut k: usize = 0;
     while goes_on(more, k, lines.len()) {
         let r = text::read_record(script, at);
-        let o = kernel::perform(s, &mut wakes, r.call, r.mark, r.a, r.b, r.c, r.d, r.e);
+        let message = text::message_at(script, at);
+        let o = kernel::perform(
+            s,
+            &mut wakes,
+            &mut shown,
+            &message,
+            r.call,
+            r.mark,
+            r.a,
+            r.b,
+            r.c,
+            r.d,
+            r.e,
+        );
         let runs = lending::runner(s);
         k = text::put_line(lines, k, number, o, &wakes, runs);
         more -= 1;

@@ -5,6 +5,7 @@ ghost use mathlib.Core.Bool.{true, false};
 ghost use Prim.Native.Nat.{_≤_};
 ghost use lib.ListN.{length};
 ghost use Rattle.scope.specs.Script.{isScript};
+ghost use Rattle.text.specs.Lines.{longestLine};
 
 fn listing_room() -> [u8; 32768]
     ensures { λ r. ⌜ 32768 ≡ length r ⌝ }
@@ -33,7 +34,7 @@ fn write_part(out: &[u8], n: usize) -> bool
 // Writes the listing of a script, a part at a time, and stops where no more can be written: then false. The state is kept here and lent
 // to each part.
 fn write_listing(script: &[u8], out: &mut [u8]) -> bool
-    requires { ⌜ (isScript (now script) ≡ true) × (782 ≤ length (now out)) ⌝ }
+    requires { ⌜ (isScript (now script) ≡ true) × (longestLine ≤ length (now out)) ⌝ }
 {
     let mut s = player::first_state(script);
     let mut p = player::begin(script);
@@ -47,7 +48,7 @@ fn write_listing(script: &[u8], out: &mut [u8]) -> bool
 }
 
 fn write_refused(out: &mut [u8]) -> bool
-    requires { ⌜ 782 ≤ length (now out) ⌝ }
+    requires { ⌜ longestLine ≤ length (now out) ⌝ }
 {
     let n = text::put_refused(out, 0);
     io::write_all(STDOUT_FILENO, &out[..n])

@@ -9,15 +9,17 @@ use Prim.Native.Nat.{ℕ, zero, suc, _+_, _*_, _/_, _%_, _^_, _≤_, _<_}
 use native.Mathlib.Nat.{pow-suc}
 use native.Mathlib.Omega.{arith}
 use native.Mathlib.Numerals.{add-one}
-use lib.ListN.{length, take, set, getD, length-append}
-use lib.Seq.{take-suc-set, take-length, paste, paste-suc, take-paste}
+use lib.ListN.{length, take, drop, set, getD, replicate, length-append, length-drop}
+use lib.Seq.{take-suc-set, take-length, take-take, length-take-le, getD-take, getD-drop, paste, paste-suc, take-paste}
 use borrow.Author.Tests.{lt-ltb, le-ltb}
 use Rattle.scope.specs.declared.Answer.{Answer}
 use Rattle.scope.specs.Choice.{pick}
 use Rattle.scope.specs.Replies.{wakesFrom, replyOf}
-use Rattle.scope.specs.Listing.{digits, decimal, signed, field, wakeFields, lineOf}
-use Rattle.text.specs.Lines.{lastTwo}
+use Rattle.scope.specs.Script.{messageAt}
+use Rattle.scope.specs.Listing.{digits, decimal, signed, field, wakeFields, deliveryField, lineOf}
+use Rattle.text.specs.Lines.{lastTwo, longestLine}
 use Rattle.laws.proofs.Branches.{lt-or-le}
+use Rattle.laws.proofs.Arrays.{at-end}
 
 -- the first digit decides
 module _ (k n : ℕ) where
@@ -143,6 +145,28 @@ put-text x y t at k h l m e =
     let q : k ≡ length t = omega arith in
     (ap (λ (n : ℕ). at + n) q, ap (take (at + k)) e ∙ take-paste x at t k (omega arith) l ∙ ap (λ (n : ℕ). take at x ++ take n t) q ∙ ap (λ (l : List ℕ). take at x ++ l) (take-length t))
 
+-- the message that the record at a place lends, copied byte by byte over zeros: one byte more, and the whole
+abbrev pub blank : List ℕ
+blank = replicate 64 0
+
+abbrev pub firstBytes : List ℕ → ℕ → List ℕ
+firstBytes script at = take 12 (drop (at + 16) script)
+
+module _ (script m : List ℕ) (at k : ℕ) (e : m ≡ paste blank 0 (firstBytes script at) k) where
+  pub message-more : at + 28 ≤ length script → k < 12 → set m k (getD script (at + 16 + k) 0) ≡ paste blank 0 (firstBytes script at) (k + 1)
+  message-more h l =
+      let n : length (firstBytes script at) ≡ 12 = length-take-le 12 (drop (at + 16) script) (omega (arith, length-drop (at + 16) script)) in
+      let byte : getD (firstBytes script at) k 0 ≡ getD script (at + 16 + k) 0 = getD-take 12 (drop (at + 16) script) k 0 l ∙ getD-drop (at + 16) script k 0 in
+      let z : k ≡ 0 + k = omega arith in
+      ap (set m k) (sym byte) ∙ ap (λ (j : ℕ). set m j (getD (firstBytes script at) k 0)) z
+      ∙ paste-more blank m (firstBytes script at) 0 k (omega (arith, n)) (omega (arith, n)) e
+
+  pub message-is : k ≤ 12 → 12 ≤ k → m ≡ messageAt script at
+  unfolding messageAt
+  message-is l g =
+      at-end (λ (n : ℕ). m ≡ paste blank 0 (firstBytes script at) n) 12 k l g e
+      ∙ ap (λ (t : List ℕ). t ++ replicate 52 0) (take-take 12 12 (drop (at + 16) script) (omega arith))
+
 -- one wake's field
 abbrev pub wake : ℕ → ℕ → List ℕ
 wake task why = field (decimal task ++ (58 ∷ decimal why))
@@ -176,8 +200,13 @@ wakes-length (suc n) k wakes why =
     let f : List ℕ = wake (getD wakes k 0) why in
     omega (arith, length-append f (wakeFields (wakesFrom n (suc k) wakes why)), wake-length (getD wakes k 0) why, wakes-length n (suc k) wakes why)
 
--- no line is longer than 782 bytes
-pub line-length : (number : ℕ) (a : Answer) → a .woken ≤ 32 → length (lineOf number (replyOf a)) ≤ 782
+pub delivery-length : (delivers : Bool) (n : ℕ) → length (deliveryField delivers n) ≤ 11
+unfolding deliveryField pick
+delivery-length true n = omega (arith, decimal-length n)
+delivery-length false n = omega arith
+
+-- no line is longer than the longest
+pub line-length : (number : ℕ) (a : Answer) → a .woken ≤ 32 → length (lineOf number (replyOf a)) ≤ longestLine
 unfolding lineOf
 line-length number a h =
     simp length-append
@@ -191,4 +220,5 @@ line-length number a h =
       decimal-length (getD (a .values) 3 0),
       decimal-length (a .running),
       wakes-length (a .woken) 0 (a .wakes) (a .why),
+      delivery-length (a .delivers) (a .length),
     ))

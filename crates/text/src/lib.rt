@@ -2,14 +2,14 @@
 use answers::Outcome;
 ghost use mathlib.Core.Path.{_≡_};
 ghost use mathlib.Core.Bool.{false};
-ghost use mathlib.Core.List.{[], _∷_, _++_};
-ghost use Prim.Native.Nat.{_+_, _*_, _%_, _≤_, _<_};
+ghost use mathlib.Core.List.{List, [], _∷_, _++_};
+ghost use Prim.Native.Nat.{ℕ, _+_, _*_, _%_, _≤_, _<_};
 ghost use lib.ListN.{length, take};
-ghost use Rattle.scope.specs.Script.{number32, isScript};
+ghost use Rattle.scope.specs.Script.{number32, messageAt, isScript};
 ghost use Rattle.text.specs.Records.{recordAt};
-ghost use Rattle.text.specs.Lines.{lastTwo, replyBy};
+ghost use Rattle.text.specs.Lines.{lastTwo, longestLine, replyBy};
 ghost use Rattle.scope.specs.Replies.{wakesFrom};
-ghost use Rattle.scope.specs.Listing.{decimal, signed, field, wakeFields, lineOf, refusedLine};
+ghost use Rattle.scope.specs.Listing.{decimal, signed, field, wakeFields, deliveryField, lineOf, refusedLine};
 
 fn wide(b: u8) -> u32
     ensures { λ r. ⌜ (r ≡ b) × (r < 256) ⌝ }
@@ -50,6 +50,20 @@ pub fn read_record(s: &[u8], at: usize) -> Record
         d: read_number(s, at + 20),
         e: read_number(s, at + 24),
     }
+}
+
+// The message that the record at a place lends. M-100: "In a script the three arguments left are the first 12 bytes, the rest zeros".
+pub fn message_at(s: &[u8], at: usize) -> [u8; 64]
+    requires { ⌜ at + 28 ≤ length (now s) ⌝ }
+    ensures { λ r. ⌜ r ≡ messageAt (now (s .entry)) at ⌝ }
+{
+    let mut m = [0u8; 64];
+    let mut k = 0;
+    while k < 12 {
+        m[k] = s[at + 16 + k];
+        k += 1;
+    }
+    m
 }
 
 // Whether the bytes are a script, and no refusal of it applies.
@@ -185,11 +199,24 @@ fn put_wakes(out: &mut [u8], at: usize, wakes: &[u32], woken: usize, why: u32) -
     r
 }
 
-// The longest line: a record number of 10 digits, six fields of 11 bytes, a minus sign, 32 wakes of 22, a newline.
-pub const LONGEST_LINE: usize = 782;
+// The same for a delivery: a colon and the message's length, behind its wake.
+fn put_delivery(out: &mut [u8], at: usize, delivers: bool, n: u32) -> usize
+    requires { ⌜ at + 11 ≤ length (now out) ⌝ }
+    ensures { λ r. ⌜ (r ≡ at + length (deliveryField delivers n)) × (take r (now (out .exit)) ≡ take at (now (out .entry)) ++ deliveryField delivers n) ⌝ }
+{
+    if delivers {
+        let k = put_byte(out, at, b':');
+        put_decimal(out, k, n)
+    } else {
+        at
+    }
+}
 
-// Puts an answer's line at a place, and answers the place after it. The answer is an outcome, the wake list and the running task:
-// no line tells more of the state.
+// The longest line (specs/Lines.antt).
+pub const LONGEST_LINE: usize = 793;
+
+// Puts an answer's line at a place, and answers the place after it. The answer is an outcome, the wake list, the running task and the
+// message shown: no line tells more of the state, and none tells the message, so its promise holds of any.
 pub fn put_line(
     out: &mut [u8],
     at: usize,
@@ -198,9 +225,9 @@ pub fn put_line(
     wakes: &[u32; 32],
     running: u32,
 ) -> usize
-    requires { ⌜ (at + 782 ≤ length (now out)) × (o .woken ≤ 32) ⌝ }
-    ensures { λ r. ⌜ (r ≡ at + length (lineOf number (replyBy (now (wakes .entry)) o running)))
-        × (take r (now (out .exit)) ≡ take at (now (out .entry)) ++ lineOf number (replyBy (now (wakes .entry)) o running)) ⌝ }
+    requires { ⌜ (at + longestLine ≤ length (now out)) × (o .woken ≤ 32) ⌝ }
+    ensures { λ r. ⌜ ((shown : List ℕ) → (r ≡ at + length (lineOf number (replyBy (now (wakes .entry)) shown o running)))
+        × (take r (now (out .exit)) ≡ take at (now (out .entry)) ++ lineOf number (replyBy (now (wakes .entry)) shown o running))) ⌝ }
 {
     let values = o.values;
     let p0 = put_decimal(out, at, number);
@@ -211,7 +238,8 @@ pub fn put_line(
     let p5 = put_field(out, p4, values[3]);
     let p6 = put_field(out, p5, running);
     let p7 = put_wakes(out, p6, wakes, o.woken, o.why);
-    put_byte(out, p7, b'\n')
+    let p8 = put_delivery(out, p7, o.delivers, o.length);
+    put_byte(out, p8, b'\n')
 }
 
 // Puts the bytes of a text at a place, and answers the place after them.

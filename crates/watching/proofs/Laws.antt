@@ -13,14 +13,14 @@ use lib.Dec.{leb}
 use borrow.Author.Tests.{le-leb}
 use Rattle.scope.specs.declared.State.{State}
 use Rattle.scope.specs.declared.Answer.{Answer}
-use Rattle.scope.specs.Script.{recordCount, firstPriority, isScript, stepAt}
+use Rattle.scope.specs.Script.{recordCount, firstPriority, isScript, messageAt, stepAt}
 use Rattle.scope.specs.Step.{answered}
 use Rattle.scope.specs.Views.{runningTask}
 use Rattle.scope.specs.Replies.{wakesFrom, wakeList}
 use Rattle.scope.specs.Fresh.{freshState}
 use Rattle.laws.proofs.Branches.{eq-or-not, both, picked-yes, picked-no}
 use Rattle.answers.specs.declared.Outcome.{Outcome}
-use Rattle.answers.specs.Outcomes.{nowRuns, answerOf}
+use Rattle.answers.specs.Outcomes.{nowRuns, answerShown}
 use Rattle.text.specs.declared.Record.{Record}
 use Rattle.text.specs.Records.{recordAt}
 use Rattle.histories.specs.Sound.{Sound}
@@ -33,15 +33,7 @@ use Rattle.books.proofs.Agreeing.{turnOf}
 use Rattle.grid.specs.Grid.{Grid, cleared, cell}
 use Rattle.grid.specs.Keeping.{kept}
 use Rattle.grids.specs.Kept.{keptBy, keptFrom}
-use Rattle.watching.specs.Watched.{endOf, gridOf, Shows, Gridded}
-
--- `left` records from a place on are still to come
-pub record Going (script : List ℕ) (s : State) (left at : ℕ) (g : Grid) : Type 0 where
-  pub small : length script ≤ 65536
-  pub within : at + 28 * left ≤ length script
-  pub state : Sound s
-  pub ends : after s (eventsFrom script left at) ≡ endOf script
-  pub keeps : keptFrom g s (eventsFrom script left at) ≡ gridOf script
+use Rattle.watching.specs.Watched.{endOf, gridOf, Going, Shows, Gridded}
 
 pub begins : (script : List ℕ) (p : Point) → Begun script p → Going script (p .state) (p .left) (p .at) cleared
 begins script p b =
@@ -67,21 +59,21 @@ runs-so s t e = ap (nowRuns s) e
 
 -- one record
 module _ (script : List ℕ) (s : State) (left at : ℕ) (g : Grid) (go : Going script s left at g) (some : 0 < left)
-    (r : Record) (read : r ≡ recordAt script at) (n : State) (wakes : List ℕ) (o : Outcome)
-    (done : answerOf n wakes o ≡ answered s (r .call) (r .mark) (r .a) (r .b) (r .c) (r .d) (r .e)) (runs : n .running ≡ o .runs) where
+    (r : Record) (read : r ≡ recordAt script at) (m : List ℕ) (lent : m ≡ messageAt script at) (n : State) (wakes shown : List ℕ) (o : Outcome)
+    (done : answerShown n wakes shown o ≡ answered s (r .call) (r .mark) (r .a) (r .b) (r .c) (r .d) (r .e) m) (runs : n .running ≡ o .runs) where
   abbrev ev : Event
   ev = eventAt script at
 
-  answers : answerOf n wakes o ≡ answerTo s ev
+  answers : answerShown n wakes shown o ≡ answerTo s ev
   unfolding stepAt
-  answers = record-step script at s (go .state) r read done
+  answers = record-step script at s (go .state) r m read lent done
 
   state-is : n ≡ answerTo s ev .state
-  unfolding answerOf
+  unfolding answerShown
   state-is = runs-so n (o .runs) runs ∙ ap (λ (a : Answer). a .state) answers
 
   kept-is : kept g (runningTask s) (r .call) (r .a) (o .status) (getD (o .values) 0 0) (wakesFrom (o .woken) 0 wakes (o .why)) ≡ keptBy g (runningTask s) (turnOf ev (answerTo s ev))
-  unfolding answerOf
+  unfolding answerShown
   kept-is =
       ap (λ (q : Record). kept g (runningTask s) (q .call) (q .a) (o .status) (getD (o .values) 0 0) (wakesFrom (o .woken) 0 wakes (o .why))) read
       ∙ ap (λ (a : Answer). kept g (runningTask s) (ev .call) (ev .a) (a .status) (getD (a .values) 0 0) (wakeList a)) answers
