@@ -7,7 +7,9 @@ static const uint8_t arguments[CALLS] = {
     [TASK_SET_PRIORITY] = 2, [SEM_CREATE] = 3, [SEM_DELETE] = 1,
     [SEM_IDENT] = 1, [SEM_CLAIM] = 3, [SEM_RELEASE] = 1, [SEM_INFO] = 1,
     [POOL_CREATE] = 5, [POOL_DELETE] = 1, [POOL_IDENT] = 1,
-    [POOL_GET_BUFF] = 1, [POOL_RET_BUFF] = 2, [POOL_INFO] = 1
+    [POOL_GET_BUFF] = 1, [POOL_RET_BUFF] = 2, [POOL_INFO] = 1,
+    [QUEUE_CREATE] = 4, [QUEUE_DELETE] = 1, [QUEUE_IDENT] = 1,
+    [QUEUE_SEND] = 5, [QUEUE_JUMP] = 5, [QUEUE_RECEIVE] = 3, [QUEUE_INFO] = 1
 };
 
 /* PUT with the mark left to put_marked. */
@@ -157,7 +159,7 @@ static uint32_t a_time_out(struct aim *a)
 
 static void unknown_call(struct aim *a)
 {
-    uint32_t call = ONE_OF(&a->dice, 20, 21, 26, 31, 255, 256, TOP);
+    uint32_t call = ONE_OF(&a->dice, 27, 28, 31, 32, 255, 256, TOP);
 
     PUT_MARKED(a, call, roll_32(&a->dice));
 }
@@ -291,10 +293,92 @@ static void pool_ret_buff(struct aim *a)
     PUT_MARKED(a, POOL_RET_BUFF, id, address);
 }
 
+static void queue_create(struct aim *a)
+{
+    struct dice *d = &a->dice;
+    uint32_t name = a_name(a);
+    uint32_t most = now_wild(a) ? ONE_OF(d, 0, 1, 16, 17, 256, 272, TOP)
+                  : ONE_OF(d, 1, 1, 2, 3, 8, 15, 16);
+    uint32_t longest = now_wild(a) ? ONE_OF(d, 0, 1, 64, 65, 256, 320, TOP)
+                     : ONE_OF(d, 1, 2, 8, 12, 13, 63, 64);
+
+    PUT_MARKED(a, QUEUE_CREATE, name, most, longest, options(a));
+}
+
+/* The queues with waiters, those with messages, or those about to be full. */
+enum wish { WAITED_ON, HOLDING, NEARLY_FULL };
+
+static uint32_t queues_of(const struct aim *a, enum wish wish)
+{
+    const struct picture *p = &a->picture;
+    uint32_t found = 0;
+
+    for (uint32_t left = p->live[A_QUEUE]; left != 0; left &= left - 1) {
+        uint32_t slot = (uint32_t)__builtin_ctz(left);
+        const struct store *s = &p->store[slot];
+        bool good = wish == WAITED_ON
+                  ? picture_waiters(p, A_QUEUE, (int)slot) != 0
+                  : s->held + (wish == NEARLY_FULL) >= (wish == HOLDING ? 1
+                                                        : s->most);
+
+        found |= good ? 1u << slot : 0;
+    }
+    return found;
+}
+
+/* A length on either side of the longest, or any that goes. */
+static uint32_t a_length(struct aim *a, uint32_t longest)
+{
+    struct dice *d = &a->dice;
+    uint32_t any = roll(d, longest + 1);
+
+    if (now_wild(a))
+        return ONE_OF(d, longest + 1, longest + 1, 64, 65, 255, 256,
+                      256 + longest, TOP);
+    return ONE_OF(d, 0, 1, any, any, longest);
+}
+
+static void queue_put(struct aim *a, uint32_t call)
+{
+    struct dice *d = &a->dice;
+    uint32_t wish = roll(d, 10), wanted = TOP, id, length, byte[3];
+    uint32_t mark = chance(d, 200) ? 1 : mark_of(a, call);
+    int slot;
+
+    if (wish < 7)
+        wanted = queues_of(a, wish < 5 ? WAITED_ON : NEARLY_FULL);
+    id = some_id(a, A_QUEUE, wanted);
+    slot = picture_named(&a->picture, A_QUEUE, id);
+    length = a_length(a, slot == NOBODY ? 64 : a->picture.store[slot].longest);
+    for (int i = 0; i < 3; i++)
+        byte[i] = roll_32(d);
+    PUT(a, call, mark, id, length, byte[0], byte[1], byte[2]);
+}
+
+void aim_put_message(struct aim *a, uint32_t mark, uint32_t slot)
+{
+    uint32_t call = ONE_OF(&a->dice, QUEUE_SEND, QUEUE_SEND, QUEUE_JUMP);
+    uint32_t length = roll(&a->dice, a->picture.store[slot].longest + 1);
+    uint32_t byte = roll_32(&a->dice);
+
+    PUT(a, call, mark, picture_id(&a->picture, A_QUEUE, slot), length, byte,
+        ~byte, byte);
+}
+
+static void queue_receive(struct aim *a)
+{
+    uint32_t wanted = chance(&a->dice, 500) ? queues_of(a, HOLDING)
+                    : ~queues_of(a, HOLDING);
+    uint32_t id = some_id(a, A_QUEUE, wanted);
+    uint32_t how = chance(&a->dice, 800) ? 0 : options(a);
+
+    PUT_MARKED(a, QUEUE_RECEIVE, id, anchor_runs(a) ? 1 : how, a_time_out(a));
+}
+
 static enum kind kind_of(uint32_t call)
 {
     return call < SEM_CREATE ? A_TASK : call < POOL_CREATE ? A_SEMAPHORE
-         : A_POOL;
+         : call < QUEUE_CREATE ? A_POOL : A_QUEUE;
 }
 
 static void set_priority(struct aim *a)
@@ -328,11 +412,14 @@ void aim_call(struct aim *a, uint32_t call)
     case SEM_RELEASE: sem_release(a); break;
     case POOL_CREATE: pool_create(a); break;
     case POOL_RET_BUFF: pool_ret_buff(a); break;
-    case TASK_IDENT: case SEM_IDENT: case POOL_IDENT:
+    case QUEUE_CREATE: queue_create(a); break;
+    case QUEUE_SEND: case QUEUE_JUMP: queue_put(a, call); break;
+    case QUEUE_RECEIVE: queue_receive(a); break;
+    case TASK_IDENT: case SEM_IDENT: case POOL_IDENT: case QUEUE_IDENT:
         any_ident(a, call);
         break;
     case SEM_DELETE: case SEM_INFO: case POOL_DELETE: case POOL_GET_BUFF:
-    case POOL_INFO:
+    case POOL_INFO: case QUEUE_DELETE: case QUEUE_INFO:
         PUT_MARKED(a, call, some_id(a, kind_of(call), TOP));
         break;
     default: unknown_call(a);
@@ -362,10 +449,13 @@ void aim_chaos(struct aim *a)
 void aim_revive(struct aim *a)
 {
     uint32_t waited = semaphores_below(a, 0) & a->picture.live[A_SEMAPHORE];
+    uint32_t received = queues_of(a, WAITED_ON);
 
     if (a->picture.running != NOBODY || chance(&a->dice, 500))
         return;
-    if (waited != 0 && chance(&a->dice, 700))
+    if (received != 0 && chance(&a->dice, 400))
+        aim_put_message(a, 1, roll_bit(&a->dice, received));
+    else if (waited != 0 && chance(&a->dice, 700))
         PUT(a, SEM_RELEASE, 1, picture_id(&a->picture, A_SEMAPHORE,
                                           roll_bit(&a->dice, waited)));
     else

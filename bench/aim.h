@@ -41,8 +41,13 @@ void aim_call(struct aim *a, uint32_t call);
 /* Adds a record of numbers at random, small ones more often. */
 void aim_chaos(struct aim *a);
 
-/* With nothing running only a tick or an interrupt's release helps. */
+/* With nothing running only a tick or an interrupt's release, send or jump
+ * helps. */
 void aim_revive(struct aim *a);
+
+/* Adds a send or a jump of a message that a queue takes, by a task or by an
+ * interrupt. */
+void aim_put_message(struct aim *a, uint32_t mark, uint32_t slot);
 
 /* The identifier of the running task, 0 if none. */
 uint32_t aim_running(const struct aim *a);

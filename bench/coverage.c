@@ -2,8 +2,8 @@
  * The statuses of each call row, against those seen.
  *
  * "A row says who may call and which statuses can come back". Status 26
- * needs a broken state, which no script makes; 11 and 13 go to woken tasks
- * only.
+ * needs a broken state, which no script makes; 11, 13 and 30 go to woken
+ * tasks only.
  */
 #include "coverage.h"
 
@@ -11,19 +11,20 @@
 #include <stdio.h>
 #include <string.h>
 
-#define B(status) (UINT32_C(1) << (status))
+#define B(status) (UINT64_C(1) << (status))
 
 static const struct {
     const char *name;
-    uint32_t row;
-    uint32_t wakes;
-} rows[] = { TABLE_ROWS { "unknown call", B(STATUS_BAD_CALL), 0 } };
+    uint64_t row;
+    uint64_t wakes;
+    bool delivers;
+} rows[] = { TABLE_ROWS { "unknown call", B(STATUS_BAD_CALL), 0, false } };
 
 _Static_assert(sizeof rows / sizeof rows[0] == CALL_ROWS,
                "picture.h names the calls of tools/calls.tsv");
 
 /* The statuses of a row that a script can show. */
-static uint32_t shown(int call)
+static uint64_t shown(int call)
 {
     return rows[call].row & ~B(STATUS_BAD_STATE);
 }
@@ -61,25 +62,54 @@ static bool read_sign(struct reader *r, char sign)
     return true;
 }
 
+/* "wakes are `task:status` in order", and "a delivery reads
+ * `task:0:length`". */
+static bool read_wake(struct reader *r, struct coverage *c, uint32_t call)
+{
+    int64_t task, status, length;
+
+    if (!read_number(r, &task) || !read_sign(r, ':')
+        || !read_number(r, &status) || status < 0 || status >= STATUSES)
+        return false;
+    c->told[call][status]++;
+    if (!rows[call].delivers)
+        return true;
+    if (status != 0 || !read_sign(r, ':') || !read_number(r, &length)
+        || length < 0)
+        return false;
+    c->deliveries++;
+    if (length > c->longest_delivery)
+        c->longest_delivery = (uint32_t)length;
+    return true;
+}
+
 static bool read_wakes(struct reader *r, struct coverage *c, uint32_t call)
 {
     uint32_t wakes = 0;
 
     for (; read_sign(r, ' '); wakes++) {
-        int64_t task, status;
-
-        if (!read_number(r, &task) || !read_sign(r, ':')
-            || !read_number(r, &status))
+        if (!read_wake(r, c, call))
             return false;
-        if (status < 0 || status >= STATUSES)
-            return false;
-        c->told[call][status]++;
     }
+    if (rows[call].delivers && wakes > 1)
+        return false;
     c->wakes += wakes;
     c->lines_with_wakes += wakes > 0;
     if (wakes > c->most_wakes)
         c->most_wakes = wakes;
     return read_sign(r, '\n');
+}
+
+/* What an info of a queue or a receive answers. */
+static void note_queue(struct coverage *c, uint32_t call,
+                       const int64_t field[NUMBERS])
+{
+    if (call == QUEUE_INFO && field[3] > c->most_held)
+        c->most_held = (uint32_t)field[3];
+    if (call == QUEUE_INFO && field[4] > c->most_receiving)
+        c->most_receiving = (uint32_t)field[4];
+    if (call == QUEUE_RECEIVE && field[2] > c->longest_received)
+        c->longest_received = (uint32_t)field[2];
 }
 
 /* Record, status, four values, running, wakes. */
@@ -99,6 +129,7 @@ static bool read_line(struct reader *r, struct coverage *c, uint32_t record,
     c->lines_without_runner += field[6] == 0;
     if (call == SEM_INFO && field[4] > c->most_waiting)
         c->most_waiting = (uint32_t)field[4];
+    note_queue(c, call, field);
     if (!read_wakes(r, c, call))
         return false;
     if ((size_t)(r->at - start) > c->longest_line)
@@ -138,7 +169,7 @@ bool coverage_add(struct coverage *c, const struct script *s,
     return r.at == r.end;
 }
 
-static void print_counts(const uint64_t *count, uint32_t row, const char *what,
+static void print_counts(const uint64_t *count, uint64_t row, const char *what,
                          int *missing, int *outside)
 {
     for (int status = 0; status < STATUSES; status++) {
@@ -165,14 +196,18 @@ int coverage_print(const struct coverage *c)
         print_counts(c->told[call], rows[call].wakes, "w", &missing,
                      &outside);
         printf("\n");
-        all += __builtin_popcount(shown(call))
-             + __builtin_popcount(rows[call].wakes);
+        all += __builtin_popcountll(shown(call))
+             + __builtin_popcountll(rows[call].wakes);
     }
     printf("rows: %d of %d statuses seen, %d seen outside a row\n",
            all - missing, all, outside);
     printf("lines with wakes %" PRIu64 ", wakes %" PRIu64
            ", most in a line %u; most tasks waiting %u\n",
            c->lines_with_wakes, c->wakes, c->most_wakes, c->most_waiting);
+    printf("deliveries %" PRIu64 ", longest %u bytes; longest received at once "
+           "%u; most held %u, most receiving %u\n", c->deliveries,
+           c->longest_delivery, c->longest_received, c->most_held,
+           c->most_receiving);
     printf("lines where nothing runs %" PRIu64 "; longest line %zu bytes\n",
            c->lines_without_runner, c->longest_line);
     return outside;

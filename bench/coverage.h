@@ -23,6 +23,11 @@ struct coverage {
     uint64_t lines_without_runner;
     uint32_t most_wakes;
     uint32_t most_waiting;
+    uint64_t deliveries;       /* messages to waiting tasks */
+    uint32_t longest_delivery; /* in bytes */
+    uint32_t longest_received; /* by a receive that did not wait */
+    uint32_t most_held;        /* messages */
+    uint32_t most_receiving;   /* tasks */
     size_t longest_line;
 };
 

@@ -5,7 +5,9 @@
 
 enum { MOST_COUNT = 32767, MOST_PRIORITY = 15 };
 
-static const uint32_t rooms[KINDS] = { 32, 16, 8 };
+enum { MOST_MESSAGES = 16, LONGEST_MESSAGE = 64 };
+
+static const uint32_t rooms[KINDS] = { 32, 16, 8, 8 };
 
 uint32_t picture_room(enum kind kind)
 {
@@ -62,29 +64,62 @@ static int foremost(const struct picture *p, uint32_t mask,
     return best;
 }
 
-static uint32_t waiters(const struct picture *p, int semaphore)
+uint32_t picture_waiters(const struct picture *p, enum kind kind, int slot)
 {
     uint32_t found = 0;
 
     for (uint32_t left = p->waiting; left != 0; left &= left - 1) {
-        if (p->waits_on[lowest(left)] == semaphore)
-            found |= bit(lowest(left));
+        int task = lowest(left);
+
+        if (p->waits_for[task] == kind && p->waits_on[task] == slot)
+            found |= bit(task);
     }
     return found;
 }
 
-static int first_waiter(const struct picture *p, int semaphore)
+static int first_waiter(const struct picture *p, enum kind kind, int slot)
 {
     static const uint8_t all_equal[SLOTS];
-    bool fifo = (p->fifo & bit(semaphore)) != 0;
+    bool fifo = (p->fifo[kind] & bit(slot)) != 0;
 
-    return foremost(p, waiters(p, semaphore), fifo ? all_equal : p->joined);
+    return foremost(p, picture_waiters(p, kind, slot),
+                    fifo ? all_equal : p->joined);
+}
+
+/* The running task joins the wait queue of an object. */
+static void join_queue(struct picture *p, enum kind kind, int slot,
+                       uint32_t time_out)
+{
+    p->waiting |= bit(p->running);
+    p->waits_for[p->running] = kind;
+    p->waits_on[p->running] = (uint8_t)slot;
+    p->joined[p->running] = p->priority[p->running];
+    p->left[p->running] = time_out;
+    p->since[p->running] = ++p->moment;
 }
 
 static void leave_queue(struct picture *p, int task)
 {
     p->waiting &= ~bit(task);
     p->since[task] = ++p->moment;
+}
+
+/* A waiter that leaves ungranted: a semaphore gets its one back. */
+static void give_back(struct picture *p, int task)
+{
+    if (p->waits_for[task] == A_SEMAPHORE)
+        p->count[p->waits_on[task]]++;
+}
+
+static void let_all_go(struct picture *p, enum kind kind, int slot)
+{
+    for (int task; (task = first_waiter(p, kind, slot)) != NOBODY;)
+        leave_queue(p, task);
+}
+
+static bool is_bad_time(uint32_t time_out)
+{
+    return time_out != TOP && (time_out == 0 || time_out > 65535);
 }
 
 static void tick(struct picture *p, const uint32_t *arg)
@@ -95,7 +130,7 @@ static void tick(struct picture *p, const uint32_t *arg)
 
         if (p->left[task] == TOP || --p->left[task] != 0)
             continue;
-        p->count[p->waits_on[task]]++;
+        give_back(p, task);
         leave_queue(p, task);
     }
 }
@@ -115,7 +150,7 @@ static void task_delete(struct picture *p, const uint32_t *arg)
     if (task == NOBODY)
         return;
     if ((p->waiting & bit(task)) != 0)
-        p->count[p->waits_on[task]]++;
+        give_back(p, task);
     p->live[A_TASK] &= ~bit(task);
     p->started &= ~bit(task);
     p->suspended &= ~bit(task);
@@ -170,7 +205,7 @@ static void sem_create(struct picture *p, const uint32_t *arg)
     if (sem == NOBODY)
         return;
     p->count[sem] = (int32_t)arg[1];
-    p->fifo = (p->fifo & ~bit(sem)) | arg[2] << sem;
+    p->fifo[A_SEMAPHORE] = (p->fifo[A_SEMAPHORE] & ~bit(sem)) | arg[2] << sem;
 }
 
 static void sem_delete(struct picture *p, const uint32_t *arg)
@@ -179,26 +214,19 @@ static void sem_delete(struct picture *p, const uint32_t *arg)
 
     if (sem == NOBODY)
         return;
-    for (int task; (task = first_waiter(p, sem)) != NOBODY;)
-        leave_queue(p, task);
+    let_all_go(p, A_SEMAPHORE, sem);
     p->live[A_SEMAPHORE] &= ~bit(sem);
 }
 
 static void sem_claim(struct picture *p, const uint32_t *arg)
 {
     int sem = picture_named(p, A_SEMAPHORE, arg[0]);
-    bool bad_time = arg[2] != TOP && (arg[2] == 0 || arg[2] > 65535);
 
-    if (sem == NOBODY || arg[1] > 1 || (arg[1] == 0 && bad_time)
+    if (sem == NOBODY || arg[1] > 1 || (arg[1] == 0 && is_bad_time(arg[2]))
         || (arg[1] == 1 && p->count[sem] <= 0))
         return;
-    if (--p->count[sem] >= 0)
-        return;
-    p->waiting |= bit(p->running);
-    p->waits_on[p->running] = (uint8_t)sem;
-    p->joined[p->running] = p->priority[p->running];
-    p->left[p->running] = arg[2];
-    p->since[p->running] = ++p->moment;
+    if (--p->count[sem] < 0)
+        join_queue(p, A_SEMAPHORE, sem, arg[2]);
 }
 
 static void sem_release(struct picture *p, const uint32_t *arg)
@@ -208,7 +236,7 @@ static void sem_release(struct picture *p, const uint32_t *arg)
     if (sem == NOBODY || p->count[sem] == MOST_COUNT)
         return;
     if (p->count[sem]++ < 0)
-        leave_queue(p, first_waiter(p, sem));
+        leave_queue(p, first_waiter(p, A_SEMAPHORE, sem));
 }
 
 static bool is_free_ground(const struct picture *p, const struct area *a)
@@ -281,6 +309,59 @@ static void pool_ret_buff(struct picture *p, const uint32_t *arg)
     a->order[a->free++] = (uint8_t)buffer;
 }
 
+static void queue_create(struct picture *p, const uint32_t *arg)
+{
+    struct store s = { .most = arg[1], .longest = arg[2] };
+    int queue;
+
+    if (s.most == 0 || s.most > MOST_MESSAGES || s.longest == 0
+        || s.longest > LONGEST_MESSAGE || arg[3] > 1)
+        return;
+    queue = taken(p, A_QUEUE);
+    if (queue == NOBODY)
+        return;
+    p->store[queue] = s;
+    p->fifo[A_QUEUE] = (p->fifo[A_QUEUE] & ~bit(queue)) | arg[3] << queue;
+}
+
+static void queue_delete(struct picture *p, const uint32_t *arg)
+{
+    int queue = picture_named(p, A_QUEUE, arg[0]);
+
+    if (queue == NOBODY)
+        return;
+    let_all_go(p, A_QUEUE, queue);
+    p->live[A_QUEUE] &= ~bit(queue);
+}
+
+/* A send or a jump: where the message stands makes no difference here. */
+static void queue_put(struct picture *p, const uint32_t *arg)
+{
+    int queue = picture_named(p, A_QUEUE, arg[0]), first;
+    struct store *s = &p->store[queue == NOBODY ? 0 : queue];
+
+    if (queue == NOBODY || arg[1] > s->longest)
+        return;
+    first = first_waiter(p, A_QUEUE, queue);
+    if (first != NOBODY)
+        leave_queue(p, first);
+    else if (s->held < s->most)
+        s->held++;
+}
+
+static void queue_receive(struct picture *p, const uint32_t *arg)
+{
+    int queue = picture_named(p, A_QUEUE, arg[0]);
+    struct store *s = &p->store[queue == NOBODY ? 0 : queue];
+
+    if (queue == NOBODY || arg[1] > 1 || (arg[1] == 0 && is_bad_time(arg[2])))
+        return;
+    if (s->held > 0)
+        s->held--;
+    else if (arg[1] == 0)
+        join_queue(p, A_QUEUE, queue, arg[2]);
+}
+
 static void changes_nothing(struct picture *p, const uint32_t *arg)
 {
     (void)p;
@@ -292,14 +373,16 @@ static void (*const works[CALLS])(struct picture *, const uint32_t *) = {
     task_suspend, task_resume, task_set_priority, sem_create, sem_delete,
     changes_nothing, sem_claim, sem_release, changes_nothing, pool_create,
     pool_delete, changes_nothing, pool_get_buff, pool_ret_buff,
-    changes_nothing
+    changes_nothing, queue_create, queue_delete, changes_nothing, queue_put,
+    queue_put, queue_receive, changes_nothing
 };
 
 static bool caller_is_right(const struct picture *p, uint32_t call,
                             uint32_t mark)
 {
     if (mark == 1)
-        return call == TICK || call == SEM_RELEASE;
+        return call == TICK || call == SEM_RELEASE || call == QUEUE_SEND
+            || call == QUEUE_JUMP;
     return mark == 0 && call != TICK && p->running != NOBODY;
 }
 

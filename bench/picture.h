@@ -15,11 +15,12 @@ enum call {
     TICK, TASK_CREATE, TASK_DELETE, TASK_IDENT, TASK_START, TASK_SUSPEND,
     TASK_RESUME, TASK_SET_PRIORITY, SEM_CREATE, SEM_DELETE, SEM_IDENT,
     SEM_CLAIM, SEM_RELEASE, SEM_INFO, POOL_CREATE, POOL_DELETE, POOL_IDENT,
-    POOL_GET_BUFF, POOL_RET_BUFF, POOL_INFO, CALLS,
+    POOL_GET_BUFF, POOL_RET_BUFF, POOL_INFO, QUEUE_CREATE, QUEUE_DELETE,
+    QUEUE_IDENT, QUEUE_SEND, QUEUE_JUMP, QUEUE_RECEIVE, QUEUE_INFO, CALLS,
     UNKNOWN_CALL = CALLS, CALL_ROWS
 };
 
-enum kind { A_TASK, A_SEMAPHORE, A_POOL, KINDS };
+enum kind { A_TASK, A_SEMAPHORE, A_POOL, A_QUEUE, KINDS };
 
 enum { SLOTS = 32, NOBODY = -1, NUMBERS = 7 };
 
@@ -36,6 +37,13 @@ struct area {
     uint8_t order[MOST_BUFFERS]; /* the free ones, longest free first */
 };
 
+/* Of a message queue; what the messages are is not followed. */
+struct store {
+    uint32_t most;
+    uint32_t longest;
+    uint32_t held;
+};
+
 /* Bit s of a mask speaks of slot s. */
 struct picture {
     uint32_t live[KINDS];
@@ -43,16 +51,18 @@ struct picture {
     uint32_t started;
     uint32_t suspended;
     uint32_t waiting;
-    uint32_t fifo;
+    uint32_t fifo[KINDS]; /* of semaphores and queues */
     uint32_t forced;
     uint32_t moment;       /* counts the times that a task joined anything */
     uint32_t since[SLOTS]; /* the moment when it joined what it stands in */
     uint32_t left[SLOTS];  /* of a waiter's time_out */
     uint8_t priority[SLOTS];
     uint8_t joined[SLOTS]; /* the priority of that moment */
+    enum kind waits_for[SLOTS]; /* a semaphore or a queue */
     uint8_t waits_on[SLOTS];
     int32_t count[SLOTS];
     struct area area[SLOTS];
+    struct store store[SLOTS];
     int running; /* its slot, or NOBODY */
 };
 
@@ -73,6 +83,9 @@ static inline uint32_t picture_id(const struct picture *p, enum kind kind,
 
 /* The slot that an identifier names, or NOBODY. */
 int picture_named(const struct picture *p, enum kind kind, uint32_t id);
+
+/* The tasks that wait for an object. */
+uint32_t picture_waiters(const struct picture *p, enum kind kind, int slot);
 
 static inline uint32_t picture_ready(const struct picture *p)
 {

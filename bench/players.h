@@ -5,9 +5,9 @@
 #include <stddef.h>
 #include <stdint.h>
 
-/* More than the 782 bytes a record that the proved player asks for where it
+/* More than the 793 bytes a record that the proved player asks for where it
  * is to write in one pass, for the most records that a script can have. */
-enum { LISTING_ROOM = 2340 * 782 + 64 };
+enum { LISTING_ROOM = 2340 * 793 + 64 };
 
 /* Plays a script, writes its listing and gives the listing's length. */
 typedef size_t player(const uint8_t *script, size_t length, uint8_t *out,

@@ -13,6 +13,14 @@ static void make_semaphore(struct aim *a, uint32_t count)
     PUT(a, SEM_CREATE, 0, name, count, roll(&a->dice, 2));
 }
 
+static void make_queue(struct aim *a, uint32_t most)
+{
+    uint32_t name = roll(&a->dice, 3);
+    uint32_t longest = ONE_OF(&a->dice, 1, 12, 64);
+
+    PUT(a, QUEUE_CREATE, 0, name, most, longest, roll(&a->dice, 2));
+}
+
 /* Started tasks above the first one, of all priorities. */
 static void make_tasks(struct aim *a, uint32_t number)
 {
@@ -60,12 +68,66 @@ static void open_twenty(struct aim *a)
     make_tasks(a, 20);
 }
 
+/* Semaphores and queues of the same identifiers. */
+static void open_queues(struct aim *a)
+{
+    make_semaphore(a, 0);
+    make_semaphore(a, 1);
+    make_queue(a, 2);
+    make_queue(a, 16);
+    make_tasks(a, 12);
+}
+
+/* A queue is filled past its most, and now and then emptied again, so that
+ * each message comes in its turn. */
+static void fill_and_drain(struct aim *a)
+{
+    uint32_t live = a->picture.live[A_QUEUE], slot, times;
+
+    if (live == 0)
+        return;
+    slot = roll_bit(&a->dice, live);
+    times = a->picture.store[slot].most + 2;
+    for (uint32_t i = 0; i < times; i++)
+        aim_put_message(a, roll(&a->dice, 2), slot);
+    times = ONE_OF(&a->dice, 0, 3, times);
+    for (uint32_t i = 0; i < times; i++)
+        PUT(a, QUEUE_RECEIVE, 0, picture_id(&a->picture, A_QUEUE, slot), 1);
+}
+
+/* Whoever runs receives from the first queue, until only the first task is
+ * left. */
+static void all_receive(struct aim *a)
+{
+    uint32_t id;
+
+    if ((a->picture.live[A_QUEUE] & 1) == 0)
+        make_queue(a, 3);
+    id = picture_id(&a->picture, A_QUEUE, 0);
+    for (int i = 0; i < 40; i++) {
+        uint32_t running = aim_running(a);
+
+        if (running == 0 || (a->anchor && running == 64))
+            return;
+        PUT(a, QUEUE_RECEIVE, 0, id, 0, ONE_OF(&a->dice, 3, 9, TOP));
+    }
+}
+
+static void open_receivers(struct aim *a)
+{
+    make_queue(a, 3);
+    make_semaphore(a, 0);
+    make_tasks(a, 31);
+    all_receive(a);
+}
+
 static void open_full(struct aim *a)
 {
     for (int i = 0; i < 40; i++) {
         aim_call(a, TASK_CREATE);
         aim_call(a, SEM_CREATE);
         aim_call(a, POOL_CREATE);
+        aim_call(a, QUEUE_CREATE);
     }
 }
 
@@ -94,6 +156,28 @@ static void stop_at_the_end(struct aim *a)
         PUT(a, ONE_OF(&a->dice, TASK_DELETE, TASK_SUSPEND), 0, 0);
 }
 
+/* A new crowd receives with one time_out, and is woken whole, as below. */
+static void crowd_of_receivers(struct aim *a)
+{
+    uint32_t live = a->picture.live[A_QUEUE];
+    uint32_t slot = live == 0 ? 0 : roll_bit(&a->dice, live), id;
+    uint32_t ticks = 1 + roll(&a->dice, 3);
+
+    if (live == 0)
+        make_queue(a, 1);
+    id = picture_id(&a->picture, A_QUEUE, slot);
+    make_tasks(a, 32);
+    for (int i = 0; i < 60 && a->picture.running != NOBODY; i++)
+        PUT(a, QUEUE_RECEIVE, 0, id, 0, ticks);
+    if (chance(&a->dice, 400)) {
+        PUT(a, QUEUE_SEND, 1, id, 0);
+        PUT(a, QUEUE_DELETE, 0, id);
+    } else {
+        for (uint32_t i = 0; i < ticks; i++)
+            PUT(a, TICK, 1, 0);
+    }
+}
+
 /* A new crowd waits with one time_out. Then it is woken whole: by the tick
  * that ends the time_out, or by a deletion, which needs one who is granted. */
 static void crowd(struct aim *a)
@@ -120,8 +204,10 @@ static void crowd(struct aim *a)
 /* One kind's objects come and go, so that a slot's serial rises. */
 static void wear(struct aim *a)
 {
-    static const uint32_t create[] = { TASK_CREATE, SEM_CREATE, POOL_CREATE };
-    static const uint32_t delete[] = { TASK_DELETE, SEM_DELETE, POOL_DELETE };
+    static const uint32_t create[] = { TASK_CREATE, SEM_CREATE, POOL_CREATE,
+                                       QUEUE_CREATE };
+    static const uint32_t delete[] = { TASK_DELETE, SEM_DELETE, POOL_DELETE,
+                                       QUEUE_DELETE };
     enum kind kind = (enum kind)roll(&a->dice, KINDS);
     uint32_t times = ONE_OF(&a->dice, 20, 60, 200, 1150);
 
@@ -138,6 +224,10 @@ static void wear(struct aim *a)
 
 #define POOL_CALLS [POOL_IDENT] = 10, [POOL_GET_BUFF] = 160, \
     [POOL_RET_BUFF] = 100, [POOL_INFO] = 50
+
+#define QUEUE_CALLS [QUEUE_CREATE] = 20, [QUEUE_IDENT] = 5, \
+    [QUEUE_SEND] = 120, [QUEUE_JUMP] = 50, [QUEUE_RECEIVE] = 200, \
+    [QUEUE_INFO] = 40
 
 const struct profile profiles[] = {
     { .name = "mixed", .base = 20, .wild = 100, .priority = ANY_PRIORITY,
@@ -173,12 +263,14 @@ const struct profile profiles[] = {
     { .name = "full tables", .base = 20, .wild = 40, .priority = 8,
       .anchor = ANCHORED, .opening = open_full,
       .more = { [TASK_CREATE] = 60, [SEM_CREATE] = 60, [POOL_CREATE] = 60,
-                [TASK_IDENT] = 20, [SEM_IDENT] = 20, [POOL_IDENT] = 20 } },
+                [QUEUE_CREATE] = 60, [TASK_IDENT] = 20, [SEM_IDENT] = 20,
+                [POOL_IDENT] = 20, [QUEUE_IDENT] = 20 } },
     { .name = "serials", .base = 20, .wild = 250, .priority = 3,
       .anchor = ANCHORED,
       .more = { [TASK_CREATE] = 70, [TASK_DELETE] = 70, [SEM_CREATE] = 70,
                 [SEM_DELETE] = 70, [POOL_CREATE] = 70,
-                [POOL_DELETE] = 70 } },
+                [POOL_DELETE] = 70, [QUEUE_CREATE] = 70,
+                [QUEUE_DELETE] = 70 } },
     { .name = "pools", .wild = 40, .priority = 1, .anchor = ANCHORED,
       .more = { [POOL_CREATE] = 60, [POOL_DELETE] = 30, POOL_CALLS } },
     { .name = "pool edges", .wild = 400, .priority = 1, .anchor = ANCHORED,
@@ -192,7 +284,7 @@ const struct profile profiles[] = {
     { .name = "identifiers", .base = 20, .wild = 600, .priority = 15,
       .anchor = ANCHORED,
       .more = { [TASK_CREATE] = 20, [SEM_CREATE] = 20,
-                [POOL_CREATE] = 20 } },
+                [POOL_CREATE] = 20, [QUEUE_CREATE] = 20 } },
     { .name = "refusals", .base = 10, .wild = 500, .priority = 4,
       .anchor = LOOSE, .more = { [UNKNOWN_CALL] = 40 } },
     { .name = "suspended waiters", .base = 1, .wild = 20, .anchor = EITHER,
@@ -209,6 +301,25 @@ const struct profile profiles[] = {
       .anchor = LOOSE, .opening = crowd, .again = crowd,
       .more = { [TASK_SUSPEND] = 10, [TASK_RESUME] = 20, [SEM_INFO] = 10,
                 [TASK_SET_PRIORITY] = 20, [SEM_RELEASE] = 20 } },
+    { .name = "queues", .base = 2, .wild = 50, .priority = ANY_PRIORITY,
+      .anchor = EITHER, .opening = open_queues, .again = fill_and_drain,
+      .more = { QUEUE_CALLS, [QUEUE_DELETE] = 6, [TICK] = 40,
+                [TASK_CREATE] = 10, [TASK_START] = 20, [TASK_DELETE] = 4,
+                [TASK_SUSPEND] = 20, [TASK_RESUME] = 30,
+                [TASK_SET_PRIORITY] = 20, [SEM_CLAIM] = 30,
+                [SEM_RELEASE] = 20 } },
+    { .name = "receivers", .base = 1, .wild = 20, .anchor = ANCHORED,
+      .opening = open_receivers, .again = all_receive,
+      .more = { [QUEUE_SEND] = 30, [QUEUE_JUMP] = 20, [QUEUE_INFO] = 40,
+                [TICK] = 40, [TASK_SUSPEND] = 40, [TASK_RESUME] = 40,
+                [TASK_SET_PRIORITY] = 50, [TASK_DELETE] = 3,
+                [TASK_CREATE] = 10, [TASK_START] = 10, [SEM_CLAIM] = 10,
+                [SEM_RELEASE] = 10 } },
+    { .name = "crowds of receivers", .base = 4, .wild = 10,
+      .priority = ANY_PRIORITY, .anchor = LOOSE,
+      .opening = crowd_of_receivers, .again = crowd_of_receivers,
+      .more = { [TASK_SUSPEND] = 10, [TASK_RESUME] = 20, [QUEUE_INFO] = 10,
+                [TASK_SET_PRIORITY] = 20, [QUEUE_SEND] = 20 } },
     { .name = "worn slots", .base = 20, .wild = 200, .anchor = ANCHORED,
       .opening = wear, .again = wear },
     { .name = "chaos", .anchor = LOOSE, .priority = ANY_PRIORITY,

@@ -6,7 +6,7 @@
 enum { HEADER = 16, RECORD = 28 };
 
 /* Damaged scripts are short, so there can be many of them. */
-enum { DAMAGED_TURNS = 5 };
+enum { DAMAGED_TURNS = 6 };
 
 uint32_t script_profiles(void)
 {

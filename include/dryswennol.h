@@ -17,7 +17,7 @@ extern "C" {
  * If r > out_len, no byte of `out` is changed: lend r bytes and call again.
  *
  * `script` and `out` do not overlap, and neither is NULL, even where its length is 0. No byte past `script_len` and `out_len` is
- * read or written. Where out_len is less than 782 bytes a record, the records are played twice: to measure, and to write.
+ * read or written. Where out_len is less than 793 bytes a record, the records are played twice: to measure, and to write.
  */
 size_t dryswennol_listing(const uint8_t *script, size_t script_len, uint8_t *out, size_t out_len);
 

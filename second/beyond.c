@@ -3,7 +3,9 @@
  * 26 and left as it was. Bytes changed at random: a state that still keeps
  * the rules keeps them after a step, and a refusal changes nothing. A slot
  * used up, after 65,535 serials. A fresh state of priority 16. A grid's cell
- * that stops at 65,535, and a list of records that is refused.
+ * that stops at 65,535, and a list of records that is refused. The bytes of
+ * messages, of which a listing tells the length alone, and lent ones that are
+ * too few.
  */
 #include <stdio.h>
 #include <stdlib.h>
@@ -25,9 +27,38 @@ DAMAGE(ready_order_holds_another, k->ready[9].first = k->ready[9].last = 4;
 DAMAGE(ready_task_in_a_wrong_row, k->task[0].priority = 6)
 DAMAGE(time_out_of_0, k->task[1].time_out = 0)
 DAMAGE(time_out_of_65536, k->task[1].time_out = 65536)
-DAMAGE(waits_on_no_live_semaphore, k->task[1].semaphore = 5)
-DAMAGE(waits_past_the_table, k->task[1].semaphore = 16)
-DAMAGE(waits_in_another_queue, k->task[1].semaphore = 1)
+DAMAGE(waits_on_no_live_semaphore, k->task[1].awaited = 5)
+DAMAGE(waits_past_the_table, k->task[1].awaited = 16)
+DAMAGE(waits_in_another_queue, k->task[1].awaited = 1)
+DAMAGE(waits_on_a_third_kind, k->task[1].waiting = 3)
+DAMAGE(claims_from_a_queue, k->task[1].waiting = ON_QUEUE)
+DAMAGE(receives_from_a_semaphore, k->task[5].waiting = ON_SEMAPHORE)
+DAMAGE(receives_from_no_live_queue, k->task[5].awaited = 2)
+DAMAGE(receives_past_the_table, k->task[5].awaited = 8)
+DAMAGE(receives_in_another_queue, k->task[5].awaited = 1)
+DAMAGE(receives_in_no_queue, k->queue[0].waiters.first =
+       k->queue[0].waiters.last = 0)
+DAMAGE(receivers_rise, k->task[6].joining_priority = 10)
+DAMAGE(receiver_twice, k->task[6].behind = 6)
+DAMAGE(waiters_beside_a_message, k->queue[0].held = 1)
+DAMAGE(holds_more_than_the_most, k->queue[1].most = 2)
+DAMAGE(queue_of_no_messages, k->queue[0].most = 0)
+DAMAGE(queue_of_17_messages, k->queue[0].most = 17)
+DAMAGE(queue_of_longest_0, k->queue[0].longest = 0)
+DAMAGE(queue_of_longest_65, k->queue[0].longest = 65)
+DAMAGE(queue_options_of_2, k->queue[1].options = 2)
+DAMAGE(ring_begins_at_16, k->queue[0].first = 16)
+DAMAGE(message_too_long, k->queue[1].message[15].length = 13)
+DAMAGE(message_of_255, k->queue[1].message[0].length = 255)
+DAMAGE(byte_past_a_message, k->queue[1].message[0].byte[3] = 1)
+DAMAGE(last_byte_past_a_message, k->queue[1].message[15].byte[63] = 1)
+DAMAGE(length_in_an_unused_place, k->queue[1].message[2].length = 1)
+DAMAGE(byte_in_an_unused_place, k->queue[1].message[14].byte[63] = 1)
+DAMAGE(fewer_held_than_there_are, k->queue[1].held = 2)
+DAMAGE(no_queue_but_a_message, k->queue[3].message[7].byte[9] = 1)
+DAMAGE(no_queue_but_a_length, k->queue[2].longest = 1)
+DAMAGE(queue_past_the_table, k->queue_table.live |= 1u << 8)
+DAMAGE(queue_slot_not_usable, k->queue_table.usable &= ~4u)
 DAMAGE(queue_rises, k->task[2].joining_priority = 8)
 DAMAGE(joining_priority_of_16, k->task[1].joining_priority = 16)
 DAMAGE(waits_in_no_queue, k->semaphore[0].queue.first =
@@ -78,6 +109,17 @@ static void (*const damages[])(struct kernel *) = {
     ready_order_past_the_table, ready_order_holds_another,
     ready_task_in_a_wrong_row, time_out_of_0, time_out_of_65536,
     waits_on_no_live_semaphore, waits_past_the_table, waits_in_another_queue,
+    waits_on_a_third_kind, claims_from_a_queue, receives_from_a_semaphore,
+    receives_from_no_live_queue, receives_past_the_table,
+    receives_in_another_queue, receives_in_no_queue, receivers_rise,
+    receiver_twice, waiters_beside_a_message, holds_more_than_the_most,
+    queue_of_no_messages, queue_of_17_messages, queue_of_longest_0,
+    queue_of_longest_65, queue_options_of_2, ring_begins_at_16,
+    message_too_long, message_of_255, byte_past_a_message,
+    last_byte_past_a_message, length_in_an_unused_place,
+    byte_in_an_unused_place, fewer_held_than_there_are,
+    no_queue_but_a_message, no_queue_but_a_length, queue_past_the_table,
+    queue_slot_not_usable,
     queue_rises, joining_priority_of_16, waits_in_no_queue,
     queue_holds_a_ready_task, count_above_its_queue, count_below_its_queue,
     empty_queue_below_0, count_of_32768, not_started_and_suspended,
@@ -99,13 +141,26 @@ static void (*const damages[])(struct kernel *) = {
 enum { DAMAGES = sizeof damages / sizeof damages[0] };
 
 /* The good state: 64 runs, 65 and 66 wait (66 suspended), 67 is not started,
- * 68 is deleted; a semaphore with the queue, one without; two pools. */
+ * 68 is deleted, 69 and 70 receive; a semaphore with the queue, one without;
+ * two pools; a queue with the receivers, one that is deleted, and one that
+ * holds three messages in places 15, 0 and 1. */
 static const uint32_t history[][6] = {
     { 8, 1, 0, 0 },  { 8, 2, 7, 1 },  { 1, 1, 7 },   { 1, 2, 6 },
     { 1, 3, 9 },     { 1, 4, 2 },     { 2, 68 },     { 4, 65 },
     { 11, 64, 0, 3 }, { 4, 66 },      { 11, 64, 0, 9 }, { 5, 66 },
     { 14, 1, 4096, 100, 32, 0 },      { 14, 2, 4196, 10, 1, 1 },
     { 17, 64 },
+    { 20, 1, 3, 12, 0 }, { 20, 2, 3, 12, 0 }, { 20, 3, 3, 12, 0 },
+    { 21, 66 },
+    { 1, 4, 2 },     { 1, 5, 9 },     { 1, 6, 8 },   { 2, 132 },
+    { 4, 69 },       { 25, 64, 0, 4 }, { 4, 70 },    { 25, 64, 0, 5 },
+    { 23, 65, 3 },   { 24, 65, 12 },  { 23, 65, 1 },
+};
+
+/* The bytes that the history's sends and jumps lend. */
+static const struct lent lent = {
+    (const uint8_t[MESSAGE_BYTES]){ 1, 2, 3, 4, 5, 6, 7, 8, 9, 10, 11, 12 },
+    MESSAGE_BYTES
 };
 
 static void good_state(struct kernel *k)
@@ -115,7 +170,8 @@ static void good_state(struct kernel *k)
     memset(k, 0, sizeof *k);
     kernel_fresh(k, 5);
     for (size_t i = 0; i < sizeof history / sizeof history[0]; i++) {
-        kernel_step_checked(k, history[i][0], MARK_TASK, history[i] + 1, &a);
+        kernel_step_checked(k, history[i][0], MARK_TASK, history[i] + 1,
+                            &lent, &a);
         if (a.status > PENDING)
             abort();
     }
@@ -140,7 +196,7 @@ static int first_damage_missed(const struct kernel *good)
 
         damages[i](&k);
         memcpy(&before, &k, sizeof k);
-        kernel_step_checked(&k, 0, MARK_INTERRUPT, arg, &a);
+        kernel_step_checked(&k, 0, MARK_INTERRUPT, arg, &lent, &a);
         if (!answer_is_bad_state(&a) || memcmp(&k, &before, sizeof k) != 0)
             return i;
     }
@@ -160,14 +216,14 @@ static bool random_damage_is_met(const struct kernel *good, uint32_t *seed)
     struct kernel before;
     struct answer a;
     uint32_t arg[ARGUMENTS];
-    uint32_t call = draw(seed) % 21;
+    uint32_t call = draw(seed) % 28;
 
     for (uint32_t left = 1 + draw(seed) % 3; left != 0; left--)
         ((uint8_t *)&k)[draw(seed) % sizeof k] = (uint8_t)draw(seed);
     for (int i = 0; i < ARGUMENTS; i++)
         arg[i] = draw(seed) % 2 ? 64 + draw(seed) % 4 : draw(seed) % 3;
     memcpy(&before, &k, sizeof k);
-    kernel_step_checked(&k, call, call == 0, arg, &a);
+    kernel_step_checked(&k, call, call == 0, arg, &lent, &a);
     if (a.status <= PENDING)
         return rules_of_a_state(&k);
     return memcmp(&k, &before, sizeof k) == 0;
@@ -178,7 +234,7 @@ static uint32_t step(struct kernel *k, uint32_t call, uint32_t first,
 {
     uint32_t arg[ARGUMENTS] = { first, second };
 
-    kernel_step(k, call, MARK_TASK, arg, a);
+    kernel_step(k, call, MARK_TASK, arg, &lent, a);
     return a->status;
 }
 
@@ -213,13 +269,13 @@ static bool table_is_used_up(void)
 
     kernel_fresh(&k, 5);
     for (uint32_t made = 0; made < POOLS * LAST_SERIAL; made++) {
-        kernel_step(&k, 14, MARK_TASK, create, &a);
+        kernel_step(&k, 14, MARK_TASK, create, &lent, &a);
         if (a.status != OK || a.value[0] % 64 != made / LAST_SERIAL)
             return false;
         if (step(&k, 15, (uint32_t)a.value[0], 0, &a) != OK)
             return false;
     }
-    kernel_step(&k, 14, MARK_TASK, create, &a);
+    kernel_step(&k, 14, MARK_TASK, create, &lent, &a);
     return a.status == TOO_MANY_OBJECTS && rules_of_a_state(&k);
 }
 
@@ -263,6 +319,68 @@ static bool grid_is_met(void)
         && grid_grants(&g, &k, last.task, last.semaphore) == 0;
 }
 
+/* A send or jump of so many bytes, each with this number, all that is lent
+ * but for so many more. */
+static uint32_t put(struct kernel *k, uint32_t call, uint32_t length,
+                    uint8_t number, uint32_t more, struct answer *a)
+{
+    static uint8_t byte[MESSAGE_BYTES + 1];
+    const struct lent message = { byte, length + more };
+    const uint32_t arg[ARGUMENTS] = { 64, length, TASKS, TASKS, TASKS };
+
+    memset(byte, number, sizeof byte);
+    kernel_step_checked(k, call, MARK_INTERRUPT, arg, &message, a);
+    return a->status;
+}
+
+/* "a delivery shows it beside the wake, an immediate receive beside the
+ * answer, whose first figure is its length; bytes past it are 0" */
+static bool shows(const struct answer *a, uint32_t length, uint8_t number)
+{
+    if (a->status != OK || a->shows != 1 || a->message.length != length)
+        return false;
+    for (uint32_t i = 0; i < MESSAGE_BYTES; i++) {
+        if (a->message.byte[i] != (i < length ? number : 0))
+            return false;
+    }
+    return true;
+}
+
+static bool receives(struct kernel *k, uint32_t length, uint8_t number)
+{
+    struct answer a;
+
+    return step(k, 25, 64, NOWAIT, &a) == OK && a.wakes == 0
+        && a.value[0] == length && shows(&a, length, number);
+}
+
+static bool messages_are_met(void)
+{
+    struct kernel k;
+    struct answer a;
+    const uint32_t create[ARGUMENTS] = { 1, 16, 64, 0 };
+    const uint32_t receive[ARGUMENTS] = { 64, 0, FOREVER };
+
+    kernel_fresh(&k, 5);
+    kernel_step(&k, 20, MARK_TASK, create, &lent, &a);
+    for (uint8_t i = 0; i < 40; i++) {
+        if (put(&k, 23, i, 100, 0, &a) != OK || a.shows
+            || put(&k, 23, 64, 200, 0, &a) != OK
+            || put(&k, 24, i + 1u, 150, 1, &a) != OK
+            || !receives(&k, i + 1u, 150) || !receives(&k, i, 100)
+            || !receives(&k, 64, 200))
+            return false;
+    }
+    kernel_step(&k, 25, MARK_TASK, receive, &lent, &a);
+    return a.status == PENDING && !a.shows
+        && put(&k, 23, 65, 1, 0, &a) == INVALID_LENGTH
+        && put(&k, 23, 7, 1, UINT32_MAX, &a) == INVALID_LENGTH
+        && put(&k, 24, 1, 1, UINT32_MAX, &a) == INVALID_LENGTH
+        && put(&k, 24, 9, 77, 3, &a) == OK && shows(&a, 9, 77)
+        && a.wakes == 1 && a.wake[0].task == 64 && a.wake[0].status == OK
+        && step(&k, 26, 64, 0, &a) == OK && a.value[1] == 0 && !a.shows;
+}
+
 static bool random_damages_are_met(const struct kernel *good)
 {
     uint32_t seed = 1;
@@ -299,6 +417,8 @@ int main(void)
         return failed("a fresh state is not met");
     if (!grid_is_met())
         return failed("a grid is not met");
+    if (!messages_are_met())
+        return failed("the bytes of a message are not met");
     printf("%d damaged states are answered 26\n", DAMAGES);
     return 0;
 }

@@ -3,7 +3,8 @@
  * a fresh state, a step, and a step that tests the state first.
  *
  * "Room: 32 tasks, 16 semaphores, 8 pools, 64 buffers a pool, 16 priorities
- * (0 to 15, 15 most urgent), names of 32 bits."
+ * (0 to 15, 15 most urgent), names of 32 bits." And M-100: "Eight queues;
+ * create takes name, most messages (1 to 16), longest message (1 to 64)".
  */
 #ifndef KERNEL_H
 #define KERNEL_H
@@ -15,9 +16,12 @@ enum {
     TASKS = 32,
     SEMAPHORES = 16,
     POOLS = 8,
+    QUEUES = 8,
+    MESSAGES = 16, /* that a queue can hold */
+    MESSAGE_BYTES = 64,
     BUFFERS = 64,
     PRIORITIES = 16,
-    TABLE_ROOM = 32, /* the largest of the three tables */
+    TABLE_ROOM = 32, /* the largest of the four tables */
     LAST_SERIAL = 65535,
     MOST_COUNT = 32767,
     MOST_TIME_OUT = 65535,
@@ -54,7 +58,11 @@ enum status {
     TASK_NOT_SUSPENDED = 23,
     NO_CALLER = 24,
     BAD_CALL = 25,
-    BAD_STATE = 26
+    BAD_STATE = 26,
+    INVALID_LENGTH = 27,
+    QUEUE_FULL = 28,
+    QUEUE_EMPTY = 29,
+    QUEUE_DELETED = 30
 };
 
 enum { MARK_TASK = 0, MARK_INTERRUPT = 1 };
@@ -70,6 +78,9 @@ struct table {
     uint16_t serial[TABLE_ROOM]; /* the live one, or the last one */
 };
 
+/* What a task waits for: a wait queue of one kind or of the other. */
+enum wait { NOT_WAITING, ON_SEMAPHORE, ON_QUEUE };
+
 /* Tasks in a row, by place: place is slot + 1, and 0 is nobody. */
 struct list {
     uint8_t first;
@@ -79,10 +90,10 @@ struct list {
 struct task {
     uint32_t time_out; /* ticks left, or FOREVER */
     uint8_t priority;
-    uint8_t started;   /* These three are 0 or 1; they are no bool, so that */
-    uint8_t suspended; /* a rule may read whatever byte a damaged state */
-    uint8_t waiting;   /* holds there. */
-    uint8_t semaphore;        /* the slot whose queue it stands in */
+    uint8_t started;   /* These two are 0 or 1, and the third an enum wait; */
+    uint8_t suspended; /* they are bytes, so that a rule may read whatever */
+    uint8_t waiting;   /* a damaged state holds there. */
+    uint8_t awaited;   /* the slot of the object whose queue it stands in */
     uint8_t joining_priority; /* its priority when it joined */
     uint8_t ahead;  /* A task is ready or waits, never both: these two */
     uint8_t behind; /* links serve the ready order and the queues. */
@@ -106,6 +117,24 @@ struct pool {
     uint8_t free_order[BUFFERS];
 };
 
+/* "bytes past it are 0" */
+struct message {
+    uint8_t length;
+    uint8_t byte[MESSAGE_BYTES];
+};
+
+/* Messages lie in a ring: the one to be received next at `first`, the others
+ * behind it, and behind place 15 comes place 0. Places not in use are 0. */
+struct queue {
+    uint8_t most;    /* messages */
+    uint8_t longest; /* message, in bytes */
+    uint8_t options;
+    uint8_t held; /* messages */
+    uint8_t first;
+    struct list waiters;
+    struct message message[MESSAGES];
+};
+
 struct kernel {
     struct list ready[PRIORITIES];
     uint32_t ready_priorities; /* bit p: ready[p] holds a task */
@@ -113,9 +142,11 @@ struct kernel {
     struct table task_table;
     struct table semaphore_table;
     struct table pool_table;
+    struct table queue_table;
     struct task task[TASKS];
     struct semaphore semaphore[SEMAPHORES];
     struct pool pool[POOLS];
+    struct queue queue[QUEUES];
 };
 
 struct wake {
@@ -123,13 +154,25 @@ struct wake {
     uint32_t status;
 };
 
-/* Places of wake from wakes on are not set. */
+/* "A send or jump lends its message": so many bytes of it. */
+struct lent {
+    const uint8_t *byte;
+    uint32_t length;
+};
+
+/*
+ * Places of wake from wakes on are not set. "A delivery shows it beside the
+ * wake, an immediate receive beside the answer": one step has one of these at
+ * most, so one place is enough; where shows is 0 it is not set.
+ */
 struct answer {
     uint32_t status;
     uint32_t running;
     int64_t value[VALUES]; /* wide enough for an address and a count below 0 */
     uint32_t wakes;
+    uint32_t shows; /* 1 with a message, then the only wake is its receiver */
     struct wake wake[TASKS];
+    struct message message;
 };
 
 /* A fresh state; 19 and the one of priority 0 for a priority above 15. */
@@ -137,11 +180,13 @@ uint32_t kernel_fresh(struct kernel *k, uint32_t priority);
 
 /* One call on a state that keeps the rules; a refusal changes nothing. */
 void kernel_step(struct kernel *k, uint32_t call, uint32_t mark,
-                 const uint32_t arg[ARGUMENTS], struct answer *a);
+                 const uint32_t arg[ARGUMENTS], const struct lent *message,
+                 struct answer *a);
 
 /* The same for any bytes: answers 26 where a rule is broken. */
 void kernel_step_checked(struct kernel *k, uint32_t call, uint32_t mark,
-                         const uint32_t arg[ARGUMENTS], struct answer *a);
+                         const uint32_t arg[ARGUMENTS],
+                         const struct lent *message, struct answer *a);
 
 /* Whether the state keeps every rule under 'Rules of a state'. */
 bool rules_of_a_state(const struct kernel *k);

@@ -1,6 +1,7 @@
 /*
- * The program: second [--trust] [--grid] [FILE]. Reads a script from the
- * file, or from standard input, and prints its listing, or its grant grid.
+ * The program: second [--trust] [--grid | --messages] [FILE]. Reads a script
+ * from the file, or from standard input, and prints its listing, or its grant
+ * grid, or the messages that it shows.
  */
 #include <errno.h>
 #include <stdio.h>
@@ -19,9 +20,12 @@ static int failed(const char *what)
 }
 
 /* What is asked for. */
+typedef size_t player(const uint8_t *script, size_t length, int trust,
+                      char *out, size_t room);
+
 struct wish {
     int trust;
-    int grid;
+    player *plays;
 };
 
 static int play(FILE *from, const char *name, struct wish wish)
@@ -31,8 +35,7 @@ static int play(FILE *from, const char *name, struct wish wish)
 
     if (ferror(from))
         return failed(name);
-    written = (wish.grid ? script_grid : script_listing)(
-        script, length, wish.trust, listing, sizeof listing);
+    written = wish.plays(script, length, wish.trust, listing, sizeof listing);
     if (fwrite(listing, 1, written, stdout) != written || fflush(stdout) != 0)
         return failed("standard output");
     return 0;
@@ -52,7 +55,7 @@ static int play_file(const char *name, struct wish wish)
 
 int main(int argc, char **argv)
 {
-    struct wish wish = { 0, 0 };
+    struct wish wish = { 0, script_listing };
     int words = 1;
 
     if (words < argc && strcmp(argv[words], "--trust") == 0) {
@@ -60,11 +63,15 @@ int main(int argc, char **argv)
         words++;
     }
     if (words < argc && strcmp(argv[words], "--grid") == 0) {
-        wish.grid = 1;
+        wish.plays = script_grid;
+        words++;
+    } else if (words < argc && strcmp(argv[words], "--messages") == 0) {
+        wish.plays = script_messages;
         words++;
     }
     if (argc - words > 1 || (argc > words && argv[words][0] == '-')) {
-        fprintf(stderr, "usage: second [--trust] [--grid] [FILE]\n");
+        fprintf(stderr,
+                "usage: second [--trust] [--grid | --messages] [FILE]\n");
         return 2;
     }
     if (argc > words)

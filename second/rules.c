@@ -44,7 +44,7 @@ static bool priorities_are_in_range(const struct kernel *k)
 
         if (t->priority >= PRIORITIES || t->joining_priority >= PRIORITIES)
             return false;
-        if (t->started > 1 || t->suspended > 1 || t->waiting > 1)
+        if (t->started > 1 || t->suspended > 1 || t->waiting > ON_QUEUE)
             return false;
     }
     return true;
@@ -151,7 +151,7 @@ static bool fields_not_in_use_are_zero(const struct kernel *k)
 
         if (t->waiting)
             continue;
-        if (t->time_out != 0 || t->semaphore != 0 || t->joining_priority != 0)
+        if (t->time_out != 0 || t->awaited != 0 || t->joining_priority != 0)
             return false;
         if (links && !is_ready(t))
             return false;
@@ -205,8 +205,17 @@ static bool ready_order_holds_each_ready_task_once(const struct kernel *k)
     return seen == ready_tasks(k);
 }
 
-/* "Each waiting task stands ... in one live semaphore's queue, with a
- * time_out left of 1 to 65,535 or FOREVER". */
+/* Whether the slot that a waiting task names has a live object. */
+static bool awaited_is_live(const struct kernel *k, const struct task *t)
+{
+    if (t->waiting == ON_QUEUE)
+        return t->awaited < QUEUES && slot_is_live(&k->queue_table, t->awaited);
+    return t->awaited < SEMAPHORES
+        && slot_is_live(&k->semaphore_table, t->awaited);
+}
+
+/* "Each waiting task stands ... in one live semaphore's or queue's wait
+ * queue, with a time_out left of 1 to 65,535 or FOREVER". */
 static bool waiting_fields_are_in_range(const struct kernel *k)
 {
     for (uint32_t slot = 0; slot < TASKS; slot++) {
@@ -214,11 +223,7 @@ static bool waiting_fields_are_in_range(const struct kernel *k)
 
         if (!t->waiting)
             continue;
-        if (t->time_out == 0
-            || (t->time_out > MOST_TIME_OUT && t->time_out != FOREVER))
-            return false;
-        if (t->semaphore >= SEMAPHORES
-            || !slot_is_live(&k->semaphore_table, t->semaphore))
+        if (time_out_is_bad(t->time_out) || !awaited_is_live(k, t))
             return false;
     }
     return true;
@@ -233,26 +238,33 @@ static uint32_t waiting_tasks(const struct kernel *k)
     return waiting;
 }
 
-static bool queue_is_of_semaphore(const struct kernel *k, uint32_t sem)
+/* Whether a wait queue holds tasks that say so, adding them to those seen. */
+static bool queue_is_of(const struct kernel *k, const struct list *queue,
+                        enum wait kind, uint32_t slot, uint32_t *seen)
 {
-    uint8_t place = k->semaphore[sem].queue.first;
+    uint8_t place = queue->first;
 
-    while (place != 0 && k->task[place - 1].waiting
-           && k->task[place - 1].semaphore == sem)
+    if (!list_is_sound(k, queue, seen))
+        return false;
+    while (place != 0 && k->task[place - 1].waiting == kind
+           && k->task[place - 1].awaited == slot)
         place = k->task[place - 1].behind;
     return place == 0;
 }
 
-/* "Each waiting task stands once in one live semaphore's queue ...; queues
- * hold no other task". */
+/* "Each waiting task stands once in one live semaphore's or queue's wait
+ * queue ...; queues hold no other task". */
 static bool each_waiting_task_stands_once_in_one_queue(const struct kernel *k)
 {
     uint32_t seen = 0;
 
     for (uint32_t sem = 0; sem < SEMAPHORES; sem++) {
-        if (!list_is_sound(k, &k->semaphore[sem].queue, &seen))
+        if (!queue_is_of(k, &k->semaphore[sem].queue, ON_SEMAPHORE, sem,
+                         &seen))
             return false;
-        if (!queue_is_of_semaphore(k, sem))
+    }
+    for (uint32_t slot = 0; slot < QUEUES; slot++) {
+        if (!queue_is_of(k, &k->queue[slot].waiters, ON_QUEUE, slot, &seen))
             return false;
     }
     return seen == waiting_tasks(k);
@@ -280,6 +292,12 @@ static bool queues_not_fifo_never_rise(const struct kernel *k)
         const struct semaphore *s = &k->semaphore[sem];
 
         if ((s->options & FIFO) == 0 && !queue_never_rises(k, &s->queue))
+            return false;
+    }
+    for (uint32_t slot = 0; slot < QUEUES; slot++) {
+        const struct queue *q = &k->queue[slot];
+
+        if ((q->options & FIFO) == 0 && !queue_never_rises(k, &q->waiters))
             return false;
     }
     return true;
@@ -427,6 +445,7 @@ bool rules_of_a_state(const struct kernel *k)
     return table_is_sound(&k->task_table, TASKS)
         && table_is_sound(&k->semaphore_table, SEMAPHORES)
         && table_is_sound(&k->pool_table, POOLS)
+        && table_is_sound(&k->queue_table, QUEUES)
         && priorities_are_in_range(k)
         && semaphore_options_are_in_range(k)
         && pool_options_are_in_range(k)
@@ -444,6 +463,7 @@ bool rules_of_a_state(const struct kernel *k)
         && marks_past_the_number_are_zero(k)
         && orders_hold_each_free_buffer_once(k)
         && no_two_live_pools_share_a_byte(k)
+        && queues_keep_their_rules(k)
         && ready_priorities_are_marked(k)
         && running_time_outs_are_marked(k);
 }

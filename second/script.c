@@ -4,9 +4,12 @@
  * "The whole listing (record, status, four values, running, wakes) ...
  * Records count from 1; one space between fields, a newline after each line,
  * no leading zeros; sem_info's count is signed ...; wakes are `task:status`
- * in order. A listing without records is empty."
+ * in order. A listing without records is empty." And M-100: "a delivery reads
+ * `task:0:length`".
  */
 #include "script.h"
+
+#include <string.h>
 
 #include "grid.h"
 #include "identifiers.h"
@@ -71,6 +74,10 @@ static void put_answer(struct writer *w, uint32_t record,
         put_field(w, a->wake[i].task);
         put_sign(w, ':');
         put_number(w, a->wake[i].status);
+        if (a->shows) {
+            put_sign(w, ':');
+            put_number(w, a->message.length);
+        }
     }
     put_sign(w, '\n');
 }
@@ -98,19 +105,30 @@ static bool header_is_admitted(const uint8_t *script, size_t length,
         && number_at(script + 12) == 0;
 }
 
+/* "In a script the three arguments left are the first 12 bytes, the rest
+ * zeros". */
+static void message_of(const uint8_t *record, uint8_t *message)
+{
+    memset(message, 0, MESSAGE_BYTES);
+    memcpy(message, record + 16, RECORD_BYTES - 16);
+}
+
 static void play_record(struct kernel *k, const uint8_t *record, int trust,
                         struct answer *a)
 {
     uint32_t call = number_at(record);
     uint32_t mark = number_at(record + 4);
     uint32_t arg[ARGUMENTS];
+    uint8_t message[MESSAGE_BYTES];
+    const struct lent lent = { message, MESSAGE_BYTES };
 
     for (int i = 0; i < ARGUMENTS; i++)
         arg[i] = number_at(record + 8 + 4 * i);
+    message_of(record, message);
     if (trust)
-        kernel_step(k, call, mark, arg, a);
+        kernel_step(k, call, mark, arg, &lent, a);
     else
-        kernel_step_checked(k, call, mark, arg, a);
+        kernel_step_checked(k, call, mark, arg, &lent, a);
 }
 
 size_t script_listing(const uint8_t *script, size_t length, int trust,
@@ -178,5 +196,42 @@ size_t script_grid(const uint8_t *script, size_t length, int trust, char *out,
         caller = a.running;
     }
     put_grid(&w, &g, &k);
+    return w.length;
+}
+
+/* Bytes as figures of base 16. */
+static void put_bytes(struct writer *w, const uint8_t *byte, size_t number)
+{
+    static const char figure[] = "0123456789abcdef";
+
+    for (; number > 0; number--, byte++) {
+        put_sign(w, figure[*byte / 16]);
+        put_sign(w, figure[*byte % 16]);
+    }
+}
+
+size_t script_messages(const uint8_t *script, size_t length, int trust,
+                       char *out, size_t room)
+{
+    struct writer w = { .out = out, .room = room };
+    struct header h;
+    struct kernel k;
+    struct answer a;
+
+    if (!header_is_admitted(script, length, &h)) {
+        put_text(&w, "script refused\n");
+        return w.length;
+    }
+    kernel_fresh(&k, h.priority);
+    for (uint32_t record = 0; record < h.records; record++) {
+        play_record(&k, script + h.offset + RECORD_BYTES * record, trust, &a);
+        if (!a.shows)
+            continue;
+        put_number(&w, record + 1);
+        put_field(&w, a.message.length);
+        put_sign(&w, ' ');
+        put_bytes(&w, a.message.byte, MESSAGE_BYTES);
+        put_sign(&w, '\n');
+    }
     return w.length;
 }

@@ -31,4 +31,9 @@ size_t script_listing(const uint8_t *script, size_t length, int trust,
 size_t script_grid(const uint8_t *script, size_t length, int trust, char *out,
                    size_t room);
 
+/* The same for the messages that it shows, which no listing tells: a line for
+ * each, of its record, its length and its 64 bytes. */
+size_t script_messages(const uint8_t *script, size_t length, int trust,
+                       char *out, size_t room);
+
 #endif

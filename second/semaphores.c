@@ -1,5 +1,5 @@
 /*
- * Semaphores: calls 8 to 13, and how a waiter joins and leaves a queue.
+ * Semaphores: calls 8 to 13.
  *
  * "Claim: count less one. At 0 or more the answer is OK; below 0 the caller
  * joins the queue. ... Release: count plus one. If there were waiters the
@@ -12,67 +12,6 @@ static enum status semaphore_named(const struct kernel *k, uint32_t id,
                                    uint32_t *slot)
 {
     return identify(&k->semaphore_table, SEMAPHORES, id, slot);
-}
-
-/*
- * "FIFO queues grow at the end. Others are by priority at the moment of
- * joining, equals by arrival": the search from the end stops at an equal.
- */
-static uint8_t last_not_preceded(struct kernel *k, const struct semaphore *s,
-                                 uint8_t priority)
-{
-    uint8_t place = s->queue.last;
-
-    if ((s->options & FIFO) != 0)
-        return place;
-    while (place != 0 && task_at(k, place)->joining_priority < priority)
-        place = task_at(k, place)->ahead;
-    return place;
-}
-
-static void queue_join(struct kernel *k, uint32_t sem, uint32_t slot,
-                       uint32_t time_out)
-{
-    struct semaphore *s = &k->semaphore[sem];
-    struct task *t = &k->task[slot];
-
-    ready_leave(k, slot);
-    t->waiting = 1;
-    t->semaphore = (uint8_t)sem;
-    t->joining_priority = t->priority;
-    t->time_out = time_out;
-    if (time_out_runs(t))
-        k->running_time_outs |= slot_bit(slot);
-    list_put(k, &s->queue, (uint8_t)(slot + 1),
-             last_not_preceded(k, s, t->priority));
-}
-
-void queue_leave(struct kernel *k, uint32_t slot)
-{
-    struct task *t = &k->task[slot];
-
-    list_take(k, &k->semaphore[t->semaphore].queue, (uint8_t)(slot + 1));
-    t->waiting = 0;
-    t->semaphore = 0;
-    t->joining_priority = 0;
-    t->time_out = 0;
-    k->running_time_outs &= ~slot_bit(slot);
-}
-
-void queue_leave_ungranted(struct kernel *k, uint32_t slot)
-{
-    k->semaphore[k->task[slot].semaphore].count++;
-    queue_leave(k, slot);
-}
-
-void wake(struct kernel *k, uint32_t slot, enum status status,
-          struct answer *a)
-{
-    a->wake[a->wakes].task = identifier(&k->task_table, slot);
-    a->wake[a->wakes].status = status;
-    a->wakes++;
-    if (!k->task[slot].suspended)
-        ready_enter(k, slot);
 }
 
 enum status sem_create(struct kernel *k, const uint32_t *arg,
@@ -102,12 +41,8 @@ enum status sem_delete(struct kernel *k, const uint32_t *arg,
 
     if (refusal != OK)
         return refusal;
-    while (k->semaphore[sem].queue.first != 0) {
-        uint32_t slot = k->semaphore[sem].queue.first - 1u;
-
-        queue_leave(k, slot);
-        wake(k, slot, SEMAPHORE_DELETED, a);
-    }
+    while (k->semaphore[sem].queue.first != 0)
+        wake_first(k, &k->semaphore[sem].queue, SEMAPHORE_DELETED, a);
     k->semaphore[sem] = (struct semaphore){ 0 };
     table_drop(&k->semaphore_table, sem);
     return OK;
@@ -119,9 +54,16 @@ enum status sem_ident(struct kernel *k, const uint32_t *arg,
     return ident(&k->semaphore_table, arg[0], a);
 }
 
-static bool time_out_is_bad(uint32_t time_out)
+/* The caller waits in the semaphore's queue. */
+static enum status claim_waits(struct kernel *k, uint32_t sem,
+                               uint32_t time_out)
 {
-    return time_out != FOREVER && (time_out == 0 || time_out > MOST_TIME_OUT);
+    struct semaphore *s = &k->semaphore[sem];
+    const struct awaited w = { ON_SEMAPHORE, sem, &s->queue,
+                               (s->options & FIFO) != 0 };
+
+    wait_join(k, running_slot(k), &w, time_out);
+    return PENDING;
 }
 
 enum status sem_claim(struct kernel *k, const uint32_t *arg,
@@ -143,8 +85,7 @@ enum status sem_claim(struct kernel *k, const uint32_t *arg,
     k->semaphore[sem].count--;
     if (k->semaphore[sem].count >= 0)
         return OK;
-    queue_join(k, sem, running_slot(k), arg[2]);
-    return PENDING;
+    return claim_waits(k, sem, arg[2]);
 }
 
 enum status sem_release(struct kernel *k, const uint32_t *arg,
@@ -158,12 +99,8 @@ enum status sem_release(struct kernel *k, const uint32_t *arg,
     if (k->semaphore[sem].count == MOST_COUNT)
         return SEMAPHORE_OVERFLOW;
     k->semaphore[sem].count++;
-    if (k->semaphore[sem].queue.first != 0) {
-        uint32_t slot = k->semaphore[sem].queue.first - 1u;
-
-        queue_leave(k, slot);
-        wake(k, slot, OK, a);
-    }
+    if (k->semaphore[sem].queue.first != 0)
+        wake_first(k, &k->semaphore[sem].queue, OK, a);
     return OK;
 }
 

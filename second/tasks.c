@@ -45,7 +45,7 @@ enum status task_delete(struct kernel *k, const uint32_t *arg,
     if (refusal != OK)
         return refusal;
     if (k->task[slot].waiting)
-        queue_leave_ungranted(k, slot);
+        wait_leave_ungranted(k, slot);
     else if (is_ready(&k->task[slot]))
         ready_leave(k, slot);
     k->task[slot] = (struct task){ 0 };

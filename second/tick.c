@@ -16,7 +16,7 @@ enum status tick(struct kernel *k, const uint32_t *arg, struct answer *a)
 
         k->task[slot].time_out--;
         if (k->task[slot].time_out == 0) {
-            queue_leave_ungranted(k, slot);
+            wait_leave_ungranted(k, slot);
             wake(k, slot, TIME_OUT, a);
         }
     }

@@ -81,6 +81,11 @@ class Aim:
         return self.some(self.model.semaphores,
                          [s for s in live if wanted(s)] or live)
 
+    def queue_id(self, wanted=lambda queue: True):
+        live = self.model.queues.live()
+        return self.some(self.model.queues,
+                         [q for q in live if wanted(q)] or live)
+
     def pool_id(self):
         return self.some(self.model.pools, self.model.pools.live())
 
@@ -207,8 +212,58 @@ class Aim:
     def pool_info(self):
         self.do(19, self.pool_id())
 
+    # Message queues.
+
+    def queue_create(self):
+        most = self.number([1, 1, 2, 3, 4, 16], [0, 1, 16, 17, 256, TOP])
+        longest = self.number([1, 2, 8, 12, 13, 63, 64],
+                              [0, 1, 64, 65, 256, 257, TOP])
+        self.do(20, self.rng.choice(NAMES), most, longest, self.options())
+
+    def queue_delete(self):
+        self.do(21, self.queue_id())
+
+    def queue_ident(self):
+        self.do(22, self.rng.choice(NAMES + [11]))
+
+    def queue_send(self):
+        self.send(23)
+
+    def queue_jump(self):
+        self.send(24)
+
+    def send(self, call):
+        """Often to a queue with waiters or to a full one; the length is the
+        queue's longest, one more, or any."""
+        rng = self.rng
+        wish = rng.random()
+        queue = self.queue_id(
+            (lambda q: q["queue"]) if wish < .5 else
+            (lambda q: len(q["held"]) >= q["most"] - 1) if wish < .7 else
+            lambda q: True)
+        longest = [q["longest"] for q in self.model.queues.live()
+                   if q["id"] == queue] or [64]
+        length = self.number(
+            [0, 1, rng.randrange(longest[0] + 1), longest[0]],
+            [longest[0] + 1, 64, 65, 255, 256, 256 + longest[0], TOP])
+        mark = 1 if rng.random() < .2 else None
+        self.do(call, queue, length, rng.randrange(TOP + 1),
+                rng.choice([0, TOP, rng.randrange(TOP + 1)]),
+                rng.randrange(TOP + 1), mark=mark)
+
+    def queue_receive(self):
+        options = 0 if self.rng.random() < .8 else self.options()
+        empty = self.rng.random() < .6
+        queue = self.queue_id(lambda q: (not q["held"]) == empty)
+        if self.anchor_runs():
+            options = 1
+        self.do(25, queue, options, self.time_out())
+
+    def queue_info(self):
+        self.do(26, self.queue_id())
+
     # Calls that no row knows.
 
     def unknown_call(self):
-        self.do(self.rng.choice([20, 21, 26, 255, 256, TOP]),
+        self.do(self.rng.choice([27, 28, 31, 255, 256, TOP]),
                 self.rng.randrange(TOP))

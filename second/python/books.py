@@ -1,5 +1,5 @@
 #!/usr/bin/env python3
-"""The books of semaphores and pools, kept from the answers alone.
+"""The books of semaphores, queues and pools, kept from the answers alone.
 
 books.py SCRIPT LISTING [SCRIPT LISTING ...]
 books.py --program build/second --seeds FIRST LAST [--records M]
@@ -9,9 +9,10 @@ answered OK, less claims granted, less tasks waiting. Tasks wait only when
 the count is negative, and then its size is their number. A release answered
 OK that finds waiters grants exactly one, whom none precedes. Who waits in a
 FIFO queue has as many ahead as it found, less releases there since, less
-those ahead that left ungranted; release p + 1 - d grants it. While a pool
-lives, buffers out are gets less returns, and no two of live pools share a
-byte.
+those ahead that left ungranted; release p + 1 - d grants it. While a queue
+lives, messages accepted are those delivered plus those held; each comes in
+its turn, and tasks wait only when none is held. While a pool lives, buffers
+out are gets less returns, and no two of live pools share a byte.
 """
 
 import argparse
@@ -107,6 +108,33 @@ class Semaphore:
         self.granted += 1
 
 
+class Queue:
+    """Messages are known by their lengths: no listing tells more."""
+
+    def __init__(self, args):
+        _, self.most, self.longest, self.options = args[:4]
+        self.accepted = self.delivered = 0
+        self.held = []
+        self.queue = []  # (task, joining priority) by arrival
+
+    by_the_rule = Semaphore.by_the_rule
+
+    def leave(self, task):
+        self.queue = [waiter for waiter in self.queue if waiter[0] != task]
+
+    leave_ungranted = leave
+
+    def join(self, task, priority):
+        self.queue.append((task, priority))
+
+    def balance(self):
+        must(self.accepted == self.delivered + len(self.held),
+             "%d accepted, %d delivered, %d held" % (
+                 self.accepted, self.delivered, len(self.held)))
+        must(not (self.held and self.queue), "tasks wait beside messages")
+        must(len(self.held) <= self.most, "more are held than the most")
+
+
 class Pool:
     def __init__(self, args):
         _, self.address, self.length, self.size, self.options = args
@@ -128,7 +156,8 @@ class Books:
         self.running = 64
         self.priorities = {64: priority}
         self.semaphores = {}
-        self.waits_on = {}
+        self.queues = {}
+        self.waits_on = {}  # task to the semaphore or queue
         self.pools = {}
         self.starts = []  # of the buffers out of live pools, ascending
         self.ends = {}
@@ -139,8 +168,9 @@ class Books:
         if answer.status > PENDING:
             self.refusal(answer)
             return
-        must(answer.status == OK or call == 11, "only a claim is pending")
-        if call not in (0, 9, 12):
+        must(answer.status == OK or call in (11, 25),
+             "only a claim or a receive is pending")
+        if call not in (0, 9, 12, 21, 23, 24):
             must(not answer.wakes, "this call wakes nobody")
         booking = getattr(self, "call_%d" % call, None)
         if booking:
@@ -161,9 +191,9 @@ class Books:
         return table[identifier]
 
     def leave_ungranted(self, task):
-        semaphore = self.semaphores[self.waits_on.pop(task)]
-        semaphore.leave_ungranted(task)
-        semaphore.balance()
+        thing = self.waits_on.pop(task)
+        thing.leave_ungranted(task)
+        thing.balance()
 
     # Tasks and ticks.
 
@@ -214,7 +244,7 @@ class Books:
         else:
             must(args[1] == 0, "NOWAIT never waits")
             semaphore.join(self.running, self.priorities[self.running])
-            self.waits_on[self.running] = args[0]
+            self.waits_on[self.running] = semaphore
         semaphore.balance()
 
     def call_12(self, args, answer):
@@ -234,6 +264,62 @@ class Books:
         must(answer.values == [semaphore.options, semaphore.count(),
                                len(semaphore.queue), 0],
              "the books say count %d" % semaphore.count())
+
+    # Message queues.
+
+    def call_20(self, args, answer):
+        must(answer.values[0] not in self.queues, "identifier in use")
+        self.queues[answer.values[0]] = Queue(args)
+
+    def call_21(self, args, answer):
+        queue = self.live(self.queues, args[0])
+        waiters = queue.by_the_rule()
+        must(answer.wakes == [(task, 30) for task in waiters],
+             "delete wakes all waiters in order with 30")
+        for task in waiters:
+            del self.waits_on[task]
+        del self.queues[args[0]]
+
+    def call_23(self, args, answer):
+        self.accepted(args, answer, lambda held: held + [args[1]])
+
+    def call_24(self, args, answer):
+        self.accepted(args, answer, lambda held: [args[1]] + held)
+
+    def accepted(self, args, answer, placed):
+        queue = self.live(self.queues, args[0])
+        must(args[1] <= queue.longest, "a message that is too long")
+        queue.accepted += 1
+        if queue.queue:
+            first = queue.by_the_rule()[0]
+            must(answer.wakes == [(first, 0, args[1])], "%d is first" % first)
+            queue.delivered += 1
+            queue.leave(first)
+            del self.waits_on[first]
+        else:
+            must(not answer.wakes, "nobody waits")
+            queue.held = placed(queue.held)
+        queue.balance()
+
+    def call_25(self, args, answer):
+        queue = self.live(self.queues, args[0])
+        if answer.status == OK:
+            must(queue.held[:1] == [answer.values[0]],
+                 "another message is first")
+            queue.held.pop(0)
+            queue.delivered += 1
+        else:
+            must(args[1] == 0, "NOWAIT never waits")
+            queue.join(self.running, self.priorities[self.running])
+            self.waits_on[self.running] = queue
+        queue.balance()
+
+    def call_26(self, args, answer):
+        queue = self.live(self.queues, args[0])
+        must(answer.values == [queue.options,
+                               queue.accepted - queue.delivered,
+                               len(queue.queue), 0],
+             "the books say %d held" % len(queue.held))
 
     # Pools.
 

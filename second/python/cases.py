@@ -5,6 +5,7 @@ Fails where a case's stored script is not its rows, or its stored listing not
 what they expect. A row is a call, its arguments and what the paper says comes
 back:
     [N *] [mark M] call arguments -> status values; runs TASK; wakes T:S ...
+where a delivery is T:0:LENGTH.
 Values left out are 0, wakes left out are none, `runs` left out is not
 compared. A tick has mark 1 and any other call mark 0, unless the row says.
 """
@@ -640,6 +641,308 @@ case("orders-of-two-pools", 5, """
     pool_get_buff 128 -> 0 120
 """)
 
+# Message queues.
+
+case("queue-order", 1, """
+    queue_create 7 3 12 FIFO -> 0 64
+    queue_send 64 3 1 2 3 -> 0
+    queue_send 64 1 4 -> 0
+    queue_send 64 0 -> 0
+    queue_info 64 -> 0 1 3 0
+    queue_receive 64 0 FOREVER -> 0 3; runs 64  # the first sent comes first
+    queue_send 64 12 5 6 7 -> 0
+    queue_receive 64 0 1 -> 0 1
+    queue_receive 64 NOWAIT 0 -> 0 0            # a message of no bytes
+    queue_receive 64 NOWAIT 0 -> 0 12
+    queue_receive 64 NOWAIT 0 -> 29
+    task_create 1 5 -> 0 65
+    task_create 2 9 -> 0 66
+    task_start 65 -> 0; runs 65
+    queue_receive 64 0 FOREVER -> 1; runs 64
+    task_start 66 -> 0; runs 66
+    queue_receive 64 0 FOREVER -> 1; runs 64
+    queue_info 64 -> 0 1 0 2
+    queue_send 64 2 9 -> 0; runs 65; wakes 65:0:2       # by arrival
+    queue_send 64 0 -> 0; runs 66; wakes 66:0:0
+    queue_send 64 4 9 -> 0; runs 66                     # held again
+    queue_info 64 -> 0 1 1 0
+""")
+
+case("queue-jump", 1, """
+    queue_create 7 3 12 0 -> 0 64
+    queue_send 64 1 -> 0
+    queue_jump 64 2 -> 0
+    queue_jump 64 3 -> 0                        # in front of the jump before
+    queue_jump 64 4 -> 28
+    queue_send 64 4 -> 28
+    queue_receive 64 NOWAIT 0 -> 0 3
+    queue_send 64 5 -> 0
+    queue_receive 64 NOWAIT 0 -> 0 2
+    queue_receive 64 NOWAIT 0 -> 0 1
+    queue_receive 64 NOWAIT 0 -> 0 5
+    task_create 1 5 -> 0 65
+    task_create 2 5 -> 0 66
+    task_start 65 -> 0; runs 65
+    queue_receive 64 0 FOREVER -> 1; runs 64
+    task_start 66 -> 0; runs 66
+    queue_receive 64 0 FOREVER -> 1; runs 64
+    queue_jump 64 6 -> 0; runs 65; wakes 65:0:6 # to the first waiter too
+    mark 1 queue_jump 64 7 -> 0; runs 65; wakes 66:0:7
+    queue_info 64 -> 0 0 0 0
+""")
+
+case("queue-by-priority", 1, """
+    queue_create 7 1 1 0 -> 0 64
+    task_create 1 5 -> 0 65
+    task_create 2 6 -> 0 66
+    task_create 3 6 -> 0 67
+    task_start 65 -> 0; runs 65
+    queue_receive 64 0 FOREVER -> 1; runs 64
+    task_start 67 -> 0; runs 67
+    queue_receive 64 0 FOREVER -> 1; runs 64
+    task_start 66 -> 0; runs 66
+    queue_receive 64 0 FOREVER -> 1; runs 64
+    task_set_priority 65 15 -> 0 5              # moves nobody in the queue
+    queue_info 64 -> 0 0 0 3
+    queue_send 64 1 -> 0; runs 67; wakes 67:0:1
+    queue_send 64 0 -> 0; runs 67; wakes 66:0:0 # equals by arrival
+    queue_send 64 1 -> 0; runs 65; wakes 65:0:1
+""")
+
+case("queue-deleted", 1, """
+    queue_create 7 2 8 0 -> 0 64
+    queue_create 7 2 8 FIFO -> 0 65
+    queue_send 65 8 1 2 -> 0
+    task_create 1 5 -> 0 65
+    task_create 2 6 -> 0 66
+    task_create 3 5 -> 0 67
+    task_start 65 -> 0; runs 65
+    queue_receive 64 0 1 -> 1; runs 64
+    task_start 66 -> 0; runs 66
+    queue_receive 64 0 1 -> 1; runs 64
+    task_start 67 -> 0; runs 67
+    queue_receive 64 0 FOREVER -> 1; runs 64
+    task_suspend 65 -> 0
+    task_set_priority 66 5 -> 0 6
+    queue_delete 64 -> 0; runs 66; wakes 66:30 65:30 67:30
+    tick -> 0; runs 66                          # no time_out is left
+    queue_delete 64 -> 5
+    queue_send 64 0 -> 5
+    queue_jump 64 9 -> 5
+    queue_receive 64 2 0 -> 5
+    queue_info 64 -> 5
+    task_delete SELF -> 0; runs 67
+    task_resume 65 -> 0; runs 67
+    queue_ident 7 -> 0 65
+    queue_delete 65 -> 0; runs 67               # what it held is gone
+    queue_ident 7 -> 8
+    queue_create 8 1 8 0 -> 0 128
+    queue_create 8 1 8 0 -> 0 129
+    queue_info 129 -> 0 0 0 0
+    queue_receive 129 NOWAIT 0 -> 29
+""")
+
+case("queue-refused", 5, """
+    queue_create 7 0 12 2 -> 3
+    queue_create 7 17 12 0 -> 3
+    queue_create 7 TOP 12 0 -> 3
+    queue_create 7 16 0 0 -> 3
+    queue_create 7 16 65 0 -> 3
+    queue_create 7 256 64 0 -> 3
+    queue_create 7 16 320 0 -> 3
+    queue_create 7 16 64 2 -> 6
+    queue_create 7 16 64 TOP -> 6
+    queue_send 64 65 -> 4
+    queue_create 7 1 12 0 -> 0 64
+    queue_send 64 13 -> 27
+    queue_jump 64 13 -> 27
+    queue_send 64 256 -> 27
+    queue_send 64 TOP -> 27
+    queue_send 64 12 -> 0
+    queue_send 64 12 -> 28
+    queue_jump 64 0 -> 28
+    queue_send 64 13 -> 27                      # 27 before 28
+    queue_jump 64 64 -> 27
+    queue_receive 64 2 0 -> 6
+    queue_receive 64 3 0 -> 6                   # 6 before 3
+    queue_receive 64 0 0 -> 3                   # though one is held
+    queue_receive 64 0 65536 -> 3
+    queue_receive 64 0 4294967294 -> 3
+    queue_info 64 -> 0 0 1 0
+    queue_receive 64 NOWAIT 0 -> 0 12           # time_out not looked at
+    queue_receive 64 NOWAIT 0 -> 29
+    queue_receive 64 0 0 -> 3
+    queue_receive 64 TOP 0 -> 6
+    7 * queue_create 7 1 1 0
+    queue_create 7 1 1 0 -> 7
+    queue_create 7 1 1 2 -> 6
+    queue_create 7 0 1 2 -> 3
+    queue_ident 7 -> 0 64
+    queue_ident 8 -> 8
+""")
+
+case("edge-messages", 5, """
+    queue_create 7 16 64 0 -> 0 64
+    queue_create 7 1 1 0 -> 0 65
+    queue_send 64 64 TOP TOP TOP -> 0
+    queue_send 64 65 -> 27
+    15 * queue_jump 64 0 -> 0
+    queue_info 64 -> 0 0 16 0
+    queue_send 64 0 -> 28
+    queue_jump 64 64 -> 28
+    mark 1 queue_send 64 0 -> 28; runs 64
+    queue_receive 64 NOWAIT 0 -> 0 0
+    queue_send 64 63 -> 0
+    queue_send 64 0 -> 28
+    14 * queue_receive 64 0 1 -> 0 0
+    queue_receive 64 0 1 -> 0 64
+    queue_receive 64 0 1 -> 0 63
+    queue_receive 64 0 1 -> 1; runs 0           # empty: the caller waits
+    tick -> 0; runs 64; wakes 64:13
+    queue_send 65 2 -> 27
+    queue_send 65 1 -> 0
+    queue_send 65 0 -> 28
+    queue_receive 65 0 65535 -> 0 1
+    queue_receive 65 0 65535 -> 1; runs 0
+    mark 1 queue_send 65 2 -> 27; runs 0        # 27 though a task waits
+    mark 1 queue_receive 65 0 1 -> 2; runs 0
+    mark 1 queue_send 65 0 -> 0; runs 64; wakes 64:0:0
+""")
+
+case("edge-queue-identifiers", 5, """
+    queue_send 0 0 -> 4                         # 0 is no queue
+    queue_info 64 -> 4
+    queue_create 1 1 1 0 -> 0 64
+    queue_create 1 1 1 0 -> 0 65
+    queue_info 72 -> 4                          # slot 8 is past the table
+    queue_info 71 -> 4                          # slot 7 has issued nothing
+    queue_info 1 -> 4                           # serial 0
+    queue_info 4194304 -> 4                     # serial 65,536
+    queue_info 128 -> 4
+    queue_delete 64 -> 0
+    queue_info 64 -> 5
+    queue_receive 64 NOWAIT 0 -> 5
+    queue_create 2 1 1 FIFO -> 0 128
+    queue_info 128 -> 0 1 0 0
+    queue_info 64 -> 5
+    queue_info TOP -> 4
+    sem_info 65 -> 4                            # a queue is no semaphore
+    pool_info 65 -> 4
+""")
+
+case("queue-time-outs", 1, """
+    queue_create 7 1 12 FIFO -> 0 64
+    task_create 1 5 -> 0 65
+    task_create 2 5 -> 0 66
+    task_create 3 5 -> 0 67
+    task_start 67 -> 0; runs 67
+    queue_receive 64 0 2 -> 1; runs 64
+    task_start 65 -> 0; runs 65
+    queue_receive 64 0 2 -> 1; runs 64
+    task_start 66 -> 0; runs 66
+    queue_receive 64 0 3 -> 1; runs 64
+    task_suspend 65 -> 0                        # its time_out runs on
+    tick -> 0; runs 64
+    queue_info 64 -> 0 1 0 3
+    tick -> 0; runs 67; wakes 65:13 67:13       # by slot, not by place
+    queue_info 64 -> 0 1 0 1
+    queue_send 64 5 -> 0; runs 67; wakes 66:0:5
+    tick -> 0; runs 67
+    queue_send 64 5 -> 0; runs 67               # nobody waits any more
+    queue_info 64 -> 0 1 1 0
+    task_resume 65 -> 0; runs 67
+""")
+
+case("slip-receiver-gives-to-semaphore", 1, """
+    sem_create 7 0 0 -> 0 64                    # 64 is both
+    queue_create 7 1 12 0 -> 0 64
+    task_create 1 5 -> 0 65
+    task_create 2 5 -> 0 66
+    task_create 3 6 -> 0 67
+    task_start 65 -> 0; runs 65
+    queue_receive 64 0 1 -> 1; runs 64
+    task_start 66 -> 0; runs 66
+    sem_claim 64 0 1 -> 1; runs 64
+    task_start 67 -> 0; runs 67
+    queue_receive 64 0 FOREVER -> 1; runs 64
+    sem_info 64 -> 0 0 -1 1
+    queue_info 64 -> 0 0 0 2
+    tick -> 0; runs 65; wakes 65:13 66:13
+    sem_info 64 -> 0 0 0 0                      # one came back, not two
+    queue_info 64 -> 0 0 0 1
+    task_delete 67 -> 0
+    sem_info 64 -> 0 0 0 0                      # and none of a receiver's
+    queue_info 64 -> 0 0 0 0
+    queue_send 64 3 -> 0; runs 65               # nobody is left to take it
+    queue_info 64 -> 0 0 1 0
+    sem_release 64 -> 0; runs 65                # wakes no receiver
+    sem_claim 64 NOWAIT 0 -> 0
+    sem_delete 64 -> 0
+    queue_receive 64 NOWAIT 0 -> 0 3            # its queue lives on
+""")
+
+case("slip-delivery-to-suspended-task", 1, """
+    queue_create 7 1 12 0 -> 0 64
+    task_create 1 5 -> 0 65
+    task_start 65 -> 0; runs 65
+    queue_receive 64 0 FOREVER -> 1; runs 64
+    task_suspend 65 -> 0
+    queue_send 64 7 -> 0; runs 64; wakes 65:0:7 # keeps its place
+    queue_send 64 8 -> 0; runs 64
+    queue_info 64 -> 0 0 1 0
+    task_resume 65 -> 0; runs 65
+    queue_receive 64 0 FOREVER -> 0 8; runs 65
+    task_resume 65 -> 23; runs 65
+""")
+
+case("slip-full-queue-with-a-waiter", 1, """
+    queue_create 7 1 12 0 -> 0 64
+    task_create 1 5 -> 0 65
+    task_start 65 -> 0; runs 65
+    queue_receive 64 0 FOREVER -> 1; runs 64
+    queue_send 64 13 -> 27; runs 64             # the waiter changes no test
+    queue_info 64 -> 0 0 0 1
+    queue_send 64 12 -> 0; runs 65; wakes 65:0:12
+    queue_info 64 -> 0 0 0 0                    # a delivery is not held
+    queue_send 64 12 -> 0
+    queue_send 64 12 -> 28
+    queue_receive 64 0 FOREVER -> 0 12; runs 65
+    queue_info 64 -> 0 0 0 0
+""")
+
+case("messages-around-the-ring", 5, """
+    queue_create 7 16 64 0 -> 0 64
+""" + "".join("""
+    queue_send 64 %d -> 0
+    queue_send 64 %d -> 0
+    queue_jump 64 %d -> 0
+    queue_receive 64 NOWAIT 0 -> 0 %d
+    queue_receive 64 NOWAIT 0 -> 0 %d
+    queue_receive 64 NOWAIT 0 -> 0 %d
+""" % (length, length + 1, length + 2, length + 2, length, length + 1)
+              for length in range(40)) + """
+    queue_info 64 -> 0 0 0 0
+""")
+
+case("thirty-two-receivers", 15, """
+    queue_create 7 16 64 0 -> 0 64
+    31 * task_create 1 15
+""" + "".join("    task_start %d -> 0; runs 64\n" % (64 + slot)
+              for slot in range(1, 32)) + """
+    31 * queue_receive 64 0 FOREVER -> 1
+    queue_info 64 -> 0 0 0 31; runs 95
+    queue_receive 64 0 3 -> 1; runs 0
+    queue_info 64 -> 24; runs 0
+    mark 1 queue_jump 64 64 TOP -> 0; runs 64; wakes 64:0:64
+    queue_info 64 -> 0 0 0 31
+    task_suspend 95 -> 0
+    tick -> 0; runs 64
+    queue_delete 64 -> 0; runs 64; wakes """ + " ".join(
+        "%d:30" % (64 + slot) for slot in range(1, 32)) + """
+    task_suspend SELF -> 0; runs 65
+    task_resume 95 -> 0; runs 65
+""")
+
 # Callers. Every call in turn, by each kind of caller that it refuses.
 
 case("callers", 5, "".join("""
@@ -647,16 +950,18 @@ case("callers", 5, "".join("""
     mark TOP %s -> 25; runs 64
 """ % (name, name) for name in CALLS) + "".join(
     "    mark 1 %s -> 2; runs 64\n" % name for name in CALLS
-    if name not in ("tick", "sem_release")) + """
-    20 -> 25
+    if name not in ("tick", "sem_release", "queue_send", "queue_jump")) + """
+    27 -> 25
     4294967295 -> 25
-    mark 1 21 -> 25
+    mark 1 28 -> 25
     mark 1 sem_release 64 -> 4
+    mark 1 queue_send 64 0 -> 4
+    mark 1 queue_jump 64 0 -> 4
     task_suspend SELF -> 0; runs 0
 """ + "".join(
     "    %s -> 24; runs 0\n" % name for name in CALLS if name != "tick")
     + "".join("    mark 3 %s -> 25; runs 0\n" % name for name in CALLS)
-    + "    mark 1 task_resume 64 -> 2; runs 0\n    20 -> 25; runs 0\n")
+    + "    mark 1 task_resume 64 -> 2; runs 0\n    27 -> 25; runs 0\n")
 
 case("unused-arguments", 5, """
     sem_create 7 0 0 TOP TOP -> 0 64
@@ -665,6 +970,12 @@ case("unused-arguments", 5, """
     sem_claim 64 NOWAIT TOP 9 9 -> 0
     task_ident 0 9 9 9 9 -> 0 64
     pool_info 0 9 9 9 9 -> 4
+    queue_create 7 1 12 0 TOP -> 0 64
+    queue_send 64 0 TOP TOP TOP -> 0
+    queue_receive 64 NOWAIT TOP 9 9 -> 0 0
+    queue_ident 7 9 9 9 9 -> 0 64
+    queue_info 64 9 9 9 9 -> 0
+    queue_delete 64 9 9 9 9 -> 0
 """)
 
 

@@ -1,5 +1,6 @@
 #!/usr/bin/env python3
-"""Sets a program against the naive model over generated scripts.
+"""Sets a program against the naive model over generated scripts: listings, and
+the bytes of the messages shown, which no listing tells.
 
 compare.py [--program build/second] [--seeds FIRST LAST] [--records M]
 """
@@ -39,18 +40,21 @@ def main():
     parser.add_argument("--records", type=int, default=500)
     options = parser.parse_args()
     command = [options.program] + (["--trust"] if options.trust else [])
-    compared = 0
+    compared = messages = 0
     for seed in range(options.seeds[0], options.seeds[1] + 1):
         for profile in generate.PROFILES:
             script = generate.script(profile, seed,
                                      min(options.records, MOST_RECORDS))
-            expected = model.listing_of(script)
-            found = played(command, script)
-            if expected != found:
-                sys.exit("%s seed %d differs:\n%s" % (
-                    profile, seed, differing_line(expected, found)))
-            compared += expected.count("\n")
-    print("%d lines agree" % compared)
+            expected = model.played(script)
+            found = played(command, script), played(
+                command + ["--messages"], script)
+            for one, other in zip(expected, found):
+                if one != other:
+                    sys.exit("%s seed %d differs:\n%s" % (
+                        profile, seed, differing_line(one, other)))
+            compared += expected[0].count("\n")
+            messages += expected[1].count("\n")
+    print("%d lines agree, and %d messages" % (compared, messages))
 
 
 if __name__ == "__main__":

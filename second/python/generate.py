@@ -19,7 +19,8 @@ ALL = {name: 2 for name in """tick task_create task_delete task_ident
     task_start task_suspend task_resume task_set_priority sem_create
     sem_delete sem_ident sem_claim sem_release sem_info pool_create
     pool_delete pool_ident pool_get_buff pool_ret_buff pool_info
-    unknown_call""".split()}
+    queue_create queue_delete queue_ident queue_send queue_jump
+    queue_receive queue_info unknown_call""".split()}
 
 INFO = {"sem_info": 4, "tick": 3}
 
@@ -39,12 +40,16 @@ def play(aim, table, records):
 
 
 def revive(aim):
-    """With nothing running only a tick or an interrupt's release helps."""
+    """With nothing running only a tick or an interrupt's release, send or
+    jump helps."""
     if aim.model.order or aim.rng.random() < .5:
         return
-    waited = [s for s in aim.model.semaphores.live() if s["queue"]]
+    waited = [(12, s) for s in aim.model.semaphores.live() if s["queue"]]
+    waited += [(call, q) for q in aim.model.queues.live() if q["queue"]
+               for call in (23, 24)]
     if waited and aim.rng.random() < .7:
-        aim.do(12, aim.rng.choice(waited)["id"], mark=1)
+        call, thing = aim.rng.choice(waited)
+        aim.do(call, thing["id"], 0, mark=1)
     else:
         aim.do(0, mark=1)
 
@@ -127,16 +132,59 @@ def full_tables(seed, records):
         aim.task_create()
         aim.sem_create()
         aim.pool_create()
+        aim.queue_create()
     play(aim, weights(task_create=8, sem_create=8, pool_create=8,
-                      task_ident=4, sem_ident=4, pool_ident=4), records)
+                      queue_create=8, task_ident=4, sem_ident=4,
+                      pool_ident=4, queue_ident=4), records)
     return aim
 
 
 def serials(seed, records):
     aim = Aim(seed, 3, wild=.25)
     play(aim, weights(ALL, task_create=9, task_delete=9, sem_create=9,
-                      sem_delete=9, pool_create=9, pool_delete=9), records)
+                      sem_delete=9, pool_create=9, pool_delete=9,
+                      queue_create=9, queue_delete=9), records)
     return aim
+
+
+QUEUE_CALLS = dict(queue_create=3, queue_delete=1, queue_ident=1,
+                   queue_send=12, queue_jump=5, queue_receive=20,
+                   queue_info=4)
+
+
+def queues(seed, records):
+    """Queues and semaphores of the same identifiers, and waiters in both."""
+    aim = Aim(seed, 0, wild=.06, anchor=seed % 4 != 0)
+    aim.do(8, 1, 0, seed % 2, mark=0)
+    aim.do(8, 2, 1, 1 - seed % 2, mark=0)
+    aim.do(20, 1, 2, 12, seed % 2, mark=0)
+    aim.do(20, 2, 16, 64, 1 - seed % 2, mark=0)
+    first_tasks(aim, 12)
+    while len(aim.records) < records:
+        count = len(aim.records) + aim.rng.randrange(30, 90)
+        play(aim, weights(QUEUE_CALLS, tick=5, task_create=1, task_start=2,
+                          task_delete=.5, task_suspend=3, task_resume=4,
+                          task_set_priority=3, sem_claim=3, sem_release=2,
+                          sem_info=2), min(count, records))
+        if len(aim.records) < records:
+            fill_and_drain(aim)
+    return aim
+
+
+def fill_and_drain(aim):
+    """Sends and jumps until a queue is full and more, then receives until it
+    is empty and more: each message comes when it must."""
+    live = aim.model.queues.live()
+    if not live or not aim.model.order:
+        return
+    queue = aim.rng.choice(live)
+    for _ in range(queue["most"] + 2 + len(queue["queue"])):
+        length = aim.rng.randrange(queue["longest"] + 1)
+        aim.do(aim.rng.choice([23, 23, 24]), queue["id"], length,
+               aim.rng.randrange(TOP + 1), aim.rng.randrange(TOP + 1),
+               aim.rng.randrange(TOP + 1), mark=aim.rng.choice([0, 1]))
+    for _ in range(aim.rng.choice([0, 3, queue["most"] + 1])):
+        aim.do(25, queue["id"], 1, 0, mark=0)
 
 
 POOL_CALLS = dict(pool_create=6, pool_delete=3, pool_ident=1,
@@ -174,7 +222,7 @@ def nothing_runs(seed, records):
 def identifiers(seed, records):
     aim = Aim(seed, 15, wild=.6)
     play(aim, weights(unknown_call=0, task_create=4, sem_create=4,
-                      pool_create=4), records)
+                      pool_create=4, queue_create=4), records)
     return aim
 
 
@@ -194,7 +242,7 @@ def chaos(seed, records):
         aim.rng.randrange(256), aim.rng.randrange(TOP + 1)])
     while len(aim.records) < records:
         revive(aim)
-        call, five = aim.rng.randrange(21), [draw() for _ in range(5)]
+        call, five = aim.rng.randrange(28), [draw() for _ in range(5)]
         if call in (2, 5) and aim.would_stop(five[0]):
             call = 4
         aim.do(call, *five, mark=aim.rng.choice([0, 0, 0, 0, 1, draw()]))
@@ -202,7 +250,7 @@ def chaos(seed, records):
 
 
 AIMED = {each.__name__: each for each in [
-    mixed, tasks, semaphores, long_queues, time_outs, priorities,
+    mixed, tasks, semaphores, queues, long_queues, time_outs, priorities,
     full_tables, serials, pools, pool_edges, nothing_runs, identifiers,
     refusals, chaos]}
 

@@ -4,8 +4,13 @@ Lists and dictionaries, and no number kept that can be counted anew. The
 generator aims with it, and compare.py sets the second program against it.
 """
 
+import struct
+
+from scripts import header_of, records_of
+
 FOREVER = 4294967295
-TASKS, SEMAPHORES, POOLS = 32, 16, 8
+TASKS, SEMAPHORES, POOLS, QUEUES = 32, 16, 8, 8
+LENT = 64  # bytes of a message that a script's record lends
 
 
 class Refused(Exception):
@@ -64,8 +69,10 @@ class Model:
         self.tasks = Table(TASKS)
         self.semaphores = Table(SEMAPHORES)
         self.pools = Table(POOLS)
+        self.queues = Table(QUEUES)
         self.order = []
         self.wakes = []
+        self.shown = None  # the message shown by the last step, as bytes
         self.tasks.create(new_task(0, priority))
         self.call_4([64])
 
@@ -75,6 +82,7 @@ class Model:
     def step(self, call, mark, args):
         """The answer: status, values, running, wakes."""
         self.wakes = []
+        self.shown = None
         try:
             self.caller_tests(call, mark)
             result = getattr(self, "call_%d" % call)(args) or {}
@@ -85,9 +93,9 @@ class Model:
                 self.wakes)
 
     def caller_tests(self, call, mark):
-        unless(call <= 19 and mark <= 1 and (call, mark) != (0, 0), 25)
+        unless(call <= 26 and mark <= 1 and (call, mark) != (0, 0), 25)
         unless(mark == 1 or self.order, 24)
-        unless(mark == 0 or call in (0, 12), 2)
+        unless(mark == 0 or call in (0, 12, 23, 24), 2)
 
     # Who runs.
 
@@ -198,22 +206,26 @@ class Model:
         self.join(self.order[0], semaphore, args[2])
         return {"status": 1}
 
-    def join(self, task, semaphore, time_out):
+    def join(self, task, thing, time_out):
+        """Into the wait queue of a semaphore or of a message queue."""
         self.leave_order(task)
-        task.update(waits_on=semaphore, time_out=time_out,
+        task.update(waits_on=thing, time_out=time_out,
                     joined_at=task["priority"])
-        semaphore["queue"].append(task)
-        if semaphore["options"] == 0:
-            semaphore["queue"].sort(key=lambda other: -other["joined_at"])
+        thing["queue"].append(task)
+        if thing["options"] == 0:
+            thing["queue"].sort(key=lambda other: -other["joined_at"])
 
     def call_12(self, args):
         semaphore = self.semaphores.named(args[0])
         unless(semaphore["count"] < 32767, 12)
         semaphore["count"] += 1
         if semaphore["queue"]:
-            task = semaphore["queue"].pop(0)
-            task["waits_on"] = None
-            self.wake(task, 0)
+            self.wake(self.first_waiter(semaphore), 0)
+
+    def first_waiter(self, thing):
+        task = thing["queue"].pop(0)
+        task["waits_on"] = None
+        return task
 
     def call_13(self, args):
         semaphore = self.semaphores.named(args[0])
@@ -221,14 +233,15 @@ class Model:
                            len(semaphore["queue"])]}
 
     def leave_ungranted(self, task):
-        semaphore = task["waits_on"]
-        semaphore["queue"] = [other for other in semaphore["queue"]
-                              if other is not task]
-        semaphore["count"] += 1
+        thing = task["waits_on"]
+        thing["queue"] = [other for other in thing["queue"]
+                          if other is not task]
+        if "count" in thing:  # a semaphore, which gets its one back
+            thing["count"] += 1
         task["waits_on"] = None
 
-    def wake(self, task, status):
-        self.wakes.append((task["id"], status))
+    def wake(self, task, *told):
+        self.wakes.append((task["id"],) + told)
         self.make_ready_if_it_is(task)
 
     # Pools.
@@ -276,6 +289,60 @@ class Model:
         return {"values": [buffers, buffers - len(pool["out"]),
                            pool["size"], pool["options"]]}
 
+    # Message queues.
+
+    def call_20(self, args):
+        name, most, longest, options = args[:4]
+        unless(1 <= most <= 16 and 1 <= longest <= 64, 3)
+        unless(options in (0, 1), 6)
+        return one_value(self.queues.create(
+            {"name": name, "most": most, "longest": longest,
+             "options": options, "held": [], "queue": []}))
+
+    def call_21(self, args):
+        queue = self.queues.named(args[0])
+        while queue["queue"]:
+            self.wake(self.first_waiter(queue), 30)
+        self.queues.delete(queue)
+
+    def call_22(self, args):
+        return one_value(self.queues.ident(args[0]))
+
+    def call_23(self, args):
+        self.put(args, lambda held, message: held + [message])
+
+    def call_24(self, args):
+        self.put(args, lambda held, message: [message] + held)
+
+    def put(self, args, placed):
+        """To the first waiter, or else where `placed` says."""
+        queue = self.queues.named(args[0])
+        unless(args[1] <= min(queue["longest"], LENT), 27)
+        message = message_of(args)[:args[1]]
+        if queue["queue"]:
+            self.wake(self.first_waiter(queue), 0, len(message))
+            self.shown = message
+            return
+        unless(len(queue["held"]) < queue["most"], 28)
+        queue["held"] = placed(queue["held"], message)
+
+    def call_25(self, args):
+        queue = self.queues.named(args[0])
+        unless(args[1] in (0, 1), 6)
+        unless(args[1] == 1 or 1 <= args[2] <= 65535 or args[2] == FOREVER,
+               3)
+        if queue["held"]:
+            self.shown = queue["held"].pop(0)
+            return one_value(len(self.shown))
+        unless(args[1] == 0, 29)
+        self.join(self.order[0], queue, args[2])
+        return {"status": 1}
+
+    def call_26(self, args):
+        queue = self.queues.named(args[0])
+        return {"values": [queue["options"], len(queue["held"]),
+                           len(queue["queue"])]}
+
 
 def new_task(name, priority):
     return {"name": name, "priority": priority, "started": False,
@@ -285,6 +352,12 @@ def new_task(name, priority):
 
 def one_value(value):
     return {"values": [value]}
+
+
+def message_of(args):
+    """What a record lends: "the three arguments left are the first 12
+    bytes, the rest zeros"."""
+    return struct.pack("<3I", *args[2:5]).ljust(LENT, b"\0")
 
 
 def buffer_addresses(pool):
@@ -297,16 +370,25 @@ def line_of(record, answer):
     """The listing's line of one record."""
     status, values, running, wakes = answer
     fields = [record, status] + values + [running]
-    fields += ["%d:%d" % wake for wake in wakes]
+    fields += [":".join(map(str, wake)) for wake in wakes]
     return " ".join(str(field) for field in fields) + "\n"
 
 
-def listing_of(script):
-    """The listing of a script given as bytes."""
-    from scripts import header_of, records_of
+def played(script):
+    """The listing of a script given as bytes, and the messages it shows: a
+    line for each, of its record, its length and its bytes."""
     if header_of(script) is None:
-        return "script refused\n"
+        return "script refused\n", "script refused\n"
     model = Model(header_of(script).priority)
-    return "".join(
-        line_of(number, model.step(call, mark, args))
-        for number, (call, mark, args) in enumerate(records_of(script), 1))
+    lines, shown = [], []
+    for number, (call, mark, args) in enumerate(records_of(script), 1):
+        lines.append(line_of(number, model.step(call, mark, args)))
+        if model.shown is not None:
+            shown.append("%d %d %s\n" % (
+                number, len(model.shown),
+                model.shown.ljust(LENT, b"\0").hex()))
+    return "".join(lines), "".join(shown)
+
+
+def listing_of(script):
+    return played(script)[0]

@@ -15,7 +15,9 @@ CALLS = ["tick", "task_create", "task_delete", "task_ident", "task_start",
          "task_suspend", "task_resume", "task_set_priority", "sem_create",
          "sem_delete", "sem_ident", "sem_claim", "sem_release", "sem_info",
          "pool_create", "pool_delete", "pool_ident", "pool_get_buff",
-         "pool_ret_buff", "pool_info"]
+         "pool_ret_buff", "pool_info", "queue_create", "queue_delete",
+         "queue_ident", "queue_send", "queue_jump", "queue_receive",
+         "queue_info"]
 
 Header = collections.namedtuple("Header", "count offset priority zero")
 Answer = collections.namedtuple("Answer", "status values running wakes")
@@ -61,8 +63,12 @@ def answers_of(listing):
         fields = line.split(" ")
         figures = [int(field) for field in fields[:7]]
         wakes = [tuple(map(int, field.split(":"))) for field in fields[7:]]
-        again = [str(n) for n in figures] + ["%d:%d" % w for w in wakes]
-        if figures[0] != number or " ".join(again) != line:
+        again = [str(n) for n in figures]
+        again += [":".join(map(str, wake)) for wake in wakes]
+        # `task:status`, or `task:0:length` of a delivery
+        forms = all(len(wake) == 2 or len(wake) == 3 and wake[1] == 0
+                    for wake in wakes)
+        if figures[0] != number or " ".join(again) != line or not forms:
             raise ValueError("line %d is not of the form: %s" % (number, line))
         answers.append(Answer(figures[1], figures[2:6], figures[6], wakes))
     if listing and not listing.endswith("\n"):

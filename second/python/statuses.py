@@ -4,7 +4,7 @@
 Reads every NAME.script with its NAME.listing. Fails if a status of a row was
 not seen, or one outside the row was. "A row says who may call and which
 statuses can come back". Status 26 needs a broken state, which no script
-makes; 11 and 13 go to woken tasks only.
+makes; 11, 13 and 30 go to woken tasks only.
 """
 
 import glob
@@ -37,10 +37,21 @@ ROWS = {
     "pool_get_buff": NAMED | {17},
     "pool_ret_buff": NAMED | {18},
     "pool_info": NAMED,
+    "queue_create": BY_TASK | {3, 6, 7},
+    "queue_delete": NAMED,
+    "queue_ident": BY_TASK | {8},
+    "queue_send": NAMED - {2} | {27, 28},
+    "queue_jump": NAMED - {2} | {27, 28},
+    "queue_receive": NAMED | {1, 3, 6, 29},
+    "queue_info": NAMED,
 }
 
 # What the call tells the tasks it wakes.
-WAKES = {"tick": {13}, "sem_delete": {11}, "sem_release": {0}}
+WAKES = {"tick": {13}, "sem_delete": {11}, "sem_release": {0},
+         "queue_delete": {30}, "queue_send": {0}, "queue_jump": {0}}
+
+# Whose wakes are deliveries, `task:0:length`.
+DELIVERS = ("queue_send", "queue_jump")
 
 # A number that no row has.
 UNKNOWN = "unknown call"
@@ -59,7 +70,11 @@ def gather(script, listing, given, told):
     for (call, _, _), answer in zip(records, answers):
         name = CALLS[call] if call < len(CALLS) else UNKNOWN
         given[name].add(answer.status)
-        told[name].update(status for _, status in answer.wakes)
+        told[name].update(wake[1] for wake in answer.wakes)
+        if any((len(wake) == 3) != (name in DELIVERS)
+               for wake in answer.wakes):
+            raise ValueError("%s: a delivery has a length, and no other wake"
+                             % name)
     return len(answers)
 
 

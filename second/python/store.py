@@ -22,7 +22,7 @@ PROGRAM = os.path.join(SECOND, "build", "second")
 GENERATED = [(profile, seed, 400) for profile in generate.AIMED
              for seed in (1, 2)]
 GENERATED += [(profile, 3, MOST_RECORDS) for profile in
-              ("mixed", "long_queues", "pools", "serials")]
+              ("mixed", "queues", "long_queues", "pools", "serials")]
 GENERATED += [("layout", seed, 60) for seed in range(1, 5)]
 GENERATED += [("damaged", seed, 8) for seed in range(1, 25)]
 

@@ -2,7 +2,8 @@
 
 "The whole listing (record, status, four values, running, wakes) ... Records
 count from 1; one space between fields, a newline after each line, no leading
-zeros; sem_info's count is signed; wakes are `task:status` in order."
+zeros; sem_info's count is signed; wakes are `task:status` in order", and "a
+delivery reads `task:0:length`".
 """
 
 import re
@@ -13,12 +14,14 @@ from lib import tables
 from lib.files import Trouble, text_hint, trouble_at
 
 Answer = namedtuple("Answer", "status values running wakes")
-Wake = namedtuple("Wake", "task status")
+Wake = namedtuple("Wake", "task status length")      # None: no delivery
 
 REFUSED = "script refused"
-FORM = "record, status, four values, running, then task:status wakes"
+FORM = ("record, status, four values, running, then wakes as task:status, or "
+        "task:0:length for a delivery")
 NUMBER = re.compile(r"(0|-?[1-9][0-9]{0,9})\Z")
-WAKE = re.compile(r"([1-9][0-9]{0,9}):(0|[1-9][0-9]{0,9})\Z")
+WAKE = re.compile(r"([1-9][0-9]{0,9}):(0|[1-9][0-9]{0,9})"
+                  r"(?::(0|[1-9][0-9]?))?\Z")
 FIGURES = 7
 
 
@@ -103,9 +106,11 @@ def figure_of(part, number, name):
 def wake_of(part, number, name):
     found = WAKE.match(part)
     if not found:
-        raise trouble_at(name, number, "expected a wake as task:status, "
-                         "found `%s`" % part)
-    return Wake(int(found.group(1)), int(found.group(2)))
+        raise trouble_at(name, number, "expected a wake as task:status or "
+                         "task:0:length, found `%s`" % part)
+    length = found.group(3)
+    return Wake(int(found.group(1)), int(found.group(2)),
+                None if length is None else int(length))
 
 
 def fault_of(answer, record):
@@ -138,7 +143,16 @@ def row_fault(answer, record):
         if wake.status not in call.wakes:
             return "expected no task woken by %s with %s" % (
                 call.name, status_words(wake.status))
+        if (wake.length is None) == tables.lends(call):
+            return "expected %s, found `%s`" % (
+                "task:0:length, for %s delivers" % call.name
+                if tables.lends(call) else "task:status, for %s delivers "
+                "nothing" % call.name, wake_words(wake))
     return values_fault(answer, call)
+
+
+def wake_words(wake):
+    return ":".join(str(part) for part in wake if part is not None)
 
 
 def status_words(status):

@@ -7,7 +7,7 @@ taken from the answer of the create it stands before, not from a guess.
 
 import os
 
-from lib import reader, tables
+from lib import messages, reader, tables
 from lib.files import Trouble, read_text, shown
 
 TEXT_HELP = ("the text that SCRIPT was made from, for its labels (without it, "
@@ -71,7 +71,7 @@ class Names:
             return self.label(field.kind, number)
         if (record_number, place) in self.hexes:
             return "0x%x" % number
-        return tables.word_of(field.kind, number)
+        return messages.argument_word(record, place)
 
 
 def notes_for(text_name, script_name, data):

@@ -1,8 +1,8 @@
 """The run as a Chrome trace, the JSON that Perfetto and chrome://tracing open.
 
 Tasks are tracks and their states slices, waits by the name of what is waited
-for; counts of semaphores and buffers out are counters; a lock's holder and a
-small pool's buffers have tracks too. Calls stand in a track of their own.
+for; counts of semaphores, buffers out and what a queue holds are counters; a
+lock's holder and a small pool's buffers have tracks too. Calls stand in a track of their own.
 One record takes one millisecond.
 """
 
@@ -10,7 +10,7 @@ import json
 
 from lib import tables
 from lib import run as runs
-from lib.rows import SMALL_POOL, joined, state_words
+from lib.rows import SMALL_POOL, handed_words, joined, state_words
 from lib.words import call_words
 
 A_RECORD = 1000                      # microseconds, the format's unit
@@ -93,18 +93,19 @@ def task_parts(trace, run):
         for wake in event.wakes:
             trace.instant(TASKS, run.labels.whole("task", wake.task),
                           event.number, "woken: "
-                          + tables.STATUSES[wake.status].name,
-                          record=event.number)
+                          + tables.STATUSES[wake.status].name
+                          + handed_words(event, wake), record=event.number)
 
 
 def count_parts(trace, run):
-    for kind, value in (("semaphore", "count"), ("pool", "out")):
+    for kind, *values in (("semaphore", "count"), ("pool", "out"),
+                          ("queue", "held", "waiting")):
         for slot in sorted(run.spans[kind]):
             for span in run.spans[kind][slot]:
-                name = "%s: %s" % (
-                    run.labels.whole(kind, span.view.identifier), value)
-                trace.counter(name, span.first,
-                              **{value: getattr(span.view, value)})
+                name = "%s: %s" % (run.labels.whole(
+                    kind, span.view.identifier), " and ".join(values))
+                trace.counter(name, span.first, **{
+                    value: getattr(span.view, value) for value in values})
 
 
 def held_parts(trace, run):

@@ -7,8 +7,8 @@ that labels stay legible and the page scrolls down, not sideways.
 
 import math
 
-from lib import svg, tables
-from lib.rows import (LEFT, Lane, PoolRow, SemaphoreRow, TaskRow,
+from lib import messages, svg, tables
+from lib.rows import (LEFT, Lane, PoolRow, QueueRow, SemaphoreRow, TaskRow,
                       buffer_lanes, lock_lanes, task_marks)
 
 PLOT, RIGHT, EDGE, TOP = 1120, 24, 18, 66
@@ -71,7 +71,7 @@ def call_label(run, event, whole):
     if call is None:
         words = "call %d" % record.call
     else:
-        places = range(len(call.arguments))
+        places = messages.places_of(record)
         words = " ".join([call.name] + [
             run.labels.argument(event.number, record, place)
             for place in (places if whole else places[:1])])
@@ -152,6 +152,8 @@ def rows_of(band):
     rows = [("tasks", tasks + Lane.of(band))]
     for heading, kind, look, lanes in (
             ("semaphores: count", "semaphore", SemaphoreRow, lock_lanes),
+            ("queues: messages held, or below 0 tasks waiting", "queue",
+             QueueRow, lambda *_: []),
             ("pools: buffers out", "pool", PoolRow, buffer_lanes)):
         part = []
         for slot in band.slots(kind):
@@ -222,13 +224,14 @@ def title_parts(run, name, first, last):
 
 LEGEND = (
     ("run", "running"), ("ready", "ready"),
-    ("wait", "waiting, in the semaphore's colour"),
+    ("wait", "waiting, in the colour of what for"),
     ("veil", "waiting and suspended"), ("stopped", "suspended"),
     ("unborn", "not started"), ("held", "held, by the task named"),
     ("idle", "nothing runs"),
     ("cross", "call refused"), ("scratch", "call refused"),
-    ("granted", "woken: granted"), ("timed", "woken: time-out"),
-    ("gone", "woken: semaphore deleted"), ("irq", "interrupt's call"),
+    ("granted", "woken: granted or handed a message"),
+    ("timed", "woken: time-out"), ("gone", "woken: object deleted"),
+    ("handed", "message to a waiting task"), ("irq", "interrupt's call"),
 )
 
 
@@ -238,7 +241,7 @@ def swatch(kind, x, y):
         return svg.cross(x + 11, y, 3.5, None)
     if kind == "scratch":
         return svg.box(x + 10, y - 5, 2, 9, class_="scratch")
-    if kind in ("granted", "timed", "gone", "irq"):
+    if kind in ("granted", "timed", "gone", "handed", "irq"):
         return svg.dot(x + 11, y, 4, kind, None)
     if kind == "held":
         return svg.box(x, y - 6, 22, 12, class_="held", fill=svg.POOL_COLOUR,

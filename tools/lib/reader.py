@@ -8,6 +8,7 @@ import difflib
 import re
 from collections import namedtuple
 
+from lib import messages
 from lib import script as scripts
 from lib import tables
 from lib.files import trouble_at
@@ -20,6 +21,9 @@ LABEL_LINE = re.compile(r"\s*([A-Za-z_]\w*)\s*=\s*(.*)\Z")
 NUMBER = re.compile(r"(0[xX][0-9a-fA-F]+|[0-9]+)\Z")
 NEGATIVE = re.compile(r"-[0-9]+\Z")
 BYTE = re.compile(r"[0-9a-fA-F]{2}\Z")
+# A line up to its comment, and its words; in quotes neither ends.
+CODE = re.compile(r'(?:[^"#]|"(?:[^"\\]|\\.)*")*')
+WORD = re.compile(r'(?:[^\s"]|"(?:[^"\\]|\\.)*")+')
 HEADER_WORDS = ("first", "count", "offset", "fourth", "header")
 PREFIXES = ("interrupt", "mark", "refused")
 RESERVED = set(HEADER_WORDS + PREFIXES + ("call", "bytes", "id", "unused")
@@ -53,14 +57,17 @@ class Reader:
 
     def read(self, text):
         for self.line, line in enumerate(text.split("\n"), 1):
-            self.read_line(line.partition("#")[0])
+            code = CODE.match(line).group()
+            if line[len(code):].startswith('"'):
+                raise self.wrong("expected a closing `\"`")
+            self.read_line(code)
 
     def read_line(self, line):
         found = LABEL_LINE.match(line)
         if found:
-            self.read_label(found.group(1), found.group(2).split())
+            self.read_label(found.group(1), WORD.findall(found.group(2)))
             return
-        words = line.split()
+        words = WORD.findall(line)
         if not words:
             return
         if words[0] in HEADER_WORDS:
@@ -249,23 +256,56 @@ class Reader:
             if equals and name == "unused":
                 unused = [self.number(part, None) for part in value.split(",")]
                 continue
+            if word.startswith('"'):
+                name, equals, value = "", "", ""
             field = (self.field_named(call, name) if equals
                      else self.field_at(call, place, word))
             if field in given:
                 raise self.wrong("expected %s once, found it twice"
                                  % field.name)
-            given[field] = self.number(value if equals else word, field)
-            written.append((call.arguments.index(field),
-                            value if equals else word))
+            word = value if equals else word
+            if field.kind == tables.MESSAGE:
+                given[field] = self.message(word)
+                continue
+            given[field] = self.number(word, field)
+            written.append((call.arguments.index(field), word))
+        numbers = self.numbers(call, given)
+        if len(numbers) + len(unused) > tables.ARGUMENTS:
+            raise self.wrong("expected at most %d unused arguments, found %d"
+                             % (tables.ARGUMENTS - len(numbers),
+                                len(unused)))
+        return numbers + unused, written
+
+    def message(self, word):
+        """The bytes of a message in quotes, which a record has room for."""
+        data = messages.unquoted(word)
+        if data is None:
+            raise self.wrong("expected a message in quotes, with \\xNN, "
+                             "\\\" and \\\\ for other bytes, found `%s`" % word)
+        if len(data) > tables.MESSAGE_BYTES:
+            raise self.wrong(
+                "expected a message of at most %d bytes, all that a script's "
+                "record has room for, found %d; longer ones have zeros "
+                "behind: `length=%d`" % (tables.MESSAGE_BYTES, len(data),
+                                         len(data)))
+        return data
+
+    def numbers(self, call, given):
+        """The arguments in order: a message says its length itself, and one
+        that is left out is zeros."""
+        if tables.lends(call):
+            length, message = call.arguments[-2:]
+            if message in given:
+                given.setdefault(length, len(given[message]))
+            given.setdefault(message, b"")
+        numbers = []
         for field in call.arguments:
             if field not in given:
                 raise self.wrong("expected %s: %s is missing"
                                  % (usage_of(call), field.name))
-        if len(call.arguments) + len(unused) > tables.ARGUMENTS:
-            raise self.wrong("expected at most %d unused arguments, found %d"
-                             % (tables.ARGUMENTS - len(call.arguments),
-                                len(unused)))
-        return [given[field] for field in call.arguments] + unused, written
+            numbers += (messages.numbers_of(given[field])
+                        if field.kind == tables.MESSAGE else [given[field]])
+        return numbers
 
     def field_named(self, call, name):
         for field in call.arguments:
@@ -276,6 +316,8 @@ class Reader:
         raise self.wrong("expected %s, found `%s=`" % (usage_of(call), name))
 
     def field_at(self, call, place, word):
+        if word.startswith('"') and tables.lends(call):
+            return call.arguments[-1]
         if place >= len(call.arguments):
             raise self.wrong("expected %s, found `%s` after it"
                              % (usage_of(call), word))

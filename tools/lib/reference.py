@@ -16,15 +16,15 @@ task's identifier, 0 for SELF, the caller. Options are bit 0, by the name in bra
 """
 TESTS = """
 The order of the tests is 26, 25, 24, 2, then the identifier (4, 5), then the call's own: sem_create 9, 6, 7; sem_claim 6, 3, 10;
-pool_create 3, 14, 6, 7, 15; task_create 19, 7; task_start 20; task_suspend 21, 22; task_resume 21, 23; task_set_priority 19. An
-unknown call is 25.
+pool_create 3, 14, 6, 7, 15; task_create 19, 7; task_start 20; task_suspend 21, 22; task_resume 21, 23; task_set_priority 19;
+queue_create 3, 6, 7; queue_send and queue_jump 27, 28; queue_receive 6, 3, 29. An unknown call is 25.
 
 ## What each call does
 """
 STATUSES = """
 ## Statuses
 
-A refusal, any status but 0 and 1, has four zero values, wakes nobody and changes nothing. 11 and 13 go to woken tasks only, and
+A refusal, any status but 0 and 1, has four zero values, wakes nobody and changes nothing. 11, 13 and 30 go to woken tasks only, and
 26 to a state that no script makes. No call gives 33 BAD_RECORD: it refuses a list of grant records that names a slot outside its
 table (`crates/grid`).
 """
@@ -33,7 +33,7 @@ SCRIPT = """
 
 An identifier is serial x 64 + slot; slots count from 0, serials from 1 to 65,535, and a creation takes the lowest slot that is
 free and has a serial left. At first there is one task, 64, started, name 0. There is room for %s, 64
-buffers a pool; priorities are 0 to 15, 15 the most urgent.
+buffers a pool, 16 messages of 64 bytes a queue; priorities are 0 to 15, 15 the most urgent.
 
 ## The script's bytes
 
@@ -50,13 +50,16 @@ At most 65,536 bytes, little-endian numbers of 32 bits. `tools/script make` writ
 A script that is too long or shorter than 16 bytes, or whose header breaks this table, or whose records do not lie within it, is
 answered by the one line `script refused`. Other bytes are ignored.
 
+A record lends queue_send and queue_jump 64 bytes: its last three numbers, as they lie, are the first 12, and the rest are zeros. The
+message is as many of them as the length says.
+
 ## The listing's line
 
 One line a record, numbers with one space between, no leading zeros, a newline after each line; a listing without records is empty.
 
     7 0 0 0 0 0 65 65:13
     | | | | | | |  |
-    | | | | | | |  wakes, as many as there are, in order: task:status
+    | | | | | | |  wakes, as many as there are, in order: task:status, or task:0:length for a message delivered
     | | | | | | running task afterwards, 0 if none
     | | four values, 0 where the call names none; a count can be negative
     | status

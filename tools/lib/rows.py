@@ -4,6 +4,7 @@ lock and under a small pool stand lanes that show who holds what."""
 
 import math
 
+from lib import messages
 from lib import run as runs
 from lib import svg, tables
 
@@ -15,7 +16,7 @@ ROOMY, SNUG = 10, 20       # up to how many rows of a kind are high
 NAME_LETTERS = 22          # of a name left of the plot
 SMALL_POOL = 8             # buffers that have a lane each
 WAKE_LOOKS = {tables.GRANTED: "granted", tables.TIMED_OUT: "timed",
-              tables.OBJECT_GONE: "gone"}
+              tables.SEMAPHORE_GONE: "gone", tables.QUEUE_GONE: "gone"}
 
 
 def first_fitting(choices, width, letter=LETTER):
@@ -123,8 +124,9 @@ class TaskRow(Row):
             state_words(view, self.run.labels), record_words(span),
             view.priority)
         if view.state == runs.WAITING:
-            slot = tables.slot_of(view.waits_on[1])
-            look = {"class_": "wait", "fill": svg.WAIT_COLOURS[slot % 16]}
+            kind, identifier = view.waits_on
+            look = {"class_": "wait", "fill": svg.colour_of(
+                kind, tables.slot_of(identifier))}
         else:
             look = {"class_": {runs.RUNNING: "run", runs.READY: "ready",
                                runs.SUSPENDED: "stopped",
@@ -177,9 +179,9 @@ class TaskRow(Row):
             if wake is None:
                 parts += refusal_mark(event, band, middle, bar[1])
                 continue
-            title = "record %d: %s woken with %s" % (
+            title = "record %d: %s woken with %s%s" % (
                 event.number, self.run.labels.whole("task", wake.task),
-                tables.STATUSES[wake.status].name)
+                tables.STATUSES[wake.status].name, handed_words(event, wake))
             parts.append(svg.dot(band.x(event.number), middle, size,
                                  WAKE_LOOKS.get(wake.status, "gone"), title))
         return parts
@@ -196,6 +198,13 @@ def task_marks(events):
             slot = tables.slot_of(wake.task)
             marks.setdefault(slot, []).append((event, wake))
     return marks
+
+
+def handed_words(event, wake):
+    """What a delivery brings, behind the words of the wake."""
+    if wake.length is None:
+        return ""
+    return ", handed " + messages.in_words(messages.sent(event.record))
 
 
 def waiting_words(view, labels):
@@ -261,6 +270,7 @@ class StepRow(Row):
             self.run.labels.whole(self.kind, span.view.identifier),
             self.words(span.view), record_words(span))
         strong = .85 if value < 0 or self.kind == "pool" else .35
+        strong = .6 if self.kind == "queue" and value > 0 else strong
         return [svg.box(left, min(zero, at), right - left, abs(zero - at),
                         title, fill=self.colour(), fill_opacity=strong)]
 
@@ -313,7 +323,7 @@ class SemaphoreRow(StepRow):
         return str(view.count)
 
     def colour(self):
-        return svg.WAIT_COLOURS[self.slot % 16]
+        return svg.colour_of(self.kind, self.slot)
 
 
 class PoolRow(StepRow):
@@ -330,6 +340,42 @@ class PoolRow(StepRow):
 
     def colour(self):
         return svg.POOL_COLOUR
+
+
+class QueueRow(StepRow):
+    """Messages held above 0, tasks waiting below: never both at once."""
+    kind = "queue"
+
+    def value(self, view):
+        return view.held - view.waiting
+
+    def top(self, view):
+        return max(1, view.held)
+
+    def words(self, view):
+        if view.waiting:
+            return "%d waiting" % view.waiting
+        return "%d of %d held" % (view.held, view.most)
+
+    def figure(self, span, left, right, y):
+        words = first_fitting((str(self.value(span.view)),), right - left,
+                              TINY_LETTER)
+        return [svg.text(left + 2, y, words, "tiny")] if words else []
+
+    def colour(self):
+        return svg.colour_of(self.kind, self.slot)
+
+    def parts(self, band, y, height):
+        """With a mark for each message that went to a task at once."""
+        size = max(2.2, min(3.6, band.column * .8))
+        return super().parts(band, y, height) + [
+            svg.dot(band.x(each.number), y + height - 6, size, "handed",
+                    "record %d: %s to %s" % (
+                        each.number, messages.in_words(each.message),
+                        self.run.labels.whole("task", each.task)))
+            for each in self.run.deliveries
+            if tables.slot_of(each.queue) == self.slot
+            and band.first <= each.number <= band.last]
 
 
 class HeldLane:

@@ -7,7 +7,7 @@ otherwise) the run keeps a doubt for its reader and goes on.
 
 from collections import namedtuple
 
-from lib import reader, tables
+from lib import messages, reader, tables
 from lib.names import Names
 
 # What a row of the picture shows of an object between two records.
@@ -15,11 +15,14 @@ TaskView = namedtuple("TaskView", "identifier state waits_on suspended "
                                   "priority")
 SemaphoreView = namedtuple("SemaphoreView", "identifier count holder")
 PoolView = namedtuple("PoolView", "identifier out buffers")
+QueueView = namedtuple("QueueView", "identifier held waiting most")
 
 # A view that holds after records first to last; 0 is before the first.
 Span = namedtuple("Span", "first last view")
 # A buffer of a pool that is out after records first to last, and who got it.
 Held = namedtuple("Held", "first last pool place address holder")
+# A message that a record handed to a task that waited for it.
+Delivery = namedtuple("Delivery", "number queue task message")
 Event = namedtuple("Event", "number record answer caller wakes tick")
 Doubt = namedtuple("Doubt", "number words")
 
@@ -82,6 +85,16 @@ class Pool:
         return PoolView(self.identifier, self.out, self.buffers)
 
 
+class Queue:
+    def __init__(self, identifier, name, most):
+        self.identifier, self.name, self.most = identifier, name, most
+        self.held, self.waiting = [], 0      # messages, tasks
+
+    def view(self, _running):
+        return QueueView(self.identifier, len(self.held), self.waiting,
+                         self.most)
+
+
 class State:
     """The live objects as the answers tell of them."""
 
@@ -90,6 +103,7 @@ class State:
         self.running = tables.FIRST_TASK
         self.number = 0              # of the record that is taken in
         self.names, self.pools, self.held = {}, {}, []
+        self.deliveries = []
         first = Task(tables.FIRST_TASK, 0, priority)
         first.started = True
         self.add("task", first)
@@ -107,14 +121,17 @@ class State:
         del self.objects[kind][thing.identifier]
 
     def give_back(self, task):
-        """A waiter that leaves ungranted "gives its one back"."""
+        """A waiter that leaves a semaphore ungranted "gives its one back";
+        one that leaves a queue waits there no more."""
         where = self.find(*task.waits_on) if task.waits_on else None
         if isinstance(where, Semaphore):
             where.count += 1
+        elif isinstance(where, Queue):
+            where.waiting -= 1
 
     def wake(self, task, status):
         where = self.find(*task.waits_on) if task.waits_on else None
-        if status == tables.TIMED_OUT:
+        if status == tables.TIMED_OUT or isinstance(where, Queue):
             self.give_back(task)
         elif status == tables.GRANTED and isinstance(where, Semaphore):
             where.holders.append(task.identifier)
@@ -224,11 +241,67 @@ def pool_info(_state, pool, _record, answer):
                 % (answer.values[1], pool.buffers - pool.out))
 
 
+def queue_create(state, _thing, record, answer):
+    state.add("queue", Queue(answer.values[0], *record.arguments[:2]))
+
+
+def queue_delete(state, queue, _record, _answer):
+    state.end("queue", queue)
+
+
+def queue_send(state, queue, record, answer):
+    return accepted(state, queue, record, answer, len(queue.held))
+
+
+def queue_jump(state, queue, record, answer):
+    return accepted(state, queue, record, answer, 0)
+
+
+def accepted(state, queue, record, answer, place):
+    """A message goes to a waiter, or else to its place among those held."""
+    message = messages.sent(record)
+    for wake in answer.wakes:
+        state.deliveries.append(Delivery(state.number, queue.identifier,
+                                         wake.task, message))
+        if wake.length != len(message):
+            return "task %d is handed %d bytes where %d were sent" % (
+                wake.task, wake.length, len(message))
+    if answer.wakes:
+        return None
+    queue.held.insert(place, message)
+    if queue.waiting:
+        return "queue %d holds a message while tasks wait" % queue.identifier
+
+
+def queue_receive(state, queue, _record, answer):
+    caller = state.find("task", tables.SELF)
+    if answer.status == tables.PENDING:
+        queue.waiting += 1
+        if caller:
+            caller.waits_on = ("queue", queue.identifier)
+        if queue.held:
+            return "task %d waits, but queue %d holds a message" % (
+                state.running, queue.identifier)
+        return None
+    message = queue.held.pop(0) if queue.held else b""
+    if len(message) != answer.values[0]:
+        return ("queue_receive answers %d bytes where the first message held "
+                "has %d" % (answer.values[0], len(message)))
+
+
+def queue_info(_state, queue, _record, answer):
+    if answer.values[1:3] != (len(queue.held), queue.waiting):
+        return ("queue_info answers %d held and %d waiting where the calls "
+                "before make %d and %d" % (*answer.values[1:3],
+                                           len(queue.held), queue.waiting))
+
+
 EFFECTS = {effect.__name__: effect for effect in (
     task_create, task_delete, task_start, task_suspend, task_resume,
     task_set_priority, sem_create, sem_delete, sem_claim, sem_release,
     sem_info, pool_create, pool_delete, pool_get_buff, pool_ret_buff,
-    pool_info)}
+    pool_info, queue_create, queue_delete, queue_send, queue_jump,
+    queue_receive, queue_info)}
 
 
 def change(state, record, answer):
@@ -303,6 +376,7 @@ class Run:
         self.names = state.names     # (kind, identifier) to name
         self.pools = state.pools     # identifier to pool, gone ones too
         self.held = state.held       # buffers that were out, and for how long
+        self.deliveries = state.deliveries
         self.look(0, state)
         for number, (record, answer) in enumerate(zip(records, answers), 1):
             before = state.running

@@ -8,6 +8,9 @@ WAIT_COLOURS = ("#f0a830", "#2fa58a", "#cf78b0", "#5aaee0", "#9a7fd1",
                 "#5f86c4", "#e98850", "#3f9a6e", "#b59a3a", "#b5a0dc",
                 "#8d8a86")
 POOL_COLOUR = "#5b8c85"
+# And one for each queue slot, the same way.
+QUEUE_COLOURS = ("#c2667a", "#4f9bb0", "#8c9b3f", "#b07cc6", "#d08a4a",
+                 "#5fa36a", "#7f87c9", "#a59a8c")
 
 STYLE = """
 text{font-family:'DejaVu Sans',Verdana,Helvetica,Arial,sans-serif;fill:#243244}
@@ -40,6 +43,7 @@ rect{shape-rendering:crispEdges}
 .timed{fill:#fff;stroke:#d1660a;stroke-width:1.8}
 .gone{fill:#c8102e;stroke:#fff;stroke-width:1}
 .irq{fill:#6a4fb3}
+.handed{fill:#2a9d3f;fill-opacity:.35;stroke:#2a9d3f;stroke-width:1.4}
 """
 
 PATTERNS = """<defs>
@@ -50,6 +54,12 @@ patternTransform="rotate(45)"><rect width="6" height="6" fill="#eef1f4"/>\
 patternTransform="rotate(45)"><rect width="2.2" height="6" fill="#3b4552" \
 fill-opacity=".55"/></pattern>
 </defs>"""
+
+
+def colour_of(kind, slot):
+    """The colour of what a task waits for, a semaphore or a queue."""
+    colours = QUEUE_COLOURS if kind == "queue" else WAIT_COLOURS
+    return colours[slot % len(colours)]
 
 
 def figure(number):

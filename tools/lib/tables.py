@@ -28,14 +28,18 @@ ARGUMENTS = 5
 
 BY_TASK, BY_INTERRUPT = 0, 1
 OK, PENDING = 0, 1
-GRANTED, OBJECT_GONE, TIMED_OUT = 0, 11, 13
+GRANTED, SEMAPHORE_GONE, TIMED_OUT, QUEUE_GONE = 0, 11, 13, 30
 OF_NO_CALL = ("BAD_CALL", "BAD_STATE")     # what an unknown call can be told
 
 TABLES = {table.kind: table for table in (
     Table("task", 32),
     Table("semaphore", 16),
     Table("pool", 8),
+    Table("queue", 8),
 )}
+
+# A field of this kind is the last of its call and takes three numbers.
+MESSAGE, MESSAGE_NUMBERS, MESSAGE_BYTES = "message", 3, 12
 
 # Words that stand for a number, by the kind of the field they may stand in.
 WORDS = {
@@ -86,6 +90,16 @@ NUMBER_OF = {call.name: number for number, call in enumerate(CALLS)}
 def call_of(number):
     """The row of a call number, or None for an unknown call."""
     return CALLS[number] if number < len(CALLS) else None
+
+
+def lends(call):
+    """Whether the call is lent a message, and its wakes are deliveries."""
+    return call.arguments[-1:] != () and call.arguments[-1].kind == MESSAGE
+
+
+def numbers_used(call):
+    """How many of a record's five numbers the call looks at."""
+    return len(call.arguments) + (MESSAGE_NUMBERS - 1 if lends(call) else 0)
 
 
 def is_refusal(status):

@@ -1,5 +1,6 @@
 """The text form of a script, written: a line a call, by its paper name."""
 
+from lib import messages
 from lib import script as scripts
 from lib import tables
 
@@ -11,7 +12,7 @@ def call_words(record):
     call = tables.call_of(record.call)
     words = mark_words(call, record.mark) + [bare_words(record)]
     if call:
-        unused = cut_zeros(record.arguments[len(call.arguments):])
+        unused = cut_zeros(record.arguments[tables.numbers_used(call):])
         words += ["unused=" + ",".join(map(str, unused))] if unused else []
     return " ".join(words)
 
@@ -23,11 +24,10 @@ def bare_words(record, word=None):
     if call is None:
         numbers = cut_zeros(record.arguments)
         return " ".join(["call", str(record.call)] + list(map(str, numbers)))
-    word = word or (lambda place: tables.word_of(
-        call.arguments[place].kind, record.arguments[place]))
+    word = word or (lambda place: messages.argument_word(record, place))
     return " ".join([call.name] + [
-        "%s=%s" % (field.name, word(place))
-        for place, field in enumerate(call.arguments)])
+        "%s=%s" % (call.arguments[place].name, word(place))
+        for place in messages.places_of(record)])
 
 
 def mark_words(call, mark):

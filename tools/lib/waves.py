@@ -122,6 +122,8 @@ SIGNALS = {
                   ("holder", WORD, holder)),
     "pool": (("out", NUMBER, lambda view, run: view.out),
              ("buffers", NUMBER, lambda view, run: view.buffers)),
+    "queue": (("held", NUMBER, lambda view, run: view.held),
+              ("waiting", NUMBER, lambda view, run: view.waiting)),
 }
 
 
@@ -203,9 +205,11 @@ def caller_word(event, run):
 
 
 def wakes_word(event, run):
-    return ",".join("%s:%s" % (run.labels.short("task", wake.task),
-                               tables.STATUSES[wake.status].name)
-                    for wake in event.wakes)
+    return ",".join("%s:%s%s" % (
+        run.labels.short("task", wake.task),
+        tables.STATUSES[wake.status].name,
+        "" if wake.length is None else ":%d" % wake.length)
+        for wake in event.wakes)
 
 
 def call_word(event, _run):

@@ -2,7 +2,7 @@
 
 from collections import namedtuple
 
-from lib import tables
+from lib import messages, tables
 from lib.text import bare_words
 
 # A piece of a line and how it is to look; plain outputs drop the look.
@@ -30,12 +30,14 @@ def caller_words(mark, running, names):
     return names.thing("task", running) if running else "nobody"
 
 
-def value_words(record, values, names):
-    """The values by their meaning."""
+def value_words(record, values, names, message):
+    """The values by their meaning, and the message that they come with."""
     call = tables.call_of(record.call)
-    return ", ".join(one_value(field, value, record, names)
-                     for field, value in zip(call.values if call else (),
-                                             values))
+    words = [one_value(field, value, record, names)
+             for field, value in zip(call.values if call else (), values)]
+    if words and message is not None:
+        words.append(messages.in_words(message))
+    return ", ".join(words)
 
 
 def one_value(field, value, record, names):
@@ -47,7 +49,7 @@ def one_value(field, value, record, names):
                       tables.word_of(field.kind, value))
 
 
-def status_pieces(record, answer, caller, names):
+def status_pieces(record, answer, caller, names, message):
     status = tables.STATUSES[answer.status]
     if tables.is_refusal(answer.status):
         return [Piece(status.name, "bad"),
@@ -55,18 +57,21 @@ def status_pieces(record, answer, caller, names):
     if answer.status == tables.PENDING:
         return [Piece(status.name, "wait"), Piece(", %s waits" % caller,
                                                   "plain")]
-    values = value_words(record, answer.values, names)
+    values = value_words(record, answer.values, names, message)
     return [Piece(status.name, "good"),
             Piece(", " + values if values else "", "plain")]
 
 
-def wake_pieces(answer, names):
+def wake_pieces(answer, names, message):
     pieces = []
     for wake in answer.wakes:
         look = "good" if wake.status == tables.GRANTED else "wait"
         who = names.thing("task", wake.task)
         pieces += [Piece("; wakes %s with " % who, "plain"),
                    Piece(tables.STATUSES[wake.status].name, look)]
+        if wake.length is not None:
+            pieces.append(Piece(", handed " + messages.in_words(message),
+                                "plain"))
     return pieces
 
 
@@ -92,16 +97,17 @@ def story(records, answers, names):
     for record, answer in zip(records, answers):
         callers.append((caller_words(record.mark, running, names), running))
         running = answer.running
+    shown = messages.shown(records, answers)
     wide = max([10] + [len(who) for who, _ in callers])
     wider = min(WIDEST_CALL, max([4] + [len(call) for call in calls]))
     yield [Piece("record  %-*s  %-*s  answer" % (wide, "caller", wider,
                                                  "call"), "dim")]
     for number, record in enumerate(records):
         who, before = callers[number]
-        answer = answers[number]
+        answer, message = answers[number], shown.get(number + 1)
         yield [Piece("%6d  " % (number + 1), "dim"),
                Piece("%-*s  " % (wide, who), "plain"),
                Piece("%-*s  " % (wider, calls[number]), "call"),
-               *status_pieces(record, answer, who, names),
-               *wake_pieces(answer, names),
+               *status_pieces(record, answer, who, names, message),
+               *wake_pieces(answer, names, message),
                running_piece(answer, before, names)]

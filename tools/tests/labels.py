@@ -112,6 +112,28 @@ def test_picture_with_labels(bench):
     bench.holds("addresses without a text", plain, ">36864<")
 
 
+def test_messages_with_labels(bench):
+    told = example("orders")
+    words = picture.picture(told, "orders")
+    for part in (">queue orders<", 'queue_jump orders "rebuild 2"',
+                 "task parity (65) waits for queue orders",
+                 "queue orders (64): 3 of 3 held; records 14 to 18",
+                 'woken with OK, handed "page 4"',
+                 'record 25: "sync" to task parity (65)',
+                 ">message to a waiting task<"):
+        bench.holds("the picture of messages", words, part)
+    vcd = waves.waves_of(told).text()
+    for part in (" queue64_orders_held $end", " queue64_orders_waiting $end",
+                 "sparity:OK:6 "):
+        bench.holds("the waves of messages", vcd, part)
+    tracks, counters = parsed_trace(perfetto.trace_of(told, "orders"))
+    bench.holds("the wait for a message is a slice", str(
+        tracks["task parity (65)"]), "'waits for queue orders'")
+    bench.equal("held and waiting", counters[
+        "queue orders (64): held and waiting"][:3],
+        [(1000, 0, 0), (5000, 0, 1), (7000, 0, 0)])
+
+
 def test_legend_of_long_runs(bench):
     def height(words, part):
         return float(re.search(r'y="([0-9.]+)"[^>]*>' + part, words).group(1))

@@ -5,9 +5,9 @@ import pty
 import subprocess
 import sys
 
-from lib import listing, words
+from lib import listing, messages, words
 from lib.files import Trouble
-from tests.bench import (STORED, TOOLS, stored, stored_names,
+from tests.bench import (EXAMPLES, STORED, TOOLS, read, stored, stored_names,
                          stored_path)
 
 NINE_WORDS = """\
@@ -33,6 +33,23 @@ def test_words_of_nine(bench):
     status, out, _ = bench.tool("listing", nine("script"), nine("listing"))
     bench.equal("the nine records in words", (status, out.decode()),
                 (0, NINE_WORDS))
+
+
+def test_words_of_messages(bench):
+    path = os.path.join(EXAMPLES, "orders.")
+    _, out, _ = bench.tool("listing", path + "script", path + "listing")
+    for part in ('queue_send id=orders message="page 4"               OK; '
+                 'wakes task parity with OK, handed "page 4"; now task parity',
+                 'queue_send id=orders length=13 message="page 7"     '
+                 "INVALID_LENGTH (",
+                 'OK, length 9, "rebuild 2"; task parity runs on',
+                 "OK, options FIFO, held 3, waiting 0;",
+                 "wakes task parity with QUEUE_DELETED"):
+        bench.holds("words of messages", out.decode(), part)
+    for data, expected in (
+            (b"", "no bytes"), (b"\0", "1 zero"), (b"a\0\0", '"a" and 2 zeros'),
+            (b"\0a\xff", r'"\x00a\xff"')):
+        bench.equal("a message in words", messages.in_words(data), expected)
 
 
 def test_words_of_stored(bench):
@@ -86,6 +103,18 @@ MISFITS = (
 )
 
 
+DELIVERIES = (
+    ("65:0:6", "65:0", "L:7: expected task:0:length, for queue_send delivers, "
+                       "found `65:0`"),
+    ("65:13", "65:13:6", "L:10: expected task:status, for tick delivers "
+                         "nothing, found `65:13:6`"),
+    ("65:0:6", "65:0:06", "L:7: expected a wake as task:status or "
+                          "task:0:length"),
+    ("65:0:6", "65:1:6", "L:7: expected no task woken by queue_send with 1, "
+                         "PENDING"),
+)
+
+
 def complaint(data, script):
     try:
         listing.fitted(data, "L", script, "S")
@@ -100,6 +129,11 @@ def test_misfits(bench):
         bad = answers.decode().replace(old, new, 1).encode()
         bench.holds("a listing with `%s` for `%s`" % (new, old),
                     complaint(bad, script), expected)
+    orders, told = (read(EXAMPLES, "orders." + ending)
+                    for ending in ("script", "listing"))
+    for old, new, expected in DELIVERIES:
+        bench.holds("a listing with `%s` for `%s`" % (new, old), complaint(
+            told.replace(old.encode(), new.encode(), 1), orders), expected)
     bench.holds("refused, but the script is good", complaint(
         b"script refused\n", script), "L:1: found `script refused`, but S is")
     bench.holds("answers to a refused script", complaint(

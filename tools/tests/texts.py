@@ -47,9 +47,10 @@ def damaged(chance):
     """Random bytes, or a good script with a header, cut or bytes changed."""
     if chance.random() < .3:
         return chance.randbytes(chance.randrange(200))
-    rows = [[chance.choice((0, 1, 8, 11, 14, 19, 20, chance.getrandbits(32))),
+    rows = [[chance.choice((0, 1, 8, 11, 14, 19, 20, 23, 24, 27,
+                            chance.getrandbits(32))),
              chance.choice((0, 0, 1, 2, chance.getrandbits(32)))]
-            + [chance.choice((0, 1, 64, FOREVER, 2 ** 31,
+            + [chance.choice((0, 1, 4, 12, 64, FOREVER, 2 ** 31, 0x22415c23,
                               chance.getrandbits(32)))
                for _ in range(5)] for _ in range(chance.randrange(6))]
     header = [len(rows), 16, chance.randrange(16), 0]
@@ -95,7 +96,18 @@ def test_ways_to_write(bench):
             ("task_delete SELF", "task_delete id=0"),
             ("pool_create 1 4096 100 32 FORCED_DELETE",
              "call 14 1 0x1000 100 buffer 1".replace("buffer", "32")),
-            ("mark 77 sem_release 64", "mark 0x4d call 12 64")):
+            ("mark 77 sem_release 64", "mark 0x4d call 12 64"),
+            ('queue_send 64 "page"', "call 23 64 4 0x65676170"),
+            ('queue_send 64 "page" # 5', 'queue_send id=64 message="page"'),
+            ('queue_send 64 9 "page"', "call 23 64 9 0x65676170"),
+            ('queue_send 64 message="a\\x00\\"#"', "call 23 64 4 0x23220061"),
+            ('queue_jump 64 "a b=c\\\\"', "call 24 64 6 0x3d622061 0x5c63"),
+            ('queue_jump message="" id=64', "queue_jump 64 0"),
+            ('interrupt queue_send 64 "\u20ac"', "interrupt call 23 64 3 "
+             "0xac82e2"),
+            ("queue_send 64 64", "call 23 64 64"),
+            ("queue_receive 64 NOWAIT 0", "call 25 64 1 0"),
+            ("queue_create 7 16 64 FIFO", "call 20 7 16 64 1")):
         bench.equal("`%s` is `%s`" % (one, other), made(one), made(other))
 
 
@@ -112,6 +124,7 @@ def test_labels(bench):
             ("task_delete 64\nx = task_create 1 1", 128),
             ("refused sem_create 1 1 4\nx = sem_create 1 1 0", 64),
             ("interrupt sem_create 1 1 4\nx = sem_create 1 1 0", 64),
+            ("a = sem_create 1 1 0\nx = queue_create 1 1 1 0", 64),
             ("x = sem_create 1 1 0\nx = 4097", 4097)):
         bench.equal("label after `%s`" % words.replace("\n", "; "),
                     label_number(words), expected)
@@ -161,6 +174,20 @@ ERRORS = (
     ("header none\ntick", "expected only `bytes`"),
     ("task_delete SELF\nx = task_create 1 1", "line 2 deletes SELF"),
     ("task_create 1 1\n" * 31 + "x = task_create 1 1", "all 32 are taken"),
+    ('queue_send 64 "thirteen page"', "expected a message of at most 12 "
+     "bytes, all that a script's record has room for, found 13; longer ones "
+     "have zeros behind: `length=13`"),
+    ('queue_send 64 "page', 'expected a closing `"`'),
+    ("queue_send 64 4 page", "expected a message in quotes"),
+    ('queue_send 64 "\\n"', "expected a message in quotes"),
+    ('queue_send 64 message=4', "expected a message in quotes"),
+    ("queue_send 64", "expected `queue_send ID LENGTH MESSAGE`: length is "
+     "missing"),
+    ('queue_send 64 "a" "b"', "expected message once, found it twice"),
+    ('queue_send 64 1 "a" unused=1', "expected at most 0 unused"),
+    ('queue_receive 64 0 "a"', "expected a number or FOREVER for time_out"),
+    ("s = sem_create 1 1 0\nqueue_send s 0", "expected a queue for id, found "
+     "`s`, the semaphore of line 2"),
 )
 
 

@@ -5,7 +5,7 @@ import re
 import xml.etree.ElementTree as tree
 
 from lib import listing, picture, run, script, tables, waves
-from tests.bench import read, stored, stored_path
+from tests.bench import EXAMPLES, read, stored, stored_path
 
 SVG = "{http://www.w3.org/2000/svg}"
 WIDTHS = {"tiny": 5.0, "small": 5.5, "in": 5.5, "inrun": 5.5, "name": 6.6}
@@ -33,6 +33,39 @@ def test_states_of_nine(bench):
         (span.first, span.last, span.view.count)
         for span in spans["semaphore"][0]],
         [(1, 1, 1), (2, 4, 0), (5, 6, -1), (7, 9, 0)])
+
+
+def orders_run(old="", new=""):
+    data, answers = (read(EXAMPLES, "orders." + ending)
+                     for ending in ("script", "listing"))
+    answers = answers.replace(old.encode(), new.encode(), 1)
+    return run.Run(*listing.fitted(answers, "L", data, "S"), 3)
+
+
+def test_queues(bench):
+    told = orders_run()
+    bench.equal("what the queue holds, and who waits", [
+        (span.first, span.last, span.view.held, span.view.waiting)
+        for span in told.spans["queue"][0]],
+        [(1, 4, 0, 0), (5, 6, 0, 1), (7, 7, 0, 0), (8, 9, 0, 1),
+         (10, 11, 0, 0), (12, 12, 1, 0), (13, 13, 2, 0), (14, 18, 3, 0),
+         (19, 19, 2, 0), (20, 20, 1, 0), (21, 22, 0, 0), (23, 24, 0, 1),
+         (25, 25, 0, 0), (26, 26, 0, 1)])
+    bench.equal("messages that went to a waiting task", told.deliveries, [
+        (7, 64, 65, b"page 4"), (25, 64, 65, b"sync")])
+    for old, new, expected in (
+            ("65:0:6", "65:0:7", "task 65 is handed 7 bytes where 6 were"),
+            ("7 0 0 0 0 0 65 65:0:6", "7 0 0 0 0 0 65",
+             "queue 64 holds a message while tasks wait"),
+            ("17 0 1 3", "17 0 1 2", "queue_info answers 2 held and 0 waiting "
+             "where the calls before make 3 and 0"),
+            ("19 0 9", "19 0 6", "queue_receive answers 6 bytes where the "
+             "first message held has 9"),
+            ("20 0 6 0 0 0 65", "20 1 0 0 0 0 66",
+             "task 65 waits, but queue 64 holds a message")):
+        words = [doubt.words for doubt in orders_run(old, new).doubts]
+        bench.holds("a doubt where `%s` is `%s`" % (old, new), str(words),
+                    expected)
 
 
 def test_no_doubts_in_stored(bench):
@@ -136,7 +169,7 @@ def expected_finals(told):
     """What each slot shows at the end, as the VCD would say it."""
     finals = {}
     for kind, field, part in (("task", "state", 1), ("semaphore", "count", 1),
-                              ("pool", "out", 1)):
+                              ("pool", "out", 1), ("queue", "held", 1)):
         for slot, spans in told.spans[kind].items():
             path = "run/%ss/%s_%s" % (kind, waves.slot_name(
                 told, kind, slot), field)
