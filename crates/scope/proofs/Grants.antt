@@ -35,14 +35,17 @@ Ungranted (w ∷ ws) = (w .status ≡ OK → ⊥) × Ungranted ws
 abbrev pub GrantsNobody : Answer → Type 0
 GrantsNobody a = (a .delivers ≡ true) ⊎ Ungranted (wakeList a)
 
--- nobody is woken, or with another status, or a message is delivered
-abbrev Quiet : Answer → Type 0
-Quiet a = (a .woken ≡ 0) ⊎ ((a .why ≡ OK → ⊥) ⊎ (a .delivers ≡ true))
+-- nobody is woken, or with another status, or a message is delivered. (A type of its own: a chain of refusals is then compared by
+-- its answer alone, not once for each part.)
+data Quiet (a : Answer) : Type 0 where
+  wakes-nobody : a .woken ≡ 0 → Quiet a
+  not-granted : (a .why ≡ OK → ⊥) → Quiet a
+  delivered : a .delivers ≡ true → Quiet a
 
 ungranted : (a : Answer) → Quiet a → GrantsNobody a
-ungranted a (inl e) = inr (rw e tt)
-ungranted a (inr (inr e)) = inl e
-ungranted a (inr (inl n)) = inr (go (a .woken) 0)
+ungranted a (wakes-nobody e) = inr (rw e tt)
+ungranted a (delivered e) = inl e
+ungranted a (not-granted n) = inr (go (a .woken) 0)
   where
     go : (m k : ℕ) → Ungranted (wakesFrom m k (a .wakes) (a .why))
     go zero k = tt
@@ -51,113 +54,113 @@ ungranted a (inr (inl n)) = inr (go (a .woken) 0)
 module _ (s : State) where
   named : (o : Found) (f : ℕ → Answer) → ((i : ℕ) → Quiet (f i)) → Quiet (onFound o s f)
   unfolding plain answer
-  named o f g = by-name Quiet s (λ status e. inl refl) o f (λ i e. g i)
+  named o f g = by-name Quiet s (λ status e. wakes-nobody refl) o f (λ i e. g i)
 
   quiet-tick : Quiet (tick s)
   unfolding tick wakesWith
-  quiet-tick = inr (inl (λ e. omega arith))
+  quiet-tick = not-granted (λ e. omega arith)
 
   quiet-delete : (i : ℕ) → Quiet (semDeleteAt s i)
   unfolding semDeleteAt wakesWith
-  quiet-delete i = inr (inl (λ e. omega arith))
+  quiet-delete i = not-granted (λ e. omega arith)
 
   quiet-task-create : (name priority : ℕ) → Quiet (taskCreate s name priority)
   unfolding taskCreate taskCreateAt plain gives answer
-  quiet-task-create name priority = either Quiet _ (inl refl) (either Quiet _ (inl refl) (inl refl))
+  quiet-task-create name priority = either Quiet _ (wakes-nobody refl) (either Quiet _ (wakes-nobody refl) (wakes-nobody refl))
 
   quiet-task-delete : (t : ℕ) → Quiet (taskDeleteAt s t)
   unfolding taskDeleteAt plain answer
-  quiet-task-delete t = inl refl
+  quiet-task-delete t = wakes-nobody refl
 
   quiet-task-ident : (name : ℕ) → Quiet (taskIdent s name)
   unfolding taskIdent taskIdentAt plain gives answer
-  quiet-task-ident name = either Quiet _ (inl refl) (inl refl)
+  quiet-task-ident name = either Quiet _ (wakes-nobody refl) (wakes-nobody refl)
 
   quiet-start : (t : ℕ) → Quiet (taskStartAt s t)
   unfolding taskStartAt plain answer
-  quiet-start t = either Quiet _ (inl refl) (inl refl)
+  quiet-start t = either Quiet _ (wakes-nobody refl) (wakes-nobody refl)
 
   quiet-suspend : (t : ℕ) → Quiet (taskSuspendAt s t)
   unfolding taskSuspendAt plain answer
-  quiet-suspend t = either Quiet _ (inl refl) (either Quiet _ (inl refl) (either Quiet _ (inl refl) (inl refl)))
+  quiet-suspend t = either Quiet _ (wakes-nobody refl) (either Quiet _ (wakes-nobody refl) (either Quiet _ (wakes-nobody refl) (wakes-nobody refl)))
 
   quiet-resume : (t : ℕ) → Quiet (taskResumeAt s t)
   unfolding taskResumeAt plain answer
-  quiet-resume t = either Quiet _ (inl refl) (either Quiet _ (inl refl) (either Quiet _ (inl refl) (inl refl)))
+  quiet-resume t = either Quiet _ (wakes-nobody refl) (either Quiet _ (wakes-nobody refl) (either Quiet _ (wakes-nobody refl) (wakes-nobody refl)))
 
   quiet-set-priority : (priority t : ℕ) → Quiet (taskSetPriorityAt s priority t)
   unfolding taskSetPriorityAt plain gives answer
-  quiet-set-priority priority t = either Quiet _ (inl refl) (either Quiet _ (inl refl) (inl refl))
+  quiet-set-priority priority t = either Quiet _ (wakes-nobody refl) (either Quiet _ (wakes-nobody refl) (wakes-nobody refl))
 
   quiet-sem-create : (name count options : ℕ) → Quiet (semCreate s name count options)
   unfolding semCreate semCreateAt plain gives answer
-  quiet-sem-create name count options = either Quiet _ (inl refl) (either Quiet _ (inl refl) (either Quiet _ (inl refl) (inl refl)))
+  quiet-sem-create name count options = either Quiet _ (wakes-nobody refl) (either Quiet _ (wakes-nobody refl) (either Quiet _ (wakes-nobody refl) (wakes-nobody refl)))
 
   quiet-sem-ident : (name : ℕ) → Quiet (semIdent s name)
   unfolding semIdent semIdentAt plain gives answer
-  quiet-sem-ident name = either Quiet _ (inl refl) (inl refl)
+  quiet-sem-ident name = either Quiet _ (wakes-nobody refl) (wakes-nobody refl)
 
   quiet-claim : (options ticks i : ℕ) → Quiet (semClaimAt s options ticks i)
   unfolding semClaimAt semWaitAt plain answer
   quiet-claim options ticks i =
-      either Quiet _ (inl refl)
-      (either Quiet _ (inl refl) (either Quiet _ (inl refl) (either Quiet _ (inl refl) (either Quiet _ (inl refl) (inl refl)))))
+      either Quiet _ (wakes-nobody refl)
+      (either Quiet _ (wakes-nobody refl) (either Quiet _ (wakes-nobody refl) (either Quiet _ (wakes-nobody refl) (either Quiet _ (wakes-nobody refl) (wakes-nobody refl)))))
 
   quiet-sem-info : (i : ℕ) → Quiet (semInfoAt s i)
   unfolding semInfoAt answer
-  quiet-sem-info i = inl refl
+  quiet-sem-info i = wakes-nobody refl
 
   quiet-pool-create : (name address length size options : ℕ) → Quiet (poolCreate s name address length size options)
   unfolding poolCreate poolCreateAt plain gives answer
   quiet-pool-create name address length size options =
-      either Quiet _ (inl refl)
-      (either Quiet _ (inl refl) (either Quiet _ (inl refl) (either Quiet _ (inl refl) (either Quiet _ (inl refl) (inl refl)))))
+      either Quiet _ (wakes-nobody refl)
+      (either Quiet _ (wakes-nobody refl) (either Quiet _ (wakes-nobody refl) (either Quiet _ (wakes-nobody refl) (either Quiet _ (wakes-nobody refl) (wakes-nobody refl)))))
 
   quiet-pool-delete : (i : ℕ) → Quiet (poolDeleteAt s i)
   unfolding poolDeleteAt plain answer
-  quiet-pool-delete i = either Quiet _ (inl refl) (inl refl)
+  quiet-pool-delete i = either Quiet _ (wakes-nobody refl) (wakes-nobody refl)
 
   quiet-pool-ident : (name : ℕ) → Quiet (poolIdent s name)
   unfolding poolIdent poolIdentAt plain gives answer
-  quiet-pool-ident name = either Quiet _ (inl refl) (inl refl)
+  quiet-pool-ident name = either Quiet _ (wakes-nobody refl) (wakes-nobody refl)
 
   quiet-get : (i : ℕ) → Quiet (poolGetBuffAt s i)
   unfolding poolGetBuffAt poolGetBuffer plain gives answer
-  quiet-get i = either Quiet _ (inl refl) (inl refl)
+  quiet-get i = either Quiet _ (wakes-nobody refl) (wakes-nobody refl)
 
   quiet-return : (x i : ℕ) → Quiet (poolRetBuffAt s x i)
   unfolding poolRetBuffAt poolRetBuffer plain answer
-  quiet-return x i = either Quiet _ (inl refl) (inl refl)
+  quiet-return x i = either Quiet _ (wakes-nobody refl) (wakes-nobody refl)
 
   quiet-pool-info : (i : ℕ) → Quiet (poolInfoAt s i)
   unfolding poolInfoAt answer
-  quiet-pool-info i = inl refl
+  quiet-pool-info i = wakes-nobody refl
 
   quiet-queue-create : (name most longest options : ℕ) → Quiet (queueCreate s name most longest options)
   unfolding queueCreate queueCreateAt plain gives answer
-  quiet-queue-create name most longest options = either Quiet _ (inl refl) (either Quiet _ (inl refl) (either Quiet _ (inl refl) (inl refl)))
+  quiet-queue-create name most longest options = either Quiet _ (wakes-nobody refl) (either Quiet _ (wakes-nobody refl) (either Quiet _ (wakes-nobody refl) (wakes-nobody refl)))
 
   quiet-queue-delete : (i : ℕ) → Quiet (queueDeleteAt s i)
   unfolding queueDeleteAt wakesWith
-  quiet-queue-delete i = inr (inl (λ e. omega arith))
+  quiet-queue-delete i = not-granted (λ e. omega arith)
 
   quiet-queue-ident : (name : ℕ) → Quiet (queueIdent s name)
   unfolding queueIdent queueIdentAt plain gives answer
-  quiet-queue-ident name = either Quiet _ (inl refl) (inl refl)
+  quiet-queue-ident name = either Quiet _ (wakes-nobody refl) (wakes-nobody refl)
 
   quiet-put : (put : Store → ℕ → List ℕ → Store) (n : ℕ) (message : List ℕ) (i : ℕ) → Quiet (queuePutAt put s n message i)
   unfolding queuePutAt deliversTo plain answer
-  quiet-put put n message i = either Quiet _ (inl refl) (either Quiet _ (inr (inr refl)) (either Quiet _ (inl refl) (inl refl)))
+  quiet-put put n message i = either Quiet _ (wakes-nobody refl) (either Quiet _ (delivered refl) (either Quiet _ (wakes-nobody refl) (wakes-nobody refl)))
 
   quiet-receive : (options ticks i : ℕ) → Quiet (queueReceiveAt s options ticks i)
   unfolding queueReceiveAt queueWaitAt shows plain answer
   quiet-receive options ticks i =
-      either Quiet _ (inl refl)
-      (either Quiet _ (inl refl) (either Quiet _ (inl refl) (either Quiet _ (inl refl) (either Quiet _ (inl refl) (inl refl)))))
+      either Quiet _ (wakes-nobody refl)
+      (either Quiet _ (wakes-nobody refl) (either Quiet _ (wakes-nobody refl) (either Quiet _ (wakes-nobody refl) (either Quiet _ (wakes-nobody refl) (wakes-nobody refl)))))
 
   quiet-queue-info : (i : ℕ) → Quiet (queueInfoAt s i)
   unfolding queueInfoAt answer
-  quiet-queue-info i = inl refl
+  quiet-queue-info i = wakes-nobody refl
 
   -- row 12, the release, is the one that is not asked
   module _ (a b c d e : ℕ) (m : List ℕ) where
@@ -197,12 +200,12 @@ module _ (s : State) where
 
     quiet-row : (call : ℕ) → (call ≡ 12 → ⊥) → Quiet (callAt call .does s a b c d e m)
     unfolding plain answer
-    quiet-row call n = row-at Row 0 calls rows (λ k m. inl refl) call (λ e. n (omega arith))
+    quiet-row call n = row-at Row 0 calls rows (λ k m. wakes-nobody refl) call (λ e. n (omega arith))
 
     quiet-step : (call mark : ℕ) → (call ≡ 12 → ⊥) → Quiet (stepped s call mark a b c d e m)
     unfolding stepped answered plain answer badState
     quiet-step call mark n =
-        branch Quiet (sound s) _ _ (branch Quiet (eqb (callerRefusal call mark (s .running)) OK) _ _ (quiet-row call n) (inl refl)) (inl refl)
+        branch Quiet (sound s) _ _ (branch Quiet (eqb (callerRefusal call mark (s .running)) OK) _ _ (quiet-row call n) (wakes-nobody refl)) (wakes-nobody refl)
 
     -- an answer that is not a release's grants nothing
     pub only-releases-grant : (call mark : ℕ) → (call ≡ 12 → ⊥) → GrantsNobody (stepped s call mark a b c d e m)

@@ -81,12 +81,16 @@ module _ (serial : List ℕ) (live : List Bool) (name : List ℕ) (x : ℕ) wher
 abbrev WhenOK : (Answer → Type 0) → Answer → Type 0
 WhenOK P a = a .status ≡ OK → P a
 
+-- the same as a type of its own: a chain of refusals is then compared by its answer alone, not by all that is said of it
+record OnOK (P : Answer → Type 0) (a : Answer) : Type 0 where
+  said : WhenOK P a
+
 -- a refusal comes first
-after-refusal : (P : Answer → Type 0) (s : State) (status : ℕ) → (status ≡ 0 → ⊥) → (b : Bool) {y : Answer} → (b ≡ false → WhenOK P y)
-    → WhenOK P (pick b (plain s status) y)
+after-refusal : (P : Answer → Type 0) (s : State) (status : ℕ) → (status ≡ 0 → ⊥) → (b : Bool) {y : Answer} → (b ≡ false → OnOK P y)
+    → OnOK P (pick b (plain s status) y)
 unfolding pick plain answer
-after-refusal P s status n true f e = absurd (n e)
-after-refusal P s status n false f e = f refl e
+after-refusal P s status n true f = record { said = λ e. absurd (n e) }
+after-refusal P s status n false f = f refl
 
 abbrev value : Answer → ℕ
 value a = getD (a .values) 0 0
@@ -99,8 +103,10 @@ module _ (s : State) (x : ℕ) where
   pub task-ident : length (s .tasks .live) ≤ 64 → WhenOK TaskNamed (taskIdent s x)
   unfolding taskIdent taskIdentAt gives answer
   task-ident small =
+      let so : OnOK TaskNamed (taskIdent s x) =
       after-refusal TaskNamed s 8 (λ z. omega arith) _
-      (λ h e. identified (s .tasks .serial) (s .tasks .live) (s .tasks .name) x (leb-false _ _ h) small)
+      (λ h. record { said = λ e. identified (s .tasks .serial) (s .tasks .live) (s .tasks .name) x (leb-false _ _ h) small })
+      in so .said
 
   abbrev SemNamed : Answer → Type 0
   SemNamed a = Identified (s .semaphores .serial) (s .semaphores .live) (s .semaphores .name) x (value a)
@@ -108,8 +114,10 @@ module _ (s : State) (x : ℕ) where
   pub sem-ident : length (s .semaphores .live) ≤ 64 → WhenOK SemNamed (semIdent s x)
   unfolding semIdent semIdentAt gives answer
   sem-ident small =
+      let so : OnOK SemNamed (semIdent s x) =
       after-refusal SemNamed s 8 (λ z. omega arith) _
-      (λ h e. identified (s .semaphores .serial) (s .semaphores .live) (s .semaphores .name) x (leb-false _ _ h) small)
+      (λ h. record { said = λ e. identified (s .semaphores .serial) (s .semaphores .live) (s .semaphores .name) x (leb-false _ _ h) small })
+      in so .said
 
   abbrev PoolNamed : Answer → Type 0
   PoolNamed a = Identified (s .pools .serial) (s .pools .live) (s .pools .name) x (value a)
@@ -117,8 +125,10 @@ module _ (s : State) (x : ℕ) where
   pub pool-ident : length (s .pools .live) ≤ 64 → WhenOK PoolNamed (poolIdent s x)
   unfolding poolIdent poolIdentAt gives answer
   pool-ident small =
+      let so : OnOK PoolNamed (poolIdent s x) =
       after-refusal PoolNamed s 8 (λ z. omega arith) _
-      (λ h e. identified (s .pools .serial) (s .pools .live) (s .pools .name) x (leb-false _ _ h) small)
+      (λ h. record { said = λ e. identified (s .pools .serial) (s .pools .live) (s .pools .name) x (leb-false _ _ h) small })
+      in so .said
 
   -- the calls that create
   abbrev TaskNew : Answer → Type 0
@@ -128,9 +138,11 @@ module _ (s : State) (x : ℕ) where
       → length (s .tasks .name) ≡ length (s .tasks .serial) → WhenOK TaskNew (taskCreate s x priority)
   unfolding taskCreate taskCreateAt gives answer
   task-new priority small l n =
+      let so : OnOK TaskNew (taskCreate s x priority) =
       after-refusal TaskNew s 19 (λ z. omega arith) _
       (λ g. after-refusal TaskNew s 7 (λ z. omega arith) _
-      (λ h e. new (s .tasks .serial) (s .tasks .live) (s .tasks .name) x (leb-false _ _ h) small l n))
+      (λ h. record { said = λ e. new (s .tasks .serial) (s .tasks .live) (s .tasks .name) x (leb-false _ _ h) small l n }))
+      in so .said
 
   abbrev SemNew : Answer → Type 0
   SemNew a =
@@ -140,27 +152,27 @@ module _ (s : State) (x : ℕ) where
       → length (s .semaphores .name) ≡ length (s .semaphores .serial) → WhenOK SemNew (semCreate s x count options)
   unfolding semCreate semCreateAt gives answer
   sem-new count options small l n =
+      let so : OnOK SemNew (semCreate s x count options) =
       after-refusal SemNew s 9 (λ z. omega arith) _
       (λ f. after-refusal SemNew s 6 (λ z. omega arith) _
       (λ g. after-refusal SemNew s 7 (λ z. omega arith) _
-      (λ h e. new (s .semaphores .serial) (s .semaphores .live) (s .semaphores .name) x (leb-false _ _ h) small l n)))
+      (λ h. record { said = λ e. new (s .semaphores .serial) (s .semaphores .live) (s .semaphores .name) x (leb-false _ _ h) small l n })))
+      in so .said
 
   abbrev PoolNew : Answer → Type 0
   PoolNew a = New (s .pools .serial) (s .pools .live) (a .state .pools .serial) (a .state .pools .live) (a .state .pools .name) x (value a)
 
-  -- in two parts, since a chain of five refusals is dear to check
-  pool-new-at : (address n size options : ℕ) → length (s .pools .serial) ≡ 8 → length (s .pools .live) ≡ 8 → length (s .pools .name) ≡ 8
-      → WhenOK PoolNew (poolCreateAt s x address n size options (lowestUsable (s .pools .serial) (s .pools .live)))
-  unfolding poolCreateAt gives answer
-  pool-new-at address n size options eight l m =
-      after-refusal PoolNew s 7 (λ z. omega arith) _
-      (λ h. after-refusal PoolNew s 15 (λ z. omega arith) _
-      (λ g e. new (s .pools .serial) (s .pools .live) (s .pools .name) x (omega (arith, leb-false 8 (lowestUsable (s .pools .serial) (s .pools .live)) h)) (omega arith) (omega arith) (omega arith)))
-
   pub pool-new : (address n size options : ℕ) → length (s .pools .serial) ≡ 8 → length (s .pools .live) ≡ 8 → length (s .pools .name) ≡ 8
       → WhenOK PoolNew (poolCreate s x address n size options)
-  unfolding poolCreate
+  unfolding poolCreate poolCreateAt gives answer
   pool-new address n size options eight l m =
+      let so : OnOK PoolNew (poolCreate s x address n size options) =
       after-refusal PoolNew s 3 (λ z. omega arith) _
       (λ b. after-refusal PoolNew s 14 (λ z. omega arith) _
-      (λ c. after-refusal PoolNew s 6 (λ z. omega arith) _ (λ d. pool-new-at address n size options eight l m)))
+      (λ c. after-refusal PoolNew s 6 (λ z. omega arith) _
+      (λ d. after-refusal PoolNew s 7 (λ z. omega arith) _
+      (λ h. after-refusal PoolNew s 15 (λ z. omega arith) _
+      (λ g.
+      let fits : lowestUsable (s .pools .serial) (s .pools .live) < 8 = leb-false 8 _ h in
+      record { said = λ e. new (s .pools .serial) (s .pools .live) (s .pools .name) x (omega arith) (omega arith) (omega arith) (omega arith) })))))
+      in so .said

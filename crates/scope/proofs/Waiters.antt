@@ -88,32 +88,37 @@ module _ (s : State) (i : ℕ) (fits : i < length (s .semaphores .units)) where
   with-units : (n : ℕ) → countIn (withSemaphores s (withUnits (s .semaphores) i n)) i ≡ less n (waitersOf (s .line) i)
   with-units n = ap (λ (u : ℕ). less u (waitersOf (s .line) i)) (getD-set-same (s .semaphores .units) i n 0 fits)
 
-  abbrev Released : Answer → Type 0
-  Released a = a .status ≡ OK → countIn (a .state) i ≡ plusOne (countIn s i)
+  -- (types of their own: a chain of choices is then compared by its answer alone, not by its status and its state)
+  record Released (a : Answer) : Type 0 where
+    said : a .status ≡ OK → countIn (a .state) i ≡ plusOne (countIn s i)
 
   -- "Release: count plus one. If there were waiters the first leaves, woken with OK: that is its grant."
   pub release-plus-one : (firstOf (s .line .seat) (queueSeats i) < 32 → Waits (s .line) i (firstOf (s .line .seat) (queueSeats i)))
       → semReleaseAt s i .status ≡ OK → countIn (semReleaseAt s i .state) i ≡ plusOne (countIn s i)
   unfolding semReleaseAt wakesWith wakeNext plain answer
   release-plus-one waits =
-      by-choice Released _ (λ e d. absurd (omega arith))
-      (λ e. by-choice Released _ (λ f d. woken-gives-back (s .line) i _ (waits (ltb-true _ _ f)) (s .semaphores) _ _)
-      (λ f d. with-units (units + 1) ∙ unit-more units (waitersOf (s .line) i)))
+      let so : Released (semReleaseAt s i) =
+      by-choice Released _ (λ e. record { said = λ d. absurd (omega arith) })
+      (λ e. by-choice Released _ (λ f. record { said = λ d. woken-gives-back (s .line) i _ (waits (ltb-true _ _ f)) (s .semaphores) _ _ })
+      (λ f. record { said = λ d. with-units (units + 1) ∙ unit-more units (waitersOf (s .line) i) }))
+      in so .said
 
-  abbrev Claimed : Answer → Type 0
-  Claimed a = a .status ≡ OK → countIn (a .state) i ≡ lessOne (countIn s i)
+  record Claimed (a : Answer) : Type 0 where
+    said : a .status ≡ OK → countIn (a .state) i ≡ lessOne (countIn s i)
 
   -- "Claim: count less one. At 0 or more the answer is OK"
   pub claim-less-one : (options ticks : ℕ) → semClaimAt s options ticks i .status ≡ OK
       → countIn (semClaimAt s options ticks i .state) i ≡ lessOne (countIn s i)
   unfolding semClaimAt semWaitAt plain answer
   claim-less-one options ticks =
-      by-choice Claimed _ (λ e d. absurd (omega arith))
-      (λ e. by-choice Claimed _ (λ f d. absurd (omega arith))
-      (λ f. by-choice Claimed _ (λ g d. absurd (omega arith))
+      let so : Claimed (semClaimAt s options ticks i) =
+      by-choice Claimed _ (λ e. record { said = λ d. absurd (omega arith) })
+      (λ e. by-choice Claimed _ (λ f. record { said = λ d. absurd (omega arith) })
+      (λ f. by-choice Claimed _ (λ g. record { said = λ d. absurd (omega arith) })
       (λ g. by-choice Claimed _
-      (λ h d. with-units (units - 1) ∙ unit-less units (waitersOf (s .line) i) (units - 1) (omega (arith, ltb-true 0 units h)))
-      (λ h. by-choice Claimed _ (λ j d. absurd (omega arith)) (λ j d. absurd (omega arith))))))
+      (λ h. record { said = λ d. with-units (units - 1) ∙ unit-less units (waitersOf (s .line) i) (units - 1) (omega (arith, ltb-true 0 units h)) })
+      (λ h. by-choice Claimed _ (λ j. record { said = λ d. absurd (omega arith) }) (λ j. record { said = λ d. absurd (omega arith) })))))
+      in so .said
 
 -- "sem_info gives options, count, tasks waiting": by the identifier of semaphore i
 pub info-tells-the-count : (s : State) (id i : ℕ) → semFound s id ≡ At i
