@@ -131,8 +131,8 @@ static void play_record(struct kernel *k, const uint8_t *record, int trust,
         kernel_step_checked(k, call, mark, arg, &lent, a);
 }
 
-size_t script_listing(const uint8_t *script, size_t length, int trust,
-                      char *out, size_t room)
+size_t script_listing_between(const uint8_t *script, size_t length, int trust,
+                              struct between between, char *out, size_t room)
 {
     struct writer w = { .out = out, .room = room };
     struct header h;
@@ -147,10 +147,22 @@ size_t script_listing(const uint8_t *script, size_t length, int trust,
     for (uint32_t record = 0; record < h.records; record++) {
         const uint8_t *bytes = script + h.offset + RECORD_BYTES * record;
 
+        if (between.does != NULL)
+            between.does(&k, between.with);
         play_record(&k, bytes, trust, &a);
         put_answer(&w, record + 1, &a);
     }
+    if (between.does != NULL)
+        between.does(&k, between.with);
     return w.length;
+}
+
+size_t script_listing(const uint8_t *script, size_t length, int trust,
+                      char *out, size_t room)
+{
+    const struct between nothing = { NULL, NULL };
+
+    return script_listing_between(script, length, trust, nothing, out, room);
 }
 
 /* A line for each cell that is not 0: the latest task and the latest

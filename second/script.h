@@ -27,6 +27,19 @@ enum {
 size_t script_listing(const uint8_t *script, size_t length, int trust,
                       char *out, size_t room);
 
+struct kernel;
+
+/* What is done with each state, the fresh one first and the one after the
+ * last record last; it may put another in its place. */
+struct between {
+    void (*does)(struct kernel *k, void *with);
+    void *with;
+};
+
+/* The same listing, with something done before each record and at the end. */
+size_t script_listing_between(const uint8_t *script, size_t length, int trust,
+                              struct between between, char *out, size_t room);
+
 /* The same for its grant grid, which is cleared before the first record. */
 size_t script_grid(const uint8_t *script, size_t length, int trust, char *out,
                    size_t room);

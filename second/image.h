@@ -1,0 +1,28 @@
+/*
+ * The state image, edition 1, as docs/IMAGE.md lays it out.
+ *
+ * "Write the state to an image and read it back: a header ..., records by
+ * slot, the ready order, no gaps ... One state has one image and reading
+ * returns the state."
+ */
+#ifndef IMAGE_H
+#define IMAGE_H
+
+#include <stddef.h>
+
+#include "kernel.h"
+
+enum { EDITION = 1, IMAGE_BYTES = 9920 };
+
+/* No call gives these two. */
+enum { NO_ROOM = 31, BAD_IMAGE = 32 };
+
+/* Writes the image; bytes past it are kept. "A bad state is not written: 26,
+ * before 31", and with 31 nothing is. */
+uint32_t image_write(const struct kernel *k, uint8_t *out, size_t room);
+
+/* "32 BAD_IMAGE for any bytes no state writes ..., a cut image too": then the
+ * state is left as given. Bytes past the image are ignored. */
+uint32_t image_read(struct kernel *k, const uint8_t *bytes, size_t length);
+
+#endif
