@@ -1,0 +1,220 @@
+"""tools/image, and docs/IMAGE.md against the table of fields."""
+
+import os
+import random
+import re
+import subprocess
+
+from lib import image, image_words, reader
+from tests.bench import ROOT, TOOLS, read
+from tests.examples import player
+
+SECTIONS = {"Header": "header", "Task": "task", "Semaphore": "semaphore",
+            "Pool": "pool", "Queue": "queue", "Ready order": "ready"}
+
+TEXT = """first priority 5
+sem_create 77 0 FIFO
+sem_create 2 32767 0
+task_create 17 9
+task_start 65
+sem_claim 64 0 3
+task_create 18 8
+task_start 66
+sem_claim 64 0 FOREVER
+queue_create 3 2 64 0
+queue_create 4 16 1 FIFO
+task_create 19 15
+task_start 67
+queue_receive 65 0 1
+task_suspend 67
+task_create 20 1
+task_create 21 5
+task_start 69
+task_create 22 2
+task_delete 70
+pool_create 5 4096 100 32 FORCED_DELETE
+pool_get_buff 64
+pool_get_buff 64
+pool_ret_buff 64 4096
+queue_send 64 "page 7"
+queue_jump 64 2
+"""
+
+SUMMARY = """image of edition 1, 9920 bytes, and 3 past it
+live: 6 tasks, 2 semaphores, 1 pool, 2 queues
+task 64 runs; ready behind it: 69
+not started: 68
+suspended: 67
+semaphore 64 (name 77, FIFO): count -2; waiting: 65 for 3 ticks; 66 FOREVER
+semaphore 65 (name 2): count 32767
+pool 64 (name 5, FORCED_DELETE): 3 buffers of 32 bytes from 4096; 1 out: 4128; free, the longest first: 4160, 4096
+queue 64 (name 3): 2 of 2 messages held, each at most 64 bytes: 2 zeros; "page 7"
+queue 65 (name 4, FIFO): 0 of 16 messages held, each at most 1 byte; waiting: 67 for 1 tick, suspended
+"""
+
+LINES = (
+    "header     0      0  edition             1",
+    "task       1      7  seat               65  place 1 at semaphore 64",
+    "task       2      6  time_out   4294967295  FOREVER",
+    "task       3      7  seat             1153  place 1 at queue 65",
+    "task       5      7  seat             2370  place 2 of the ready tasks of priority 5",
+    "task       6      1  serial              1",
+    "pool       0      0  marks               2  out: 1",
+    "pool       0     10  free_place 2        1",
+    "queue      0     72  message 1 length    6",
+    "queue      0     73  message 1 byte 0  112",
+    "ready      0      1  ready 1             6  task 69",
+)
+
+
+def made(text=TEXT):
+    """The image of the state that a text's script leaves."""
+    return subprocess.run(
+        [player(), "--image"], input=reader.script_of(text, "T"), check=True,
+        stdout=subprocess.PIPE).stdout
+
+
+def page_rows(title):
+    """The cells of the table under a title of docs/IMAGE.md."""
+    page = read(ROOT, "docs", "IMAGE.md").decode()
+    found = re.search(r"^%s\n(?:[^#|]*\n)?((?:\|.*\n)+)" % title, page, re.M)
+    return [[cell.strip() for cell in line.strip("|").split("|")]
+            for line in found.group(1).strip().split("\n")[2:]]
+
+
+def spoken(first, many):
+    return str(first) if many == 1 else "%d to %d" % (first, first + many - 1)
+
+
+def test_page_fields(bench):
+    """Numbers, places, widths and words of the page are the table's."""
+    for title, kind in SECTIONS.items():
+        bench.equal("fields of %s in docs/IMAGE.md" % title, [
+            row[:4] for row in page_rows("## " + title)], [
+            [spoken(field.number, field.many),
+             spoken(field.place, field.many),
+             str(field.bytes) + (" each" if field.many > 1 else ""),
+             field.meaning] for field in image.FIELDS[kind]])
+    bench.equal("the header's numbers in docs/IMAGE.md", [
+        int(row[4].replace(",", "")) for row in page_rows("## Header")],
+        image.header())
+
+
+def test_page_parts(bench):
+    parts = [[image.BEGINS[kind], image.records_of(kind),
+              image.bytes_of(kind),
+              image.records_of(kind) * image.bytes_of(kind)]
+             for kind in image.FIELDS]
+    rows = page_rows("# The state image, edition 1")
+    bench.equal("parts in docs/IMAGE.md", [
+        [int(cell.replace(",", "")) for cell in row[1:]] for row in rows],
+        parts)
+    bench.equal("the image's length", image.LENGTH, 9920)
+    bench.holds("its length in docs/IMAGE.md",
+                read(ROOT, "docs", "IMAGE.md").decode(),
+                "is {:,} bytes long".format(image.LENGTH))
+
+
+def test_no_gaps(bench):
+    """Each field begins where the one before it ends, and so its number."""
+    bench.equal("kinds", list(image.FIELDS), list(SECTIONS.values()))
+    for kind, fields in image.FIELDS.items():
+        number = place = 0
+        for field in fields:
+            bench.equal("%s %s follows" % (kind, field.name),
+                        (field.number, field.place), (number, place))
+            number += field.many
+            place += field.many * field.bytes
+    lines = read(TOOLS, "fields.tsv").decode().split("\n")
+    bench.check("fields.tsv has whole rows", lines.pop() == "" and all(
+        line.count("\t") == lines[0].count("\t") for line in lines))
+
+
+def test_seats(bench):
+    """The queues of a seat are those that the page names."""
+    told = " ".join(read(ROOT, "docs", "IMAGE.md").decode().split())
+    bench.holds("queues of a seat in docs/IMAGE.md", told,
+                "i + %d is the wait queue of semaphore i, i + %d that of "
+                "message queue i, and %d + p holds the ready tasks" % (
+                    image_words.FIRST_SEMAPHORE, image_words.FIRST_QUEUE,
+                    image_words.FIRST_READY))
+
+
+def test_words(bench):
+    path = bench.file("made.image", made() + b"abc")
+    status, out, errors = bench.tool("image", "show", path)
+    summary, _, fields = out.decode().partition("\n\n")
+    bench.equal("an image in words", (status, errors, summary + "\n"),
+                (0, "", SUMMARY))
+    for line in LINES:
+        bench.holds("a field of it", squeezed(fields), squeezed(line))
+    _, out, _ = bench.tool("image", "show", "-", stdin=made(
+        "first priority 0\ntask_suspend SELF\n"))
+    bench.holds("where nothing runs", out.decode(), "\nnothing runs\n")
+
+
+def squeezed(text):
+    """With one space between words: columns are as wide as they need be."""
+    return re.sub(" +", " ", text)
+
+
+def test_fields(bench):
+    """All fields together are the image, and those shown are not zero."""
+    data = made()
+    found = list(image.values(data))
+    widths = [field.bytes for kind, fields in image.FIELDS.items()
+              for _ in range(image.records_of(kind)) for field in fields
+              for _ in range(field.many)]
+    bench.check("the fields are all bytes", data == b"".join(
+        value.value.to_bytes(width, "little")
+        for value, width in zip(found, widths)))
+    bench.equal("as many fields as widths", len(found), len(widths))
+    bench.equal("a field stands once", len({value[:3] for value in found}),
+                len(found))
+    path = bench.file("made.image", data)
+    for words, expected in ((["--all"], found), ([], [
+            value for value in found if value.value])):
+        _, out, _ = bench.tool("image", "show", path, *words)
+        lines = out.decode().partition("\n\n")[2].splitlines()[1:]
+        bench.equal("lines of show " + " ".join(words), len(lines),
+                    len(expected))
+        bench.check("they are the fields", all(
+            line.split()[:3] == [value.kind, str(value.slot),
+                                 str(value.number)]
+            and str(value.value) in line.split()
+            for line, value in zip(lines, expected)))
+
+
+def test_any_bytes(bench):
+    """Bytes behind a header that no state writes are told too."""
+    dice = random.Random(4)
+    head = made()[:image.bytes_of("header")]
+    for most in (255, 40, 1):
+        path = bench.file("any.image", head + bytes(
+            dice.randint(0, most) for _ in range(image.LENGTH - len(head))))
+        status, _, errors = bench.tool("image", "show", path)
+        bench.equal("status of any bytes", (status, errors), (0, ""))
+
+
+def test_complaints(bench):
+    data = made()
+    other = bytearray(data)
+    other[0] = 2
+    moved = bytearray(data)
+    moved[36:38] = b"\xc9\x05"
+    for what, found, expected in (
+            ("no bytes", b"", "0 bytes, an image of edition 1 has 9920"),
+            ("a cut image", data[:-1], "9919 bytes, an image"),
+            ("another edition", bytes(other),
+             "number 0 of its header (edition) is 2, not 1"),
+            ("another place", bytes(moved),
+             "number 9 of its header (queues_at) is 1481, not 1480"),
+            ("a refused script", made("first priority 5\ncount 9\n"), "its script was refused")):
+        status, out, errors = bench.tool("image", "show", "-", stdin=found)
+        bench.equal("status of " + what, (status, out), (1, b""))
+        bench.holds("complaint of " + what, errors,
+                    "standard input: no image of edition 1: " + expected)
+    status, _, errors = bench.tool("image", "show", os.path.join(
+        bench.scratch, "none.image"))
+    bench.equal("status without a file", status, 1)
+    bench.holds("complaint without a file", errors, "cannot be read")
