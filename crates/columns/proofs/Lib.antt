@@ -1,0 +1,4 @@
+pub mod Stores
+pub mod Bytes
+pub mod Loops
+pub mod Tables

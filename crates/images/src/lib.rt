@@ -1,0 +1,120 @@
+// The image of a state: made, written and read. (image's specs/Image.antt and specs/Reading.antt; docs/IMAGE.md.)
+use scope::Line;
+use scope::Pools;
+use scope::Queues;
+use scope::Semaphores;
+use scope::State;
+use scope::Tasks;
+ghost use mathlib.Core.Path.{_≡_};
+ghost use Rattle.columns.specs.Fields.{putFields};
+ghost use Rattle.image.specs.Image.{taskFields, semFields, poolFields, queueFields, imageOf};
+ghost use Rattle.image.specs.Reading.{puts};
+
+// Each table's columns, out of the table.
+fn put_tasks(image: &mut [u8; 9920], l: Line, k: Tasks)
+    ensures { λ _. ⌜ now (image .exit) ≡ putFields 17 32 (taskFields l k) 40 (now (image .entry)) ⌝ }
+{
+    let name = k.name;
+    let serial = k.serial;
+    let live = k.live;
+    let started = k.started;
+    let suspended = k.suspended;
+    let priority = k.priority;
+    let left = l.left;
+    let seat = l.seat;
+    let joined = l.joined;
+    image::put_tasks(
+        image,
+        &name,
+        &serial,
+        &live,
+        &started,
+        &suspended,
+        &priority,
+        &left,
+        &seat,
+        &joined,
+    );
+}
+
+fn put_semaphores(image: &mut [u8; 9920], m: Semaphores)
+    ensures { λ _. ⌜ now (image .exit) ≡ putFields 10 16 (semFields m) 584 (now (image .entry)) ⌝ }
+{
+    let name = m.name;
+    let serial = m.serial;
+    let units = m.units;
+    let live = m.live;
+    let fifo = m.fifo;
+    image::put_semaphores(image, &name, &serial, &units, &live, &fifo);
+}
+
+fn put_pools(image: &mut [u8; 9920], p: Pools)
+    ensures { λ _. ⌜ now (image .exit) ≡ putFields 92 8 (poolFields p) 744 (now (image .entry)) ⌝ }
+{
+    let out = p.out;
+    let name = p.name;
+    let address = p.address;
+    let length = p.length;
+    let size = p.size;
+    let serial = p.serial;
+    let live = p.live;
+    let forced = p.forced;
+    let place = p.place;
+    image::put_pools(
+        image,
+        &out,
+        &name,
+        &address,
+        &length,
+        &size,
+        &serial,
+        &live,
+        &forced,
+        &place,
+    );
+}
+
+fn put_queues(image: &mut [u8; 9920], u: Queues)
+    ensures { λ _. ⌜ now (image .exit) ≡ putFields 1051 8 (queueFields u) 1480 (now (image .entry)) ⌝ }
+{
+    let name = u.name;
+    let serial = u.serial;
+    let live = u.live;
+    let fifo = u.fifo;
+    let limits = u.limits;
+    let held = u.held;
+    let cells = u.cells;
+    image::put_queues(image, &name, &serial, &live, &fifo, &limits, &held, &cells);
+}
+
+pub fn image_of(s: State) -> [u8; 9920]
+    ensures { λ r. ⌜ r ≡ imageOf s ⌝ }
+{
+    let l = s.line;
+    let k = s.tasks;
+    let m = s.semaphores;
+    let p = s.pools;
+    let u = s.queues;
+    let seat = l.seat;
+    let places = orders::ready_places(&seat);
+    let mut image = [0u8; 9920];
+    image::put_header(&mut image);
+    put_tasks(&mut image, l, k);
+    put_semaphores(&mut image, m);
+    put_pools(&mut image, p);
+    put_queues(&mut image, u);
+    image::put_order(&mut image, &places);
+    image
+}
+
+// 31 where the slice is shorter than an image, and nothing is written; bytes past the image are kept. (A bad state is refused above.)
+pub fn write(s: State, out: &mut [u8]) -> u32
+    ensures { λ r. ⌜ (record { bytes = now (out .exit); status = r }) ≡ puts s (now (out .entry)) ⌝ }
+{
+    if out.len() < 9920 {
+        return 31;
+    }
+    let image = image_of(s);
+    columns::copy(out, 0, &image, 0, 9920);
+    0
+}
