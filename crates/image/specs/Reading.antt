@@ -1,7 +1,7 @@
 -- M-104: an image is written and read. "One state has one image and reading returns the state."
 -- Assumes nothing.
 use Prim.Native.Nat.{ℕ, _+_}
-use mathlib.Core.Bool.{Bool, true, false, not, _&&_}
+use mathlib.Core.Bool.{Bool, true, false, _&&_}
 use mathlib.Core.List.{List, [], _∷_, _++_, map}
 use mathlib.Core.Path.{_≡_}
 use lib.ListN.{length, take, drop}
@@ -13,7 +13,7 @@ use Rattle.scope.specs.declared.Semaphores.{Semaphores}
 use Rattle.scope.specs.declared.Pools.{Pools}
 use Rattle.scope.specs.declared.Queues.{Queues}
 use Rattle.scope.specs.Choice.{pick}
-use Rattle.scope.specs.Statuses.{OK, BAD-STATE}
+use Rattle.scope.specs.Statuses.{OK}
 use Rattle.scope.specs.Seats.{ringMask, maskOf, runnerOf}
 use Rattle.scope.specs.Rules.{sound}
 use Rattle.columns.specs.Numbers.{isOn}
@@ -22,9 +22,6 @@ use Rattle.image.specs.Image.{imageOf, imageSize}
 
 abbrev pub NO-ROOM : ℕ
 NO-ROOM = 31
-
-abbrev pub BAD-IMAGE : ℕ
-BAD-IMAGE = 32
 
 -- What stands in the bytes: a column of each table, the first slot's at the place that docs/IMAGE.md gives.
 abbrev pub ofTask : ℕ → List ℕ → ℕ → List ℕ
@@ -169,7 +166,3 @@ unfoldable pub puts : State → List ℕ → Wrote
 puts s out =
     pick (ltb (length out) imageSize) (record { bytes = out; status = NO-ROOM })
     (record { bytes = imageOf s ++ drop imageSize out; status = OK })
-
--- "A bad state is not written: 26, before 31"
-unfoldable pub writes : State → List ℕ → Wrote
-writes s out = pick (not (sound s)) (record { bytes = out; status = BAD-STATE }) (puts s out)
