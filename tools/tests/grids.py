@@ -1,4 +1,5 @@
-"""./play --grid and tools/grid: the grid as text and as a picture."""
+"""./play --grid and tools/grid: the grid as text and as a picture; and
+./play --image, which the same program writes."""
 
 import glob
 import os
@@ -13,15 +14,15 @@ SVG = "{http://www.w3.org/2000/svg}"
 EXAMPLE = os.path.join(EXAMPLES, "grant-grid")
 
 
-def second_grid(path):
-    return subprocess.run([player(), "--grid", path], check=True,
+def second(option, path):
+    return subprocess.run([player(), option, path], check=True,
                           stdout=subprocess.PIPE).stdout
 
 
 def test_example(bench):
     lines = read(EXAMPLE + ".grid")
     bench.equal("grant-grid.grid is the second program's",
-                second_grid(EXAMPLE + ".script"), lines)
+                second("--grid", EXAMPLE + ".script"), lines)
     cells = grid.cells_of(lines, "G")
     bench.check("grant-grid.grid.svg is its picture", grid.picture(
         cells, "grant-grid.script") == read(EXAMPLE + ".grid.svg").decode())
@@ -64,12 +65,12 @@ def real(bench):
     if not os.path.exists(stamp) or subprocess.run(
             ["find", ROOT + "/crates", ROOT + "/crates.txt", "-newercm",
              stamp], check=True, stdout=subprocess.PIPE).stdout:
-        bench.skip("the proved grid", "it is not built from this tree; "
-                                      "./play --grid builds it")
+        bench.skip("the proved grid and image", "their program is not built "
+                   "from this tree; ./play --grid builds it")
         return None
-    return lambda path: subprocess.run(
-        ["./play", "--grid", path], cwd=ROOT, stdin=subprocess.DEVNULL,
-        stdout=subprocess.PIPE, check=True, timeout=20).stdout
+    return lambda option, path: subprocess.run(
+        ["./play", option, path], cwd=ROOT, stdin=subprocess.DEVNULL,
+        stdout=subprocess.PIPE, stderr=subprocess.PIPE, timeout=20)
 
 
 def test_real(bench):
@@ -79,5 +80,20 @@ def test_real(bench):
     paths = sorted(glob.glob(os.path.join(STORED, "*", "*.script")))[::9]
     bench.check("some scripts", len(paths) >= 10, str(len(paths)))
     for path in paths + [EXAMPLE + ".script"]:
-        bench.check("the grids of %s agree" % os.path.basename(path),
-                    proved(path) == second_grid(path))
+        name = os.path.basename(path)
+        bench.check("the grids of %s agree" % name, proved(
+            "--grid", path).stdout == second("--grid", path))
+        done = proved("--image", path)
+        if b"script refused" in done.stderr:
+            bench.equal("no image of %s" % name, (
+                done.returncode, done.stdout, second("--grid", path)),
+                (1, b"", b"script refused\n"))
+        else:
+            bench.check("the images after %s agree" % name,
+                        done.stdout == second("--image", path))
+    for option in ("--grid", "--image"):
+        done = proved(option, ROOT)
+        bench.equal("%s of a directory" % option, (
+            done.returncode, done.stdout), (1, b""))
+        bench.holds("what is wrong with it", done.stderr.decode(),
+                    "cannot be read: Is a directory")

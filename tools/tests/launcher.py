@@ -27,13 +27,14 @@ echo "rt: $2 proved (14 s)"
 cp player "target/bin/$2"
 """
 # Stands in for the player: its listing of a script is the script itself. For
-# the grid it is given no file, and reads standard input.
+# the grid it is given no file, and reads standard input; for the image it is
+# asked for one, and writes that word first.
 PLAYER = """#!/bin/sh
-case $1 in *crash*) exit 3 ;; report) set -- - ;; esac
+case $1 in *crash*) exit 3 ;; report) printf %s "$2"; set -- - ;; esac
 cat -- "$1"
 case $? in 0) echo done >&3 ;; 141) kill -s PIPE $$ ;; *) echo failed >&3 ;; esac
 """
-USAGE = "usage: play [--grid] [FILE]"
+USAGE = "usage: play [--grid | --image] [FILE]"
 LOADER = """#!/bin/sh
 shift 2
 exec "$@"
@@ -101,8 +102,8 @@ def test_descriptors(bench):
             ("good 2>&-", (0, "1 0 0\n", "")),
             ("good >&-", (1, "", "play: standard output: cannot be written: "
                                  "it is closed\n")),
-            ("crash", (1, "", "play: the player broke off (status 3): the "
-                              "listing is not whole\n"))):
+            ("crash", (1, "", "play: the player broke off (status 3): what "
+                              "it wrote is not whole\n"))):
         bench.equal("./play " + words, house.play(words), expected)
     write(house.path("big"), "1" * 999999)
     bench.equal("./play big | head -c 1", house.play(
@@ -138,13 +139,28 @@ def test_grid(bench):
             ("--grid good", (0, "1 0 0\n")),
             ("--grid - < good", (0, "1 0 0\n")),
             ("--grid < good", (0, "1 0 0\n")),
+            ("--image good", (0, "image1 0 0\n")),
+            ("--image - < good", (0, "image1 0 0\n")),
             ("--grid absent", (1, ""))):
         status, out, said = house.play(words)
         bench.equal("./play " + words, (status, out), expected)
     bench.equal("an absent file", said, "play: absent: cannot be opened\n")
-    bench.equal("the grid's program is built once, the player not",
+    bench.equal("the program of both is built once, the player not",
                 read(house.calls).decode(), "check watch\n")
     bench.equal("./play good", house.play("good")[:2], (0, "1 0 0\n"))
+
+
+def test_image_on_terminal(bench):
+    house = House(bench, "imaged")
+    outer, inner = os.openpty()
+    done = subprocess.run(
+        ["./play", "--image", "good"], cwd=house.root, stdout=inner,
+        stdin=subprocess.DEVNULL, stderr=subprocess.PIPE, timeout=20,
+        env=house.environment())
+    os.close(inner)
+    os.close(outer)
+    bench.equal("no image goes to a terminal", done.returncode, 2)
+    bench.holds("why not", done.stderr.decode(), "an image is bytes")
 
 
 def test_links(bench):

@@ -7,7 +7,7 @@ import shutil
 import subprocess
 
 from tests.bench import ROOT, read, stored_path
-from tests.grids import second_grid
+from tests.grids import second
 
 SOURCE = os.path.join(ROOT, "examples", "listing.c")
 GRID = os.path.join(ROOT, "examples", "grid.c")
@@ -80,7 +80,7 @@ def test_c_program(bench):
 def test_c_grid(bench):
     program = compiled(bench, GRID)
     for name in ("nine", "mixed-3", "script-offset-15") if program else ():
-        cells = second_grid(stored_path(name, "script")).decode()
+        cells = second("--grid", stored_path(name, "script")).decode()
         bench.equal("examples/grid.c plays " + name, played(program, name),
                     (0, by_slot(cells).encode()))
 

@@ -2,34 +2,20 @@
 // its listing to standard output. What could not be opened, read or written is said on standard error. A program of the language has
 // no exit status: where there is a second argument, the last word, `done` or `failed`, goes to descriptor 3, and the launcher `play`
 // makes the exit status of it.
-use libc::STDERR_FILENO;
 use libc::STDIN_FILENO;
 
 const REPORT: i32 = 3;
 
-// One line: the program, whose name it is, what could not be done with it, and errno's text.
-fn complain(name: &[u8], what: &[u8]) {
-    io::write_all(STDERR_FILENO, b"play: ");
-    io::write_all(STDERR_FILENO, name);
-    os::fail(what);
-}
-
-// errno is 0 afterwards, so that a read which fails can be told from the end of the input. (Asking for an argument "always sets errno".)
-fn clear_errno() {
-    let mut program = io::buffer();
-    os::arg(0, &mut program);
-}
-
 fn play_from(fd: i32, name: &[u8]) -> bool {
     let mut script = shown::script_room();
-    clear_errno();
+    shown::clear_errno();
     let n = io::read_full(fd, &mut script);
     if os::errno() != 0 {
-        complain(name, b": cannot be read");
+        shown::complain(name, b": cannot be read");
         return false;
     }
     if !shown::play(&script[..n]) {
-        complain(b"standard output", b": cannot be written");
+        shown::complain(b"standard output", b": cannot be written");
         return false;
     }
     true
@@ -38,7 +24,7 @@ fn play_from(fd: i32, name: &[u8]) -> bool {
 fn play_file(path: &[u8]) -> bool {
     let fd = os::open_read(path);
     if fd < 0 {
-        complain(path, b": cannot be opened");
+        shown::complain(path, b": cannot be opened");
         return false;
     }
     let done = play_from(fd, path);
@@ -59,7 +45,7 @@ fn play_argument() -> bool {
     let mut path = io::buffer();
     let n = os::arg(1, &mut path);
     if os::errno() != 0 {
-        complain(b"FILE", b": no path");
+        shown::complain(b"FILE", b": no path");
         return false;
     }
     if is_dash(&path[..n]) {

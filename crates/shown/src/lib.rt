@@ -1,4 +1,5 @@
-// Writes a script's listing to standard output, in parts: what the programs share.
+// Writes a script's listing to standard output, in parts, and says what could not be read or written: what the programs share.
+use libc::STDERR_FILENO;
 use libc::STDOUT_FILENO;
 ghost use mathlib.Core.Path.{_≡_};
 ghost use mathlib.Core.Bool.{true, false};
@@ -69,4 +70,17 @@ pub fn script_room() -> [u8; 65537]
     ensures { λ r. ⌜ 65537 ≡ length r ⌝ }
 {
     [0; 65537]
+}
+
+// One line: the launcher's name, whose name it is, what could not be done with it, and errno's text.
+pub fn complain(name: &[u8], what: &[u8]) {
+    io::write_all(STDERR_FILENO, b"play: ");
+    io::write_all(STDERR_FILENO, name);
+    os::fail(what);
+}
+
+// errno is 0 afterwards, so that a read which fails can be told from the end of the input. (Asking for an argument "always sets errno".)
+pub fn clear_errno() {
+    let mut program = io::buffer();
+    os::arg(0, &mut program);
 }

@@ -1,9 +1,12 @@
 // Plays the script that standard input gives and writes its grant grid (M-105): a line for each cell that is not 0, by task slot and then
-// by semaphore slot, with the identifiers of the latest objects there and the grants. Where there is an argument, the last word, `done` or
-// `failed`, goes to descriptor 3, as the program `play` does it.
+// by semaphore slot, with the identifiers of the latest objects there and the grants. Where there is a second argument, it writes the
+// image of the state that the script leaves instead (M-104). Where there is an argument at all, the last word, `done` or `failed`, goes to
+// descriptor 3, as the program `play` does it.
+use libc::STDERR_FILENO;
 use libc::STDIN_FILENO;
 use libc::STDOUT_FILENO;
 use scope::Semaphores;
+use scope::State;
 use scope::Tasks;
 ghost use mathlib.Core.Path.{_≡_};
 ghost use Prim.Native.Nat.{_<_};
@@ -69,25 +72,43 @@ fn write_grid(k: Tasks, m: Semaphores, cells: &[u16; 512]) -> bool {
     true
 }
 
-fn write_refused() -> bool {
+// "script refused" is a grid too, of one line; but such a script leaves no state, so no image.
+fn write_refused(wants_image: bool) -> bool {
+    if wants_image {
+        io::write_all(STDERR_FILENO, b"play: script refused: it leaves no state\n");
+        return false;
+    }
     io::write_all(STDOUT_FILENO, b"script refused\n")
 }
 
-fn watch_input() -> bool {
+fn write_image(s: State) -> bool {
+    let image = images::image_of(s);
+    io::write_all(STDOUT_FILENO, &image)
+}
+
+fn watch_input(wants_image: bool) -> bool {
     let mut script = shown::script_room();
+    shown::clear_errno();
     let n = io::read_full(STDIN_FILENO, &mut script);
+    if os::errno() != 0 {
+        shown::complain(b"standard input", b": cannot be read");
+        return false;
+    }
     if !text::is_script(&script[..n]) {
-        return write_refused();
+        return write_refused(wants_image);
     }
     let mut cells = no_cells();
     let s = watching::watch(&script[..n], &mut cells);
+    if wants_image {
+        return write_image(s);
+    }
     let k = s.tasks;
     let m = s.semaphores;
     write_grid(k, m, &cells)
 }
 
 fn main() {
-    let done = watch_input();
+    let done = watch_input(2 < os::arg_count());
     if os::arg_count() < 2 {
         return;
     }
