@@ -8,15 +8,13 @@ const REPORT: i32 = 3;
 
 fn play_from(fd: i32, name: &[u8]) -> bool {
     let mut script = shown::script_room();
-    shown::clear_errno();
-    let n = io::read_full(fd, &mut script);
-    if os::errno() != 0 {
-        shown::complain(name, b": cannot be read");
-        return false;
+    let got = shown::read_input(fd, &mut script);
+    if !got.well {
+        return shown::complain(name, b": cannot be read");
     }
+    let n = got.length;
     if !shown::play(&script[..n]) {
-        shown::complain(b"standard output", b": cannot be written");
-        return false;
+        return shown::complain(b"standard output", b": cannot be written");
     }
     true
 }
@@ -24,8 +22,7 @@ fn play_from(fd: i32, name: &[u8]) -> bool {
 fn play_file(path: &[u8]) -> bool {
     let fd = os::open_read(path);
     if fd < 0 {
-        shown::complain(path, b": cannot be opened");
-        return false;
+        return shown::complain(path, b": cannot be opened");
     }
     let done = play_from(fd, path);
     libc::close(fd);
@@ -45,8 +42,7 @@ fn play_argument() -> bool {
     let mut path = io::buffer();
     let n = os::arg(1, &mut path);
     if os::errno() != 0 {
-        shown::complain(b"FILE", b": no path");
-        return false;
+        return shown::complain(b"FILE", b": no path");
     }
     if is_dash(&path[..n]) {
         return play_from(STDIN_FILENO, b"standard input");

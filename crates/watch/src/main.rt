@@ -88,12 +88,11 @@ fn write_image(s: State) -> bool {
 
 fn watch_input(wants_image: bool) -> bool {
     let mut script = shown::script_room();
-    shown::clear_errno();
-    let n = io::read_full(STDIN_FILENO, &mut script);
-    if os::errno() != 0 {
-        shown::complain(b"standard input", b": cannot be read");
-        return false;
+    let got = shown::read_input(STDIN_FILENO, &mut script);
+    if !got.well {
+        return shown::complain(b"standard input", b": cannot be read");
     }
+    let n = got.length;
     if !text::is_script(&script[..n]) {
         return write_refused(wants_image);
     }

@@ -1,7 +1,9 @@
 -- What is read is watched where it is a script: the test is what `watch` asks for, and the cells are 512.
-use borrow.Author.Tests.{not-false}
-use mathlib.Core.Path.{sym, _∙_}
+-- Assumes nothing.
 use native.Mathlib.Omega.{arith}
+use mathlib.Core.Path.{sym, _∙_}
+use lib.Seq.{length-take-le}
+use borrow.Author.Tests.{not-false}
 use borrow.Author.Needs.{needs}
 use Rattle.watch.proofs.watch_input.Statement.{statement}
 use Rattle.watch.proofs.watch_input.Tie as tie
@@ -9,17 +11,11 @@ use Rattle.watch.proofs.watch_input.Tie as tie
 script-room-requires : tie.Need-script-room-requires
 script-room-requires c κs = search needs
 
-clear-errno-requires : tie.Need-clear-errno-requires
-clear-errno-requires c κs = search needs
+slice-aggregate-read-input : tie.Need-slice-aggregate-read-input
+slice-aggregate-read-input c = search needs
 
-slice-aggregate-read-full : tie.Need-slice-aggregate-read-full
-slice-aggregate-read-full c = search needs
-
-read-full-requires : tie.Need-read-full-requires
-read-full-requires c κs = search needs
-
-errno-requires : tie.Need-errno-requires
-errno-requires c κs = search needs
+read-input-requires : tie.Need-read-input-requires
+read-input-requires c κs = search needs
 
 slice-aggregate-complain : tie.Need-slice-aggregate-complain
 slice-aggregate-complain c = search needs
@@ -37,7 +33,7 @@ array-share-prefix-script : tie.Need-array-share-prefix-script
 array-share-prefix-script c = search needs
 
 slice-aggregate-is-script : tie.Need-slice-aggregate-is-script
-slice-aggregate-is-script c = search needs
+slice-aggregate-is-script c = sym (length-take-le _ _ (c .before .before .before .before .read-input .ensures))
 
 is-script-requires : tie.Need-is-script-requires
 is-script-requires c κs = search needs
@@ -55,7 +51,7 @@ array-share-prefix-script-2 : tie.Need-array-share-prefix-script-2
 array-share-prefix-script-2 c = search needs
 
 slice-aggregate-watch : tie.Need-slice-aggregate-watch
-slice-aggregate-watch c = search needs
+slice-aggregate-watch c = sym (length-take-le _ _ (c .before .before .before .before .before .before .before .before .read-input .ensures))
 
 slice-aggregate-watch-2 : tie.Need-slice-aggregate-watch-2
 slice-aggregate-watch-2 c = search needs
@@ -80,10 +76,8 @@ watch-input-spec =
     tie.close
     (tie.spec
     script-room-requires
-    clear-errno-requires
-    slice-aggregate-read-full
-    read-full-requires
-    errno-requires
+    slice-aggregate-read-input
+    read-input-requires
     slice-aggregate-complain
     slice-aggregate-complain-2
     complain-requires
