@@ -1,9 +1,11 @@
-# Prints the proofs of crate `columns`' leaves, put_TYPEs and take_TYPEs: a loop over a column each, by one law for every width.
+# Prints the proofs of crate `columns`' leaves, put_TYPEs, take_TYPEs and are_TYPEs: a loop over a column each, by one law for every width.
 from textwrap import indent
 
 HEAD = 'Printed by tools/generate/run.'
 # a column's numbers: type, bytes
 TYPES = [('u8', 1), ('u16', 2), ('u32', 4), ('u64', 8), ('bool', 1)]
+# those whose columns are compared
+COMPARED = [('u8', 1), ('u32', 4)]
 FLAG = 'bool'
 IS = 'Rattle.columns.specs'
 BY = 'Rattle.columns.proofs'
@@ -23,7 +25,7 @@ def room(w, start):
     return f'room {w} (a .stride) (length (now (a .xs))) (a .at) (length (now (a .s))) (l .i) (c{" .before" * start} .pre) h'
 
 
-def proof(name, head, uses, args, inv, measure, needs):
+def proof(name, head, uses, args, inv, measure, needs, tests=''):
     text = f'-- `columns::{name}`: {head} {HEAD}\n-- Assumes nothing.\n'
     text += f'''use Prim.Native.Nat.{{_-_, _<_}}
 use native.Mathlib.Omega.{{arith}}
@@ -35,7 +37,7 @@ use borrow.Author.Needs.{{needs}}
 use {IS}.Numbers.{{bit, isOn}}
 use {IS}.Columns.{{takeColumn}}
 use {BY}.Loops.{{{uses}}}
-use {BY}.{name}.Statement.{{statement}}
+{tests}use {BY}.{name}.Statement.{{statement}}
 use {BY}.{name}.Tie as tie
 
 abbrev Inv-loop : tie.InvT-loop
@@ -119,5 +121,30 @@ def take(ty, w):
     return proof(f'take_{ty}s', 'before slot i those below it are taken.', uses, 's at stride xs₀ i₀ xs i', inv, 'length xs₀', needs)
 
 
+def are(ty, w):
+    column = f'{w} (a .stride) (now (a .s)) (a .at) (now (a .xs))'
+    needs = [
+        ('loop-holds', f'let a = c .before .before .args in\ncomparing-start {column}'),
+        ('mul-get', inside(4, 1) + f'omega (arith, {room(w, 4)})'),
+        ('add-get', inside(4, 1) + f'omega (arith, {room(w, 4)})'),
+        ('get-requires', inside(4, 1) + f'(omega (arith, {room(w, 4)}), omega arith)'),
+    ]
+    if w > 1:
+        needs.append((f'mul-wide-{ty}', SEARCH))
+    needs += [
+        (f'shared-slice-read-wide-{ty}', SEARCH),
+        (f'wide-{ty}-requires', SEARCH),
+        ('add-i', SEARCH),
+        ('loop-less', SEARCH),
+        ('loop-again', inside(7, 4)
+         + f'comparing-more {column} (l .ok) (l .i) _ _ h (c .before .before .get .ensures .0) (c .wide-{ty} .ensures) (l .inv)'),
+        ('returns', known(4, 1) + f'comparing-done {column} (l .ok) (l .i) (omega arith) (l .inv)'),
+    ]
+    tests = f'use {BY}.Testing.{{Comparing, comparing-start, comparing-more, comparing-done}}\n'
+    inv = f'Comparing {w} stride s at xs ok i'
+    return proof(f'are_{ty}s', 'before slot i those below it are compared.', 'room', 's at stride xs ok₀ i₀ ok i', inv, 'length xs', needs, tests)
+
+
 def files():
-    return {f'crates/columns/proofs/{verb.__name__}_{ty}s/Proof.antt': verb(ty, w) for ty, w in TYPES for verb in (put, take)}
+    leaves = [(verb, ty, w) for ty, w in TYPES for verb in (put, take)] + [(are, ty, w) for ty, w in COMPARED]
+    return {f'crates/columns/proofs/{verb.__name__}_{ty}s/Proof.antt': verb(ty, w) for verb, ty, w in leaves}

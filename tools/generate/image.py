@@ -1,4 +1,4 @@
-# Prints crate `image`'s code and its proofs: the columns of each table of the state, put into an image and taken from it.
+# Prints crate `image`'s code and its proofs: the columns of each table of the state, put into an image, taken from it and tested.
 from textwrap import fill, indent
 
 HEAD = 'Printed by tools/generate/run.'
@@ -46,8 +46,8 @@ def fields_of(name):
 
 
 # an `ensures` in lines of at most 130 characters, not broken at a `~`
-def promise(is_):
-    lines = fill(f'ensures {{ λ _. ⌜ {is_}~⌝~}}', 126, subsequent_indent='    ', break_long_words=False, break_on_hyphens=False)
+def promise(is_, result='_'):
+    lines = fill(f'ensures {{ λ {result}. ⌜ {is_}~⌝~}}', 126, subsequent_indent='    ', break_long_words=False, break_on_hyphens=False)
     return indent(lines, '    ').replace('~', ' ') + '\n'
 
 
@@ -90,18 +90,58 @@ pub fn put_order(image: &mut [u8; {SIZE}], places: &[u8; 32])
 '''
 
 
+# the tests: the header, the columns of yes and no, the ready order
+def flag_columns():
+    for name, slots, fields, at, S in placed():
+        for column, w, many, place, kind in columns(fields, at):
+            if kind == 'bools':
+                yield place, S, slots
+
+
+def tests():
+    calls = '\n        & '.join(f'columns::flags_only(image, {place}, {S}, {slots})' for place, S, slots in flag_columns())
+    order = promise(f'r ≡ sameBytes (part 32 {SIZE - 32} (now (image .entry))) (now (places .entry))', 'r')
+    size = f'    requires {{ ⌜ length (now image) ≡ {SIZE} ⌝ }}'
+    return f'''
+// Whether the header is that of the edition.
+pub fn header_right(image: &[u8]) -> bool
+{size}
+{promise('r ≡ headerRight (now (image .entry))', 'r')}{{
+    let header = HEADER;
+    columns::are_u32s(image, 0, 4, &header)
+}}
+
+// Whether each yes or no is 1 or 0.
+pub fn flags_right(image: &[u8]) -> bool
+{size}
+{promise('r ≡ flagsRight (now (image .entry))', 'r')}{{
+    {calls}
+}}
+
+// Whether the ready order has these places.
+pub fn order_is(image: &[u8], places: &[u8; 32]) -> bool
+{size}
+{order}{{
+    columns::are_u8s(image, {SIZE - 32}, 1, places)
+}}
+'''
+
+
 def source():
     names = ', '.join(fields_of(t[0]) for t in TABLES)
     taken = ', '.join(title(t[0]) + 'Taken' for t in TABLES)
-    text = f'''// The columns of the state's tables, put into an image and taken from it. {HEAD}
-// (specs/Image.antt, specs/Reading.antt; docs/IMAGE.md has the places.)
+    text = f'''// The columns of the state's tables, put into an image, taken from it and tested. {HEAD}
+// (specs/Image.antt, specs/Reading.antt, specs/Tests.antt; docs/IMAGE.md has the places.)
 ghost use mathlib.Core.Path.{{_≡_}};
 ghost use mathlib.Core.List.{{[], _∷_}};
+ghost use lib.ListN.{{length}};
+ghost use Rattle.columns.specs.Columns.{{part}};
 ghost use Rattle.columns.specs.Fields.{{putFields}};
 ghost use Rattle.image.specs.Image.{{each, bytes, headerNumbers, {names}}};
-ghost use Rattle.image.specs.Reading.{{{taken}}};
+ghost use Rattle.image.specs.Reading.{{{taken}, sameBytes}};
+ghost use Rattle.image.specs.Tests.{{headerRight, flagsRight}};
 '''
-    return text + lone() + ''.join(function(verb, *t) for t in placed() for verb in ('put', 'take'))
+    return text + lone() + ''.join(function(verb, *t) for t in placed() for verb in ('put', 'take')) + tests()
 
 
 # The calls of a function: what each requires, and where its result and its two arguments stand, counted from the end.
@@ -161,20 +201,44 @@ use {LAWS}.{function}.Tie as tie
     return text + listed(function, needs)
 
 
-# the answers, and the proof made of them
-def listed(function, needs):
+# the proof of `flags_right`: each call has room, and the tests are joined one after the other
+def flags_proof():
+    flags = list(flag_columns())
+    needs = []
+    for k, (place, S, slots) in enumerate(flags):
+        n = '' if k == 0 else str(k + 1)
+        needs.append(('flags-only-requires' + (n and f'-{n}'), f'roomed 1 {S} {slots} {place} {SIZE} refl (c{" .before" * (k + 1)} .pre) (lit≤ tt)'))
+    told = ''
+    for k in range(len(flags)):
+        e = f'(c{" .before" * (len(flags) - 1 - k)} .flags-only{"" if k == 0 else k + 1} .ensures)'
+        told = f'(joined {told}\n{e})' if k else e
+    needs.append(('returns', told[1:-1]))
+    text = f'-- `image::flags_right`: each call tests a column, and the tests are joined. {HEAD}\n-- Assumes nothing.\n'
+    text += f'''use mathlib.Core.Path.{{refl}}
+use lib.Dec.{{lit≤}}
+use Rattle.image.specs.Tests.{{flagsRight}}
+use {LAWS}.Calls.{{roomed, joined}}
+use {LAWS}.flags_right.Statement.{{statement}}
+use {LAWS}.flags_right.Tie as tie
+'''
+    return text + listed('flags_right', needs, {'returns': 'flagsRight'})
+
+
+# the answers, each with what it unfolds, and the proof made of them
+def listed(function, needs, unfolds={}):
     text = ''
     for need, answer in needs:
         bound = need + (' c κs' if '-requires' in need else ' c')
         answer = f'\n{indent(answer, "    ")}' if '\n' in answer else f' {answer}'
-        text += f'\n{need} : tie.Need-{need}\n{bound} ={answer}\n'
+        seen = f'unfolding {unfolds[need]}\n' if need in unfolds else ''
+        text += f'\n{need} : tie.Need-{need}\n{seen}{bound} ={answer}\n'
     spec = function.replace('_', '-') + '-spec'
     given = ''.join(f'\n    {need}' for need, _ in needs)
     return text + f'\npub {spec} : {{M : Type 1}} → statement M\n{spec} =\n    tie.close\n    (tie.spec{given})\n'
 
 
 def files():
-    made = {'crates/image/src/lib.rt': source()}
+    made = {'crates/image/src/lib.rt': source(), 'crates/image/proofs/flags_right/Proof.antt': flags_proof()}
     for t in placed():
         for verb in ('put', 'take'):
             made[f'crates/image/proofs/{verb}_{t[0]}/Proof.antt'] = proof(verb, *t)

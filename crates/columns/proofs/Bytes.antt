@@ -66,9 +66,12 @@ part-all n xs h =
 
 -- ---- bytes are their own numbers
 
--- every number of a list is a byte
+-- every number of a list is below m; is a byte
+abbrev pub Under : ℕ → List ℕ → Type 0
+Under m xs = (k : ℕ) → getD xs k 0 < m
+
 abbrev pub Bytes : List ℕ → Type 0
-Bytes xs = (k : ℕ) → getD xs k 0 < 256
+Bytes xs = Under 256 xs
 
 pub les-bytes : (n k : ℕ) (xs : List ℕ) → Bytes xs → les 1 (part n k xs) ≡ part n k xs
 unfolding le les part
@@ -145,10 +148,13 @@ numbers-back w (suc n) k xs b at l h =
 pub bytes-none : Bytes []
 bytes-none k = omega arith
 
+pub under-append : (m : ℕ) (xs ys : List ℕ) → Under m xs → Under m ys → Under m (xs ++ ys)
+under-append m [] ys p q k = q k
+under-append m (x ∷ xs) ys p q zero = p 0
+under-append m (x ∷ xs) ys p q (suc k) = under-append m xs ys (λ (j : ℕ). p (suc j)) q k
+
 pub bytes-append : (xs ys : List ℕ) → Bytes xs → Bytes ys → Bytes (xs ++ ys)
-bytes-append [] ys p q k = q k
-bytes-append (x ∷ xs) ys p q zero = p 0
-bytes-append (x ∷ xs) ys p q (suc k) = bytes-append xs ys (λ (j : ℕ). p (suc j)) q k
+bytes-append xs ys p q = under-append 256 xs ys p q
 
 bytes-le : (w x : ℕ) → Bytes (le w x)
 unfolding le

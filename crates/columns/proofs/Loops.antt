@@ -189,10 +189,10 @@ length-column w many S (suc n) s at =
     ∙ (omega (arith, length-column w many S n s at, length-numbers w many s (at + n * S), suc-mul n many))
 
 -- one number a slot
-length-ones : (w S n : ℕ) (s : List ℕ) (at : ℕ) → length (takeColumn w 1 S n s at) ≡ n
+pub length-ones : (w S n : ℕ) (s : List ℕ) (at : ℕ) → length (takeColumn w 1 S n s at) ≡ n
 length-ones w S n s at = length-column w 1 S n s at ∙ mul-one n
 
-one-more : (w S i : ℕ) (s : List ℕ) (at : ℕ) → takeColumn w 1 S (suc i) s at ≡ takeColumn w 1 S i s at ++ (number w s (at + i * S) ∷ [])
+pub one-more : (w S i : ℕ) (s : List ℕ) (at : ℕ) → takeColumn w 1 S (suc i) s at ≡ takeColumn w 1 S i s at ++ (number w s (at + i * S) ∷ [])
 unfolding takeColumn
 one-more w S i s at = ap (λ (r : List ℕ). takeColumn w 1 S i s at ++ r) (one-taken w s (at + i * S))
 

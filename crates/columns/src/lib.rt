@@ -2,10 +2,12 @@
 ghost use mathlib.Core.Path.{_≡_};
 ghost use mathlib.Core.List.{map};
 ghost use Prim.Native.Nat.{_+_, _*_, _^_, _≤_, _<_};
+ghost use lib.Dec.{leb};
 ghost use lib.ListN.{length};
 ghost use lib.Seq.{sets};
 ghost use Rattle.columns.specs.Numbers.{le, number, bit, isOn};
 ghost use Rattle.columns.specs.Columns.{part, putColumn, takeColumn, Room};
+ghost use Rattle.columns.specs.Tests.{onlyFlags, Tells};
 
 // The `w` low bytes of a number, at `at`: one function for every width, which the compiler turns into one store.
 fn put(s: &mut [u8], at: usize, w: usize, x: u64)
@@ -214,4 +216,51 @@ pub fn take_rows(s: &[u8], at: usize, stride: usize, rows: usize, many: usize, x
         copy(xs, i * many, s, at + i * stride, many);
         i += 1;
     }
+}
+
+fn is_flag(x: u8) -> bool
+    ensures { λ r. ⌜ r ≡ leb x 1 ⌝ }
+{
+    x <= 1
+}
+
+// Whether each byte of a column is 0 or 1. (All are looked at: bytes that are refused are rare, and a loop without a way out is fast.)
+pub fn flags_only(s: &[u8], at: usize, stride: usize, n: usize) -> bool
+    requires { ⌜ Room 1 stride n at (length (now s)) ⌝ }
+    ensures { λ r. ⌜ r ≡ onlyFlags (takeColumn 1 1 stride n (now (s .entry)) at) ⌝ }
+{
+    let mut ok = true;
+    let mut i: usize = 0;
+    while i < n {
+        ok = ok & is_flag(s[at + i * stride]);
+        i += 1;
+    }
+    ok
+}
+
+// Whether a column is these numbers.
+pub fn are_u8s(s: &[u8], at: usize, stride: usize, xs: &[u8]) -> bool
+    requires { ⌜ Room 1 stride (length (now xs)) at (length (now s)) ⌝ }
+    ensures { λ r. ⌜ Tells r (takeColumn 1 1 stride (length (now (xs .entry))) (now (s .entry)) at ≡ now (xs .entry)) ⌝ }
+{
+    let mut ok = true;
+    let mut i: usize = 0;
+    while i < xs.len() {
+        ok = ok & (get(s, at + i * stride, 1) == wide_u8(xs[i]));
+        i += 1;
+    }
+    ok
+}
+
+pub fn are_u32s(s: &[u8], at: usize, stride: usize, xs: &[u32]) -> bool
+    requires { ⌜ Room 4 stride (length (now xs)) at (length (now s)) ⌝ }
+    ensures { λ r. ⌜ Tells r (takeColumn 4 1 stride (length (now (xs .entry))) (now (s .entry)) at ≡ now (xs .entry)) ⌝ }
+{
+    let mut ok = true;
+    let mut i: usize = 0;
+    while i < xs.len() {
+        ok = ok & (get(s, at + i * stride, 4) == wide_u32(xs[i]));
+        i += 1;
+    }
+    ok
 }

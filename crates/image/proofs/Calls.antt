@@ -1,7 +1,7 @@
--- What a function that puts or takes the columns of a table needs of each call.
+-- What a function that puts, takes or tests the columns of a table needs of each call.
 -- Assumes nothing.
 use mathlib.Core.Path.{_≡_, ap, _∙_}
-use mathlib.Core.Bool.{Bool}
+use mathlib.Core.Bool.{Bool, _&&_}
 use mathlib.Core.List.{List, map}
 use Prim.Native.Nat.{ℕ, _+_, _*_, _≤_}
 use Rattle.columns.specs.Numbers.{isOn}
@@ -27,3 +27,7 @@ took w S n at b m e p = e ∙ ap (λ (k : ℕ). takeColumn w 1 S k b at) p
 pub flagged : (S n at : ℕ) (b : List ℕ) {xs : List Bool} (m : ℕ) → xs ≡ map isOn (takeColumn 1 1 S m b at) → m ≡ n
     → xs ≡ map isOn (takeColumn 1 1 S n b at)
 flagged S n at b m e p = e ∙ ap (λ (k : ℕ). map isOn (takeColumn 1 1 S k b at)) p
+
+-- two tests, joined
+pub joined : {a b p q : Bool} → a ≡ p → b ≡ q → (a && b) ≡ (p && q)
+joined {b} {p} e f = ap (λ (x : Bool). x && b) e ∙ ap (λ (x : Bool). p && x) f

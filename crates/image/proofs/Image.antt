@@ -26,12 +26,12 @@ put-whole s b h =
     let m : length b ≤ imageSize = omega arith in
     written (tables s) b l ∙ ap (λ (r : List ℕ). bytesOf (tables s) ++ r) (drop-of-length-le b m) ∙ append-nil (bytesOf (tables s))
 
-same-yes : (xs : List ℕ) → sameBytes xs xs ≡ true
+pub same-yes : (xs : List ℕ) → sameBytes xs xs ≡ true
 unfolding sameBytes
 same-yes [] = refl
 same-yes (x ∷ xs) = both (eqb x x) (sameBytes xs xs) (eq-eqb x x refl) (same-yes xs)
 
-same-is : (xs ys : List ℕ) → sameBytes xs ys ≡ true → xs ≡ ys
+pub same-is : (xs ys : List ℕ) → sameBytes xs ys ≡ true → xs ≡ ys
 unfolding sameBytes
 same-is [] [] h = refl
 same-is [] (y ∷ ys) h = absurd (true-false refl (sym h))

@@ -2,3 +2,4 @@ pub mod Calls
 pub mod Order
 pub mod Back
 pub mod Image
+pub mod Tests

@@ -1,10 +1,13 @@
-// The columns of the state's tables, put into an image and taken from it. Printed by tools/generate/run.
-// (specs/Image.antt, specs/Reading.antt; docs/IMAGE.md has the places.)
+// The columns of the state's tables, put into an image, taken from it and tested. Printed by tools/generate/run.
+// (specs/Image.antt, specs/Reading.antt, specs/Tests.antt; docs/IMAGE.md has the places.)
 ghost use mathlib.Core.Path.{_≡_};
 ghost use mathlib.Core.List.{[], _∷_};
+ghost use lib.ListN.{length};
+ghost use Rattle.columns.specs.Columns.{part};
 ghost use Rattle.columns.specs.Fields.{putFields};
 ghost use Rattle.image.specs.Image.{each, bytes, headerNumbers, taskColumns, semColumns, poolColumns, queueColumns};
-ghost use Rattle.image.specs.Reading.{TasksTaken, SemaphoresTaken, PoolsTaken, QueuesTaken};
+ghost use Rattle.image.specs.Reading.{TasksTaken, SemaphoresTaken, PoolsTaken, QueuesTaken, sameBytes};
+ghost use Rattle.image.specs.Tests.{headerRight, flagsRight};
 
 // Edition, length, then count and place of each table.
 const HEADER: [u32; 10] = [1, 9920, 32, 40, 16, 584, 8, 744, 8, 1480];
@@ -209,4 +212,37 @@ pub fn take_queues(
     columns::take_rows(image, 1488, 1051, 8, 2, limits);
     columns::take_u8s(image, 1490, 1051, held);
     columns::take_rows(image, 1491, 1051, 8, 1040, cells);
+}
+
+// Whether the header is that of the edition.
+pub fn header_right(image: &[u8]) -> bool
+    requires { ⌜ length (now image) ≡ 9920 ⌝ }
+    ensures { λ r. ⌜ r ≡ headerRight (now (image .entry)) ⌝ }
+{
+    let header = HEADER;
+    columns::are_u32s(image, 0, 4, &header)
+}
+
+// Whether each yes or no is 1 or 0.
+pub fn flags_right(image: &[u8]) -> bool
+    requires { ⌜ length (now image) ≡ 9920 ⌝ }
+    ensures { λ r. ⌜ r ≡ flagsRight (now (image .entry)) ⌝ }
+{
+    columns::flags_only(image, 46, 17, 32)
+        & columns::flags_only(image, 47, 17, 32)
+        & columns::flags_only(image, 48, 17, 32)
+        & columns::flags_only(image, 592, 10, 16)
+        & columns::flags_only(image, 593, 10, 16)
+        & columns::flags_only(image, 770, 92, 8)
+        & columns::flags_only(image, 771, 92, 8)
+        & columns::flags_only(image, 1486, 1051, 8)
+        & columns::flags_only(image, 1487, 1051, 8)
+}
+
+// Whether the ready order has these places.
+pub fn order_is(image: &[u8], places: &[u8; 32]) -> bool
+    requires { ⌜ length (now image) ≡ 9920 ⌝ }
+    ensures { λ r. ⌜ r ≡ sameBytes (part 32 9888 (now (image .entry))) (now (places .entry)) ⌝ }
+{
+    columns::are_u8s(image, 9888, 1, places)
 }

@@ -6,9 +6,10 @@ use scope::Semaphores;
 use scope::State;
 use scope::Tasks;
 ghost use mathlib.Core.Path.{_≡_};
+ghost use lib.ListN.{length};
 ghost use Rattle.columns.specs.Fields.{putFields};
 ghost use Rattle.image.specs.Image.{taskFields, semFields, poolFields, queueFields, imageOf};
-ghost use Rattle.image.specs.Reading.{puts, lineFrom, tasksFrom, semsFrom, poolsFrom, queuesFrom, stateFrom};
+ghost use Rattle.image.specs.Reading.{puts, lineFrom, tasksFrom, semsFrom, poolsFrom, queuesFrom, stateFrom, sameBytes};
 
 // Each table's columns, out of the table.
 fn put_tasks(image: &mut [u8; 9920], l: Line, k: Tasks)
@@ -281,4 +282,22 @@ pub fn state_from(image: &[u8; 9920]) -> State
         queues,
         running,
     }
+}
+
+// Whether the bytes are those that the state in them writes. No second image is made: header, flags and ready order are looked at, and every
+// other byte is part of a number that comes back as it was. (image's specs/Tests.antt.)
+fn written(image: &[u8]) -> bool
+    requires { ⌜ length (now image) ≡ 9920 ⌝ }
+    ensures { λ r. ⌜ r ≡ sameBytes (now (image .entry)) (imageOf (stateFrom (now (image .entry)))) ⌝ }
+{
+    let mut seat = [0u16; 32];
+    columns::take_u16s(image, 54, 17, &mut seat);
+    let places = orders::ready_places(&seat);
+    image::header_right(image) & (image::flags_right(image) & image::order_is(image, &places))
+}
+
+pub fn is_written(image: &[u8; 9920]) -> bool
+    ensures { λ r. ⌜ r ≡ sameBytes (now (image .entry)) (imageOf (stateFrom (now (image .entry)))) ⌝ }
+{
+    written(image)
 }

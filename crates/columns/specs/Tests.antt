@@ -1,0 +1,16 @@
+-- Tests of an image's bytes.
+-- Assumes nothing.
+use mathlib.Core.Path.{_≡_}
+use mathlib.Core.Bool.{Bool, true, _&&_}
+use mathlib.Core.List.{List, [], _∷_}
+use Prim.Native.Nat.{ℕ}
+use lib.Dec.{leb}
+
+-- every number is one that a yes or no is written as
+unfoldable pub onlyFlags : List ℕ → Bool
+onlyFlags [] = true
+onlyFlags (x ∷ xs) = leb x 1 && onlyFlags xs
+
+-- a test is true exactly where this holds
+abbrev pub Tells : Bool → Type 0 → Type 0
+Tells b P = (b ≡ true → P) × (P → b ≡ true)
