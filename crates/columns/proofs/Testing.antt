@@ -6,13 +6,13 @@ use mathlib.Core.List.{List, [], _∷_, _++_, map}
 use Prim.Native.Nat.{ℕ, zero, suc, _+_, _*_, _≤_, _<_}
 use native.Mathlib.Omega.{arith}
 use native.Mathlib.Numerals.{add-one}
-use lib.Dec.{leb, eqb}
+use lib.Dec.{eqb}
 use lib.ListN.{length, take, getD}
 use lib.Seq.{take-suc, take-length, take-at, getD-at, length-take-le}
 use borrow.Author.Tests.{eq-eqb, eqb-true, leb-true}
 use Rattle.columns.specs.Numbers.{number, numbers, bit, isOn}
 use Rattle.columns.specs.Columns.{part, takeColumn}
-use Rattle.columns.specs.Tests.{onlyFlags, Tells}
+use Rattle.columns.specs.Tests.{isFlag, onlyFlags, Tells}
 use Rattle.columns.proofs.Bytes.{part-add, numbers-bytes}
 use Rattle.columns.proofs.Loops.{one-more, length-ones}
 
@@ -38,11 +38,11 @@ tells-one false false p q = refl
 only-append : (xs ys : List ℕ) → onlyFlags (xs ++ ys) ≡ (onlyFlags xs && onlyFlags ys)
 unfolding onlyFlags
 only-append [] ys = refl
-only-append (x ∷ xs) ys = ap (λ (b : Bool). leb x 1 && b) (only-append xs ys) ∙ sym (and-assoc (leb x 1) (onlyFlags xs) (onlyFlags ys))
+only-append (x ∷ xs) ys = ap (λ (b : Bool). isFlag x && b) (only-append xs ys) ∙ sym (and-assoc (isFlag x) (onlyFlags xs) (onlyFlags ys))
 
-only-one : (x : ℕ) → leb x 1 ≡ onlyFlags (x ∷ [])
+only-one : (x : ℕ) → isFlag x ≡ onlyFlags (x ∷ [])
 unfolding onlyFlags
-only-one x = sym (and-true (leb x 1))
+only-one x = sym (and-true (isFlag x))
 
 abbrev pub Looking : (S : ℕ) → List ℕ → (at n : ℕ) → Bool → ℕ → Type 0
 Looking S s at n ok i = (i ≤ n) × (ok ≡ onlyFlags (takeColumn 1 1 S i s at))
@@ -52,12 +52,12 @@ module _ (S : ℕ) (s : List ℕ) (at n : ℕ) where
   unfolding takeColumn onlyFlags
   looking-start = (omega arith, refl)
 
-  pub looking-more : (ok r : Bool) (i : ℕ) → i < n → r ≡ leb (getD s (at + i * S) 0) 1 → Looking S s at n ok i → Looking S s at n (ok && r) (i + 1)
+  pub looking-more : (ok r : Bool) (i : ℕ) → i < n → r ≡ isFlag (getD s (at + i * S) 0) → Looking S s at n ok i → Looking S s at n (ok && r) (i + 1)
   unfolding number
   looking-more ok r i h e m =
       let x = number 1 s (at + i * S) in
       let z : getD s (at + i * S) 0 ≡ x = omega arith in
-      let so : r ≡ onlyFlags (x ∷ []) = e ∙ ap (λ (k : ℕ). leb k 1) z ∙ only-one x in (
+      let so : r ≡ onlyFlags (x ∷ []) = e ∙ ap (λ (k : ℕ). isFlag k) z ∙ only-one x in (
         omega arith,
         ap (λ (b : Bool). b && r) (m .1)
             ∙ ap (λ (b : Bool). onlyFlags (takeColumn 1 1 S i s at) && b) so
@@ -74,7 +74,7 @@ only-bits : (xs : List ℕ) → onlyFlags xs ≡ true → xs ≡ map bit (map is
 unfolding onlyFlags
 only-bits [] h = refl
 only-bits (x ∷ xs) h =
-    let both = true-both (leb x 1) (onlyFlags xs) h in
+    let both = true-both (isFlag x) (onlyFlags xs) h in
     ap (λ (k : ℕ). k ∷ xs) (one x (leb-true x 1 (both .0))) ∙ ap (λ (l : List ℕ). bit (isOn x) ∷ l) (only-bits xs (both .1))
   where
     one : (x : ℕ) → x ≤ 1 → x ≡ bit (isOn x)

@@ -6,10 +6,13 @@ use mathlib.Core.List.{List, [], _∷_}
 use Prim.Native.Nat.{ℕ}
 use lib.Dec.{leb}
 
--- every number is one that a yes or no is written as
+-- what a yes or no is written as, and that all numbers are so
+abbrev pub isFlag : ℕ → Bool
+isFlag x = leb x 1
+
 unfoldable pub onlyFlags : List ℕ → Bool
 onlyFlags [] = true
-onlyFlags (x ∷ xs) = leb x 1 && onlyFlags xs
+onlyFlags (x ∷ xs) = isFlag x && onlyFlags xs
 
 -- a test is true exactly where this holds
 abbrev pub Tells : Bool → Type 0 → Type 0

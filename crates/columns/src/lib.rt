@@ -2,12 +2,11 @@
 ghost use mathlib.Core.Path.{_≡_};
 ghost use mathlib.Core.List.{map};
 ghost use Prim.Native.Nat.{_+_, _*_, _^_, _≤_, _<_};
-ghost use lib.Dec.{leb};
 ghost use lib.ListN.{length};
 ghost use lib.Seq.{sets};
 ghost use Rattle.columns.specs.Numbers.{le, number, bit, isOn};
 ghost use Rattle.columns.specs.Columns.{part, putColumn, takeColumn, Room};
-ghost use Rattle.columns.specs.Tests.{onlyFlags, Tells};
+ghost use Rattle.columns.specs.Tests.{isFlag, onlyFlags, Tells};
 
 // The `w` low bytes of a number, at `at`: one function for every width, which the compiler turns into one store.
 fn put(s: &mut [u8], at: usize, w: usize, x: u64)
@@ -219,7 +218,7 @@ pub fn take_rows(s: &[u8], at: usize, stride: usize, rows: usize, many: usize, x
 }
 
 fn is_flag(x: u8) -> bool
-    ensures { λ r. ⌜ r ≡ leb x 1 ⌝ }
+    ensures { λ r. ⌜ r ≡ isFlag x ⌝ }
 {
     x <= 1
 }
