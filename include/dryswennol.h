@@ -1,4 +1,13 @@
-/* The proved functions of libexports.a (`rt staticlib exports`), for C on x86-64. Each slice is a pointer and then its length. */
+/*
+ * The proved functions of libexports.a (`rt staticlib exports`), for C and C++ on x86-64.
+ *
+ * A slice is a pointer and then its length. No pointer is NULL, even where its length is 0, and nothing that a function
+ * writes overlaps anything else that it is lent. No byte outside what is lent is read or written. Image, message, script and
+ * text may lie at any address; an answer, a length and cells lie as C puts them.
+ *
+ * Nothing is kept between calls: no heap, no static data. So two threads may call at once, each with memory of its own, and a call
+ * may interrupt another. A step needs less than 32 KiB of stack. The library needs nothing but `memcpy` and `memset`.
+ */
 #ifndef DRYSWENNOL_H
 #define DRYSWENNOL_H
 
@@ -9,17 +18,73 @@
 extern "C" {
 #endif
 
+/* Some statuses; docs/CALLS.md has them all. Any but OK and PENDING is a refusal, which changes nothing. */
+enum {
+    DRYSWENNOL_OK = 0,
+    DRYSWENNOL_PENDING = 1,           /* the caller now waits */
+    DRYSWENNOL_INVALID_PRIORITY = 19,
+    DRYSWENNOL_BAD_CALL = 25,         /* unknown call or caller mark, or a tick with mark 0 */
+    DRYSWENNOL_NO_ROOM = 31,          /* the lent room is too short: nothing is written there */
+    DRYSWENNOL_BAD_IMAGE = 32         /* the bytes are no image */
+};
+
+enum {
+    DRYSWENNOL_IMAGE_BYTES = 9920, /* of an image of edition 1 (docs/IMAGE.md) */
+    DRYSWENNOL_LINE_BYTES = 793    /* no line of an answer is longer, its newline with it */
+};
+
+/* What a step answers: 236 bytes, nothing between the fields. */
+typedef struct dryswennol_answer {
+    uint32_t status;
+    uint32_t values[4];
+    uint32_t negative;   /* 1 where values[1] stands for minus that number: sem_info's count */
+    uint32_t running;    /* the identifier of the task that runs now, 0 if none */
+    uint32_t woken;      /* how many tasks were woken */
+    uint32_t why;        /* the status that all of them are woken with */
+    uint32_t delivers;   /* 1 where the one woken is given a message .. */
+    uint32_t length;     /* .. of so many bytes */
+    uint32_t wakes[32];  /* the woken ones' identifiers, in order, and zeros behind them */
+    uint8_t message[64]; /* the one delivered, or received at once (then of values[0] bytes), and zeros behind it */
+} dryswennol_answer;
+
 /*
- * The listing of a script, for any bytes; where they are no script it is the one line `script refused`.
+ * A fresh state: one task, 64, started, of this priority.
  *
- * Answers the listing's exact length r, whatever `out_len` is.
- * If r <= out_len, the listing is in out[0] .. out[r - 1], and the bytes from out[r] on are as they were.
- * If r > out_len, no byte of `out` is changed: lend r bytes and call again.
- *
- * `script` and `out` do not overlap, and neither is NULL, even where its length is 0. No byte past `script_len` and `out_len` is
- * read or written. Where out_len is less than 793 bytes a record, the records are played twice: to measure, and to write.
+ * 31: image_len is less than 9,920, and nothing is written. Else its image is in the first 9,920 bytes, those behind are as they were;
+ * 0, or 19 where the priority is above 15: then the image is that of priority 0.
  */
-size_t dryswennol_listing(const uint8_t *script, size_t script_len, uint8_t *out, size_t out_len);
+uint32_t dryswennol_fresh(uint32_t priority, uint8_t *image, size_t image_len);
+
+/*
+ * One call, on the state whose image this is: docs/CALLS.md names the calls and their arguments a to e. Mark 0 is the running task, 1 an
+ * interrupt. Send and jump take as many bytes of `message` as their length says, and answer 27 where fewer are lent; no other call
+ * looks at it. Gives the status, and in `answer` all of the answer, whose every byte is set.
+ *
+ * 32: the first 9,920 bytes are not the image of a state that keeps the rules, or there are fewer; the answer is that status
+ * and zeros. A refused step, this one too, leaves every byte of the image. Else it is now the image of the state after the
+ * call. Bytes behind the 9,920 are as they were.
+ */
+uint32_t dryswennol_step(uint8_t *image, size_t image_len, const uint8_t *message, size_t message_len, dryswennol_answer *answer,
+    uint32_t call, uint32_t mark, uint32_t a, uint32_t b, uint32_t c, uint32_t d, uint32_t e);
+
+/*
+ * The listing's line of an answer, with the number that it is to have, for an answer of any bytes: where `woken` is above 32 it is read
+ * as 32.
+ *
+ * *length is the line's length, whatever out_len is. 0 where it fits: the line is at the start of `out`, the bytes behind it are as they
+ * were. 31 where it does not: no byte of `out` is changed.
+ */
+uint32_t dryswennol_line(uint32_t number, const dryswennol_answer *answer, uint8_t *out, size_t out_len, size_t *length);
+
+/*
+ * The listing of a script, for any bytes; where they are no script it is the one line `script refused`. It is the lines of the answers
+ * that steps from the fresh state give.
+ *
+ * *length is the listing's length, whatever out_len is. 0 where it fits: the listing is at the start of `out`, the bytes behind it are
+ * as they were. 31 where it does not: no byte of `out` is changed; lend *length bytes and call again.
+ * Where out_len is less than 793 bytes a record, the records are played twice: to measure, and to write.
+ */
+uint32_t dryswennol_listing(const uint8_t *script, size_t script_len, uint8_t *out, size_t out_len, size_t *length);
 
 /*
  * The grant grid after a script, cleared before its first record: how often each task slot was granted each semaphore slot,
@@ -27,12 +92,21 @@ size_t dryswennol_listing(const uint8_t *script, size_t script_len, uint8_t *out
  *
  * Answers 512 where the bytes are a script and cells_len is at least 512: then cells[16 * task + semaphore], for the 32 task
  * slots and the 16 semaphore slots, is that number, and the cells from cells[512] on are as they were.
- * Answers 0 in any other case, and no cell is changed. The same holds of NULL, of overlapping and of what is read as above.
+ * Answers 0 in any other case, and no cell is changed.
  */
 size_t dryswennol_grid(const uint8_t *script, size_t script_len, uint16_t *cells, size_t cells_len);
 
 #ifdef __cplusplus
 }
+#define DRYSWENNOL_HOLDS static_assert
+#else
+#define DRYSWENNOL_HOLDS _Static_assert
 #endif
+
+DRYSWENNOL_HOLDS(sizeof(dryswennol_answer) == 236, "an answer has 236 bytes");
+DRYSWENNOL_HOLDS(offsetof(dryswennol_answer, wakes) == 44, "eleven numbers, then the woken");
+DRYSWENNOL_HOLDS(offsetof(dryswennol_answer, message) == 172, "then the message");
+
+#undef DRYSWENNOL_HOLDS
 
 #endif

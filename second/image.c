@@ -35,20 +35,48 @@ enum {
     SEAT_QUEUES = FIRST_READY + PRIORITIES
 };
 
-/* Little-endian. */
-static void put(uint8_t **at, uint64_t number, int bytes)
+/* Little-endian, byte by byte: the compiler makes one store or load of it. */
+static inline void put_1(uint8_t **at, uint32_t number)
 {
-    for (; bytes > 0; bytes--, number >>= 8)
-        *(*at)++ = (uint8_t)number;
+    *(*at)++ = (uint8_t)number;
 }
 
-static uint64_t take(const uint8_t **at, int bytes)
+static inline void put_2(uint8_t **at, uint32_t number)
 {
-    uint64_t number = 0;
+    (*at)[0] = (uint8_t)number;
+    (*at)[1] = (uint8_t)(number >> 8);
+    *at += 2;
+}
 
-    for (int i = 0; i < bytes; i++)
-        number |= (uint64_t)*(*at)++ << 8 * i;
-    return number;
+static inline void put_4(uint8_t **at, uint32_t number)
+{
+    (*at)[0] = (uint8_t)number;
+    (*at)[1] = (uint8_t)(number >> 8);
+    (*at)[2] = (uint8_t)(number >> 16);
+    (*at)[3] = (uint8_t)(number >> 24);
+    *at += 4;
+}
+
+static inline uint8_t take_1(const uint8_t **at)
+{
+    return *(*at)++;
+}
+
+static inline uint16_t take_2(const uint8_t **at)
+{
+    const uint8_t *byte = *at;
+
+    *at += 2;
+    return (uint16_t)(byte[0] | byte[1] << 8);
+}
+
+static inline uint32_t take_4(const uint8_t **at)
+{
+    const uint8_t *byte = *at;
+
+    *at += 4;
+    return (uint32_t)byte[0] | (uint32_t)byte[1] << 8
+         | (uint32_t)byte[2] << 16 | (uint32_t)byte[3] << 24;
 }
 
 static void put_header(uint8_t **at)
@@ -59,7 +87,7 @@ static void put_header(uint8_t **at)
     };
 
     for (size_t i = 0; i < sizeof number / sizeof number[0]; i++)
-        put(at, number[i], 4);
+        put_4(at, number[i]);
 }
 
 /* The row of a seat's queue, or NULL where there is none. */
@@ -74,43 +102,43 @@ static struct list *row_of(struct kernel *k, uint32_t queue)
     return NULL;
 }
 
-/* The queue in whose row the task stands, 0 for none. */
-static uint32_t queue_of(const struct task *t)
+/* "a place is one more than the number of tasks that stand ahead" */
+static void seat_row(const struct kernel *k, const struct list *row,
+                     uint32_t queue, uint16_t *seat)
 {
-    if (t->waiting == ON_SEMAPHORE)
-        return FIRST_SEMAPHORE + (uint32_t)t->awaited;
-    if (t->waiting == ON_QUEUE)
-        return FIRST_QUEUE + (uint32_t)t->awaited;
-    return is_ready(t) ? FIRST_READY + (uint32_t)t->priority : 0;
+    uint32_t next = queue * SEAT_RANGE + 1;
+
+    for (uint8_t who = row->first; who != 0; who = k->task[who - 1].behind)
+        seat[who - 1] = (uint16_t)next++;
 }
 
-/* "a place is one more than the number of tasks that stand ahead" */
-static uint32_t seat_of(const struct kernel *k, uint32_t slot)
+static void seats_of(const struct kernel *k, uint16_t *seat)
 {
-    uint32_t queue = queue_of(&k->task[slot]);
-    uint32_t place = 1;
-
-    if (queue == 0)
-        return 0;
-    for (uint8_t ahead = k->task[slot].ahead; ahead != 0; place++)
-        ahead = k->task[ahead - 1].ahead;
-    return queue * SEAT_RANGE + place;
+    for (uint32_t i = 0; i < SEMAPHORES; i++)
+        seat_row(k, &k->semaphore[i].queue, FIRST_SEMAPHORE + i, seat);
+    for (uint32_t i = 0; i < QUEUES; i++)
+        seat_row(k, &k->queue[i].waiters, FIRST_QUEUE + i, seat);
+    for (uint32_t i = 0; i < PRIORITIES; i++)
+        seat_row(k, &k->ready[i], FIRST_READY + i, seat);
 }
 
 static void put_tasks(uint8_t **at, const struct kernel *k)
 {
+    uint16_t seat[TASKS] = { 0 };
+
+    seats_of(k, seat);
     for (uint32_t slot = 0; slot < TASKS; slot++) {
         const struct task *t = &k->task[slot];
 
-        put(at, k->task_table.name[slot], 4);
-        put(at, k->task_table.serial[slot], 2);
-        put(at, slot_is_live(&k->task_table, slot), 1);
-        put(at, t->started, 1);
-        put(at, t->suspended, 1);
-        put(at, t->priority, 1);
-        put(at, t->time_out, 4);
-        put(at, seat_of(k, slot), 2);
-        put(at, t->joining_priority, 1);
+        put_4(at, k->task_table.name[slot]);
+        put_2(at, k->task_table.serial[slot]);
+        put_1(at, slot_is_live(&k->task_table, slot));
+        put_1(at, t->started);
+        put_1(at, t->suspended);
+        put_1(at, t->priority);
+        put_4(at, t->time_out);
+        put_2(at, seat[slot]);
+        put_1(at, t->joining_priority);
     }
 }
 
@@ -120,11 +148,11 @@ static void put_semaphores(uint8_t **at, const struct kernel *k)
     for (uint32_t slot = 0; slot < SEMAPHORES; slot++) {
         const struct semaphore *s = &k->semaphore[slot];
 
-        put(at, k->semaphore_table.name[slot], 4);
-        put(at, k->semaphore_table.serial[slot], 2);
-        put(at, s->count > 0 ? (uint32_t)s->count : 0, 2);
-        put(at, slot_is_live(&k->semaphore_table, slot), 1);
-        put(at, s->options, 1);
+        put_4(at, k->semaphore_table.name[slot]);
+        put_2(at, k->semaphore_table.serial[slot]);
+        put_2(at, s->count > 0 ? (uint32_t)s->count : 0);
+        put_1(at, slot_is_live(&k->semaphore_table, slot));
+        put_1(at, s->options);
     }
 }
 
@@ -134,8 +162,8 @@ static void put_places(uint8_t **at, const struct pool *p)
 
     for (uint32_t i = 0; i < free_buffers(p); i++)
         place[p->free_order[i]] = (uint8_t)(i + 1);
-    for (uint32_t buffer = 0; buffer < BUFFERS; buffer++)
-        put(at, place[buffer], 1);
+    memcpy(*at, place, BUFFERS);
+    *at += BUFFERS;
 }
 
 static void put_pools(uint8_t **at, const struct kernel *k)
@@ -143,28 +171,32 @@ static void put_pools(uint8_t **at, const struct kernel *k)
     for (uint32_t slot = 0; slot < POOLS; slot++) {
         const struct pool *p = &k->pool[slot];
 
-        put(at, p->out, 8);
-        put(at, k->pool_table.name[slot], 4);
-        put(at, p->address, 4);
-        put(at, p->length, 4);
-        put(at, p->size, 4);
-        put(at, k->pool_table.serial[slot], 2);
-        put(at, slot_is_live(&k->pool_table, slot), 1);
-        put(at, p->options, 1);
+        put_4(at, (uint32_t)p->out);
+        put_4(at, (uint32_t)(p->out >> 32));
+        put_4(at, k->pool_table.name[slot]);
+        put_4(at, p->address);
+        put_4(at, p->length);
+        put_4(at, p->size);
+        put_2(at, k->pool_table.serial[slot]);
+        put_1(at, slot_is_live(&k->pool_table, slot));
+        put_1(at, p->options);
         put_places(at, p);
     }
 }
 
-/* "The messages held stand in the first cells, the first message first." */
+_Static_assert(sizeof(struct message) == 1 + MESSAGE_BYTES,
+               "a message lies as a cell does");
+
+/* "The messages held stand in the first cells, the first message first": the
+ * ring from its first place on, then the places before that. */
 static void put_messages(uint8_t **at, const struct queue *q)
 {
-    for (uint32_t cell = 0; cell < MESSAGES; cell++) {
-        const struct message *m = &q->message[(q->first + cell) % MESSAGES];
+    size_t before = q->first * sizeof q->message[0];
+    size_t behind = sizeof q->message - before;
 
-        put(at, m->length, 1);
-        memcpy(*at, m->byte, MESSAGE_BYTES);
-        *at += MESSAGE_BYTES;
-    }
+    memcpy(*at, &q->message[q->first], behind);
+    memcpy(*at + behind, q->message, before);
+    *at += sizeof q->message;
 }
 
 static void put_queues(uint8_t **at, const struct kernel *k)
@@ -172,13 +204,13 @@ static void put_queues(uint8_t **at, const struct kernel *k)
     for (uint32_t slot = 0; slot < QUEUES; slot++) {
         const struct queue *q = &k->queue[slot];
 
-        put(at, k->queue_table.name[slot], 4);
-        put(at, k->queue_table.serial[slot], 2);
-        put(at, slot_is_live(&k->queue_table, slot), 1);
-        put(at, q->options, 1);
-        put(at, q->most, 1);
-        put(at, q->longest, 1);
-        put(at, q->held, 1);
+        put_4(at, k->queue_table.name[slot]);
+        put_2(at, k->queue_table.serial[slot]);
+        put_1(at, slot_is_live(&k->queue_table, slot));
+        put_1(at, q->options);
+        put_1(at, q->most);
+        put_1(at, q->longest);
+        put_1(at, q->held);
         put_messages(at, q);
     }
 }
@@ -192,15 +224,16 @@ static void put_ready_order(uint8_t **at, const struct kernel *k)
         uint8_t place = k->ready[priority].first;
 
         for (; place != 0; place = k->task[place - 1].behind, left--)
-            put(at, place, 1);
+            put_1(at, place);
     }
     for (; left > 0; left--)
-        put(at, 0, 1);
+        put_1(at, 0);
 }
 
-/* Of a state that keeps the rules. */
-static void put_image(uint8_t *at, const struct kernel *k)
+void image_put(const struct kernel *k, uint8_t *out)
 {
+    uint8_t *at = out;
+
     put_header(&at);
     put_tasks(&at, k);
     put_semaphores(&at, k);
@@ -215,13 +248,13 @@ uint32_t image_write(const struct kernel *k, uint8_t *out, size_t room)
         return BAD_STATE;
     if (room < IMAGE_BYTES)
         return NO_ROOM;
-    put_image(out, k);
+    image_put(k, out);
     return OK;
 }
 
 static void take_live(const uint8_t **at, struct table *t, uint32_t slot)
 {
-    if (take(at, 1) == 1)
+    if (take_1(at) == 1)
         t->live |= slot_bit(slot);
     else if (t->serial[slot] < LAST_SERIAL)
         t->usable |= slot_bit(slot);
@@ -232,26 +265,26 @@ static void take_tasks(const uint8_t **at, struct kernel *k, uint16_t *seat)
     for (uint32_t slot = 0; slot < TASKS; slot++) {
         struct task *t = &k->task[slot];
 
-        k->task_table.name[slot] = (uint32_t)take(at, 4);
-        k->task_table.serial[slot] = (uint16_t)take(at, 2);
+        k->task_table.name[slot] = take_4(at);
+        k->task_table.serial[slot] = take_2(at);
         take_live(at, &k->task_table, slot);
-        t->started = (uint8_t)take(at, 1);
-        t->suspended = (uint8_t)take(at, 1);
-        t->priority = (uint8_t)take(at, 1);
-        t->time_out = (uint32_t)take(at, 4);
-        seat[slot] = (uint16_t)take(at, 2);
-        t->joining_priority = (uint8_t)take(at, 1);
+        t->started = take_1(at);
+        t->suspended = take_1(at);
+        t->priority = take_1(at);
+        t->time_out = take_4(at);
+        seat[slot] = take_2(at);
+        t->joining_priority = take_1(at);
     }
 }
 
 static void take_semaphores(const uint8_t **at, struct kernel *k)
 {
     for (uint32_t slot = 0; slot < SEMAPHORES; slot++) {
-        k->semaphore_table.name[slot] = (uint32_t)take(at, 4);
-        k->semaphore_table.serial[slot] = (uint16_t)take(at, 2);
-        k->semaphore[slot].count = (int32_t)take(at, 2);
+        k->semaphore_table.name[slot] = take_4(at);
+        k->semaphore_table.serial[slot] = take_2(at);
+        k->semaphore[slot].count = take_2(at);
         take_live(at, &k->semaphore_table, slot);
-        k->semaphore[slot].options = (uint8_t)take(at, 1);
+        k->semaphore[slot].options = take_1(at);
     }
 }
 
@@ -260,7 +293,7 @@ static void take_semaphores(const uint8_t **at, struct kernel *k)
 static void take_places(const uint8_t **at, struct pool *p)
 {
     for (uint32_t buffer = 0; buffer < BUFFERS; buffer++) {
-        uint32_t place = (uint32_t)take(at, 1);
+        uint32_t place = take_1(at);
 
         if (place != 0 && place <= BUFFERS)
             p->free_order[place - 1] = (uint8_t)buffer;
@@ -272,14 +305,15 @@ static void take_pools(const uint8_t **at, struct kernel *k)
     for (uint32_t slot = 0; slot < POOLS; slot++) {
         struct pool *p = &k->pool[slot];
 
-        p->out = take(at, 8);
-        k->pool_table.name[slot] = (uint32_t)take(at, 4);
-        p->address = (uint32_t)take(at, 4);
-        p->length = (uint32_t)take(at, 4);
-        p->size = (uint32_t)take(at, 4);
-        k->pool_table.serial[slot] = (uint16_t)take(at, 2);
+        p->out = take_4(at);
+        p->out |= (uint64_t)take_4(at) << 32;
+        k->pool_table.name[slot] = take_4(at);
+        p->address = take_4(at);
+        p->length = take_4(at);
+        p->size = take_4(at);
+        k->pool_table.serial[slot] = take_2(at);
         take_live(at, &k->pool_table, slot);
-        p->options = (uint8_t)take(at, 1);
+        p->options = take_1(at);
         take_places(at, p);
         p->buffers = p->size != 0 ? (uint8_t)(p->length / p->size) : 0;
     }
@@ -287,11 +321,8 @@ static void take_pools(const uint8_t **at, struct kernel *k)
 
 static void take_messages(const uint8_t **at, struct queue *q)
 {
-    for (uint32_t cell = 0; cell < MESSAGES; cell++) {
-        q->message[cell].length = (uint8_t)take(at, 1);
-        memcpy(q->message[cell].byte, *at, MESSAGE_BYTES);
-        *at += MESSAGE_BYTES;
-    }
+    memcpy(q->message, *at, sizeof q->message);
+    *at += sizeof q->message;
 }
 
 static void take_queues(const uint8_t **at, struct kernel *k)
@@ -299,19 +330,20 @@ static void take_queues(const uint8_t **at, struct kernel *k)
     for (uint32_t slot = 0; slot < QUEUES; slot++) {
         struct queue *q = &k->queue[slot];
 
-        k->queue_table.name[slot] = (uint32_t)take(at, 4);
-        k->queue_table.serial[slot] = (uint16_t)take(at, 2);
+        k->queue_table.name[slot] = take_4(at);
+        k->queue_table.serial[slot] = take_2(at);
         take_live(at, &k->queue_table, slot);
-        q->options = (uint8_t)take(at, 1);
-        q->most = (uint8_t)take(at, 1);
-        q->longest = (uint8_t)take(at, 1);
-        q->held = (uint8_t)take(at, 1);
+        q->options = take_1(at);
+        q->most = take_1(at);
+        q->longest = take_1(at);
+        q->held = take_1(at);
         take_messages(at, q);
     }
 }
 
 /* Who stands where, by slot + 1. A seat of no queue or of no place is left
- * out, and of two alike the first: such seats are not written again. */
+ * out, and of two alike the first, and any behind an empty place: such seats
+ * are not written again. */
 struct seated {
     uint8_t who[SEAT_QUEUES][TASKS];
 };
@@ -353,10 +385,10 @@ static void link_rows(struct kernel *k, const uint16_t *seat)
 
     seat_all(k, seat, &seated);
     for (uint32_t queue = 0; queue < SEAT_QUEUES; queue++) {
-        for (uint32_t place = 0; place < TASKS; place++) {
-            if (seated.who[queue][place] != 0)
-                link_in(k, queue, seated.who[queue][place]);
-        }
+        const uint8_t *who = seated.who[queue];
+
+        for (uint32_t place = 0; place < TASKS && who[place] != 0; place++)
+            link_in(k, queue, who[place]);
     }
     for (uint32_t priority = 0; priority < PRIORITIES; priority++) {
         if (k->ready[priority].first != 0)
@@ -379,19 +411,25 @@ static void take_image(const uint8_t *bytes, struct kernel *k)
     link_rows(k, seat);
 }
 
-uint32_t image_read(struct kernel *k, const uint8_t *bytes, size_t length)
+uint32_t image_take(struct kernel *k, const uint8_t *bytes, size_t length)
 {
-    struct kernel read;
     uint8_t again[IMAGE_BYTES];
 
     if (length < IMAGE_BYTES)
         return BAD_IMAGE;
-    take_image(bytes, &read);
-    if (!rules_of_a_state(&read))
+    take_image(bytes, k);
+    if (!rules_of_a_state(k))
         return BAD_IMAGE;
-    put_image(again, &read);
-    if (memcmp(again, bytes, IMAGE_BYTES) != 0)
-        return BAD_IMAGE;
-    *k = read;
-    return OK;
+    image_put(k, again);
+    return memcmp(again, bytes, IMAGE_BYTES) == 0 ? OK : BAD_IMAGE;
+}
+
+uint32_t image_read(struct kernel *k, const uint8_t *bytes, size_t length)
+{
+    struct kernel read;
+    uint32_t status = image_take(&read, bytes, length);
+
+    if (status == OK)
+        *k = read;
+    return status;
 }

@@ -25,4 +25,9 @@ uint32_t image_write(const struct kernel *k, uint8_t *out, size_t room);
  * state is left as given. Bytes past the image are ignored. */
 uint32_t image_read(struct kernel *k, const uint8_t *bytes, size_t length);
 
+/* The two without what a caller may spare who knows that the state keeps the
+ * rules and that there is room, or whose state may be lost where it is 32. */
+void image_put(const struct kernel *k, uint8_t *out);
+uint32_t image_take(struct kernel *k, const uint8_t *bytes, size_t length);
+
 #endif

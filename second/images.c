@@ -1,6 +1,6 @@
 /*
  * Images of states: images SCRIPT.. plays scripts and writes and reads each
- * state on the way. One image by hand, number for number. Images cut, with a
+ * state on the way, and plays them step by step as C is to. One image by hand, number for number. Images cut, with a
  * byte changed, with several, and bytes at random: 32, or the state read
  * writes those very bytes.
  */
@@ -8,6 +8,7 @@
 #include <stdlib.h>
 #include <string.h>
 
+#include "exports.h"
 #include "image.h"
 #include "script.h"
 
@@ -235,6 +236,58 @@ static void through_an_image(struct kernel *k, void *with)
     *k = read;
 }
 
+static uint32_t number_at(const uint8_t *bytes)
+{
+    return (uint32_t)bytes[0] | (uint32_t)bytes[1] << 8
+         | (uint32_t)bytes[2] << 16 | (uint32_t)bytes[3] << 24;
+}
+
+/* A record's step on the image, and its line. */
+static size_t step(struct sheet *s, const uint8_t *record, uint32_t number,
+                   uint8_t *out, const char *where)
+{
+    uint8_t message[MESSAGE_BYTES] = { 0 };
+    dryswennol_answer answer;
+    uint32_t word[7];
+    size_t length;
+
+    for (int i = 0; i < 7; i++)
+        word[i] = number_at(record + 4 * i);
+    memcpy(message, record + 16, 12);
+    demand(second_step(s->byte, sizeof s->byte, message, sizeof message,
+                       &answer, word[0], word[1], word[2], word[3], word[4],
+                       word[5], word[6]) == answer.status,
+           "another status given", where);
+    demand(second_line(number, &answer, out, MOST_LINE, &length) == OK,
+           "no line", where);
+    return length;
+}
+
+/* Step by step as C does: the lines are the listing. */
+static void play_steps(const uint8_t *script, const char *listing,
+                       size_t length, const char *name)
+{
+    static uint8_t lines[MOST_LISTING];
+    uint32_t records = number_at(script), offset = number_at(script + 4);
+    struct sheet s;
+    size_t at = 0;
+
+    if (length > 0 && listing[0] == 's') /* script refused */
+        return;
+    memset(s.byte, FILLER, sizeof s.byte);
+    demand(second_fresh(number_at(script + 8), s.byte, IMAGE_BYTES - 1)
+               == NO_ROOM && is_filler(s.byte, sizeof s.byte),
+           "no 31 for fresh", name);
+    demand(second_fresh(number_at(script + 8), s.byte, sizeof s.byte) == OK,
+           "no fresh image", name);
+    for (uint32_t i = 0; i < records; i++)
+        at += step(&s, script + offset + RECORD_BYTES * i, i + 1, lines + at,
+                   name);
+    demand(at == length && memcmp(lines, listing, length) == 0,
+           "another listing, step by step", name);
+    demand(is_filler(s.byte + IMAGE_BYTES, PAST), "bytes past not kept", name);
+}
+
 static void play(char *name)
 {
     static uint8_t script[MOST_SCRIPT + 1];
@@ -252,6 +305,7 @@ static void play(char *name)
                                      sizeof between) == written
            && memcmp(plain, between, written) == 0,
            "another listing, with images between the records", name);
+    play_steps(script, plain, written, name);
 }
 
 /* What an image may be: of one state, which writes it. True if it is. */
