@@ -26,7 +26,8 @@ STATUSES = """
 
 A refusal, any status but 0 and 1, has four zero values, wakes nobody and changes nothing. 11, 13 and 30 go to woken tasks only, and
 26 to a state that no script makes. No call gives 33 BAD_RECORD: it refuses a list of grant records that names a slot outside its
-table (`crates/grid`). Nor 31 NO_ROOM and 32 BAD_IMAGE: they belong to images (`docs/IMAGE.md`).
+table (`crates/grid`). Nor 31 NO_ROOM and 32 BAD_IMAGE: the functions for C give them, where a slice is too short and where bytes are
+no image (`include/dryswennol.h`, `docs/IMAGE.md`).
 """
 SCRIPT = """
 ## Identifiers and rooms
