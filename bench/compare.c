@@ -1,9 +1,12 @@
 /*
  * Compares the proved player with the second program, in one process: whole
- * listings of generated scripts, length and bytes, and their grant grids.
+ * listings of generated scripts, length and bytes, and their grant grids;
+ * or the steps of their records, through images.
  *
  *     compare FIRST_SEED SCRIPTS            so many scripts
  *     compare --records FIRST_SEED RECORDS  scripts until so many records
+ *     compare --images FIRST_SEED RECORDS [FILE..]   the same stepped, of
+ *                                           these files and of seeds
  *     compare --times                       what a record costs
  *     compare --script SEED                 writes a script, to play it alone
  */
@@ -15,6 +18,7 @@
 #include "coverage.h"
 #include "dryswennol.h"
 #include "grids.h"
+#include "images.h"
 #include "lent.h"
 #include "players.h"
 #include "script.h"
@@ -45,6 +49,16 @@ struct run {
 static struct run run;
 static uint8_t proved[LISTING_ROOM];
 static uint8_t second[LISTING_ROOM];
+
+size_t proved_player(const uint8_t *script, size_t length, uint8_t *out,
+                     size_t room)
+{
+    size_t told = 0;
+    uint32_t status = dryswennol_listing(script, length, out, room, &told);
+
+    return status == (told <= room ? DRYSWENNOL_OK : DRYSWENNOL_NO_ROOM)
+        ? told : 0;
+}
 
 size_t second_player(const uint8_t *script, size_t length, uint8_t *out,
                      size_t room)
@@ -102,7 +116,7 @@ static size_t timed(player *play, uint8_t *out, uint64_t *sum,
 
 static size_t play_proved(void)
 {
-    return timed(dryswennol_listing, proved, &run.proved_time,
+    return timed(proved_player, proved, &run.proved_time,
                  "the proved player");
 }
 
@@ -112,8 +126,9 @@ static size_t play_second(void)
                  "the second program");
 }
 
-/* "answers the listing's exact length; writes it exactly if it fits": into
- * marked room, of which nothing else may have been touched. */
+/* "31 NO_ROOM exactly if a slice lent for ... listing is shorter than needed,
+ * nothing written", and its length told: into marked room, of which nothing
+ * else may have been touched. */
 static void play_into(size_t room, size_t length)
 {
     uint8_t *out = lend_marked(&run.out_ground, room);
@@ -121,7 +136,7 @@ static void play_into(size_t room, size_t length)
     size_t answer;
 
     run.doing = "the proved player with little room";
-    answer = dryswennol_listing(run.lent, run.script.length, out, room);
+    answer = proved_player(run.lent, run.script.length, out, room);
     run.rooms++;
     if (answer != length) {
         printf("room %zu, answer %zu, listing %zu\n", room, answer, length);
@@ -223,13 +238,18 @@ static int print_results(uint64_t first)
     return outside > 0;
 }
 
-static int compare(uint64_t first, uint64_t scripts, uint64_t records)
+static void begin(void)
 {
     run.script_ground = ground_made(SCRIPT_ROOM);
     run.out_ground = ground_made(LISTING_ROOM);
 #ifndef __SANITIZE_ADDRESS__
     say_if_stopped(&run.script.seed, &run.doing);
 #endif
+}
+
+static int compare(uint64_t first, uint64_t scripts, uint64_t records)
+{
+    begin();
     while (run.scripts < scripts && run.coverage.records < records) {
         run.doing = "the generator";
         script_make(&run.script, first + run.scripts);
@@ -238,6 +258,84 @@ static int compare(uint64_t first, uint64_t scripts, uint64_t records)
         run.damaged += run.script.damaged;
     }
     return print_results(first);
+}
+
+/* The listing that both players give. */
+static size_t listed(void)
+{
+    size_t one, two;
+
+    run.lent = lend_marked(&run.script_ground, run.script.length);
+    memcpy(run.lent, run.script.bytes, run.script.length);
+    one = play_proved();
+    two = play_second();
+    if (one != two || memcmp(proved, second, two) != 0)
+        fail_by_listings(one, two);
+    return two;
+}
+
+static void step_script(struct image_counts *counts)
+{
+    size_t length = listed();
+    const char *trouble;
+
+    run.doing = "the steps";
+    trouble = images_of_script(run.lent, run.script.seed, second, length,
+                               counts);
+    if (trouble != NULL)
+        fail(trouble);
+    run.scripts++;
+}
+
+static void step_file(const char *name, struct image_counts *counts)
+{
+    FILE *from = fopen(name, "rb");
+
+    if (from == NULL) {
+        perror(name);
+        exit(2);
+    }
+    run.script.profile = name;
+    run.script.seed = 0;
+    run.script.length = fread(run.script.bytes, 1, SCRIPT_ROOM, from);
+    fclose(from);
+    step_script(counts);
+}
+
+static int print_images(uint64_t first, int files,
+                        const struct image_counts *c)
+{
+    printf("stored scripts %d, and seeds from %" PRIu64 " on: scripts %" PRIu64
+           "\n", files, first, run.scripts);
+    printf("records stepped %" PRIu64 ", with other messages %" PRIu64
+           "; refused %" PRIu64 ", messages shown %" PRIu64 "\n", c->records,
+           c->others, c->refused, c->shown);
+    printf("other rooms %" PRIu64 ", images cut %" PRIu64 ", changed %" PRIu64
+           ", of them still images %" PRIu64 ", lines of any bytes %" PRIu64
+           "\n", c->rooms, c->cut, c->changed, c->accepted, c->lines);
+    printf("differences 0\n");
+    return 0;
+}
+
+static int step_all(uint64_t first, uint64_t records, char **file, int files)
+{
+    static struct image_counts counts;
+    const char *trouble;
+
+    begin();
+    images_begin();
+    for (int i = 0; i < files; i++)
+        step_file(file[i], &counts);
+    for (uint64_t seed = first; counts.records < records; seed++) {
+        run.doing = "the generator";
+        script_make(&run.script, seed);
+        step_script(&counts);
+    }
+    run.doing = run.script.profile = "images made wrong";
+    trouble = images_made_wrong(&counts);
+    if (trouble != NULL)
+        fail(trouble);
+    return print_images(first, files, &counts);
 }
 
 static int write_script(uint64_t seed)
@@ -273,8 +371,12 @@ int main(int argc, char **argv)
     if (argc == 4 && strcmp(argv[1], "--records") == 0
         && number_of(argv[2], &one) && number_of(argv[3], &two))
         return compare(one, UINT64_MAX, two);
+    if (argc >= 4 && strcmp(argv[1], "--images") == 0
+        && number_of(argv[2], &one) && number_of(argv[3], &two))
+        return step_all(one, two, argv + 4, argc - 4);
     fprintf(stderr, "usage: compare FIRST_SEED SCRIPTS\n"
                     "       compare --records FIRST_SEED RECORDS\n"
+                    "       compare --images FIRST_SEED RECORDS [FILE..]\n"
                     "       compare --times\n"
                     "       compare --script SEED\n");
     return 2;

@@ -36,11 +36,12 @@ uint8_t *lend_marked(const struct ground *g, size_t length)
     return lent;
 }
 
+/* The first has the mark, and each is as the one before it. */
 static bool all_marked(const uint8_t *from, const uint8_t *end)
 {
-    while (from < end && *from == MARK)
-        from++;
-    return from == end;
+    return from == end
+        || (*from == MARK
+            && memcmp(from, from + 1, (size_t)(end - from) - 1) == 0);
 }
 
 bool still_marked(const struct ground *g, const uint8_t *from)

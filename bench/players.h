@@ -13,8 +13,10 @@ enum { LISTING_ROOM = 2340 * 793 + 64 };
 typedef size_t player(const uint8_t *script, size_t length, uint8_t *out,
                       size_t room);
 
-/* The proved player is dryswennol_listing. The second program trusts its
- * state here, as the proved one may. */
+/* dryswennol_listing; 0 where its status is not as the length says. */
+player proved_player;
+
+/* The second program, which trusts its state here, as the proved one may. */
 player second_player;
 
 /* Nanoseconds of this process's own time. */

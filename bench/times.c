@@ -11,7 +11,6 @@
 #include <string.h>
 #include <time.h>
 
-#include "dryswennol.h"
 #include "scripts.h"
 
 enum { PASSES = 32, BATCH_RECORDS = 90000, PROFILE_SCRIPTS = 8 };
@@ -73,7 +72,7 @@ static double print_ratio(const char *name, const struct batch *b)
     double records = (double)b->scripts * b->records, ratio;
 
     for (int i = 0; i < PASSES; i++) {
-        uint64_t one = pass(dryswennol_listing, b);
+        uint64_t one = pass(proved_player, b);
         uint64_t two = pass(second_player, b);
 
         if (i > 0 && one < proved)
