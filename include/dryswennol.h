@@ -68,8 +68,8 @@ uint32_t dryswennol_step(uint8_t *image, size_t image_len, const uint8_t *messag
     uint32_t call, uint32_t mark, uint32_t a, uint32_t b, uint32_t c, uint32_t d, uint32_t e);
 
 /*
- * The listing's line of an answer, with the number that it is to have, for an answer of any bytes: where `woken` is above 32 it is read
- * as 32.
+ * The listing's line of an answer, with the number that it is to have, for an answer of any bytes: `negative` and `delivers` are a yes
+ * unless 0, and where `woken` is above 32 it is read as 32.
  *
  * *length is the line's length, whatever out_len is. 0 where it fits: the line is at the start of `out`, the bytes behind it are as they
  * were. 31 where it does not: no byte of `out` is changed.

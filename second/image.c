@@ -159,8 +159,9 @@ static void put_semaphores(uint8_t **at, const struct kernel *k)
 static void put_places(uint8_t **at, const struct pool *p)
 {
     uint8_t place[BUFFERS] = { 0 };
+    uint32_t free = free_buffers(p);
 
-    for (uint32_t i = 0; i < free_buffers(p); i++)
+    for (uint32_t i = 0; i < free; i++)
         place[p->free_order[i]] = (uint8_t)(i + 1);
     memcpy(*at, place, BUFFERS);
     *at += BUFFERS;
