@@ -153,6 +153,48 @@ def test_words(bench):
     bench.holds("where nothing runs", out.decode(), "\nnothing runs\n")
 
 
+# The second queue turns: what was sent first is received, and what jumps is in
+# front of all; the third is full of the longest messages.
+TURNED = """first priority 5
+queue_create 1 16 64 FIFO
+queue_create 2 3 12 0
+queue_send 65 "one"
+queue_send 65 "two"
+queue_send 65 "three"
+queue_receive 65 NOWAIT 0
+queue_receive 65 NOWAIT 0
+queue_send 65 12 "four"
+queue_jump 65 "\\xff\\x00 zero"
+queue_create 3 16 64 0
+""" + "".join('queue_send 66 64 "page %d"\n' % page for page in range(16))
+
+
+def test_messages(bench):
+    """The messages a queue holds, the first one first."""
+    data = made(TURNED)
+    _, out, _ = bench.tool("image", "show", "-", stdin=data)
+    told = out.decode()
+    bench.holds("a queue that holds none", told,
+                "\nqueue 64 (name 1, FIFO): 0 of 16 messages held, each at "
+                "most 64 bytes\n")
+    held = re.search(r"^queue 65 .*: 3 of 3 messages held, each at most 12 "
+                     r"bytes: (.*)$", told, re.M)
+    bench.check("a queue that turned", held and [
+        word in part for word, part in zip(
+            (" zero", "three", "four"), held.group(1).split("; "))]
+        == [True] * 3, told[:600])
+    full = re.search(r"^queue 66 .*: 16 of 16 messages held, .*?: (.*)$",
+                     told, re.M)
+    bench.check("a full queue", full and [
+        "page %d" % page in part for page, part in enumerate(
+            full.group(1).split("; "))] == [True] * 16, told[:600])
+    cells = image.record(data, "queue", 1)["cells"]
+    bench.equal("its cells, and zeros past them", (
+        bytes(cells[:image.CELL * 3]), any(cells[image.CELL * 3:])), (
+        b"".join(bytes([length]) + text.ljust(64, b"\0") for length, text in (
+            (7, b"\xff\0 zero"), (5, b"three"), (12, b"four"))), False))
+
+
 def squeezed(text):
     """With one space between words: columns are as wide as they need be."""
     return re.sub(" +", " ", text)
