@@ -10,6 +10,7 @@
 
 #include "aim.h"
 #include "dryswennol.h"
+#include "kernel.h"
 #include "lent.h"
 
 enum { IMAGE = DRYSWENNOL_IMAGE_BYTES, PAST = 200 };
@@ -30,7 +31,8 @@ struct both {
     dryswennol_answer *answer;
     uint8_t *line;
     size_t line_length;
-    uint8_t second[IMAGE + PAST]; /* the second program's image */
+    struct kernel state;          /* the second program's own */
+    uint8_t second[IMAGE + PAST]; /* its image */
     uint8_t before[IMAGE + PAST];
 };
 
@@ -44,9 +46,14 @@ void both_lend_bytes(struct both *b, const uint8_t *bytes, size_t length);
 
 bool both_fresh(struct both *b, uint32_t priority);
 
-/* What differs, or NULL. */
+/* A step from a fresh image on: the second program keeps its own state, and
+ * writes the image. Gives what differs, or NULL. */
 const char *both_step(struct both *b, const struct record *call,
                       const uint8_t *message, size_t length);
+
+/* A step on whatever bytes are lent: the second program reads them. */
+const char *both_step_bytes(struct both *b, const struct record *call,
+                            const uint8_t *message, size_t length);
 
 /* The line of the answer, into so much room. */
 bool both_line(struct both *b, uint32_t number, size_t room);

@@ -135,7 +135,7 @@ static const char *step(const uint8_t *image, size_t length, struct dice *d,
     const char *trouble;
 
     both_lend_bytes(&both, image, length);
-    trouble = both_step(&both, &call, message, sizeof message);
+    trouble = both_step_bytes(&both, &call, message, sizeof message);
     counts->accepted += length >= IMAGE
                      && both.answer->status != DRYSWENNOL_BAD_IMAGE;
     return trouble;

@@ -40,7 +40,7 @@ typedef struct dryswennol_answer {
     uint32_t negative;   /* 1 where values[1] stands for minus that number: sem_info's count */
     uint32_t running;    /* the identifier of the task that runs now, 0 if none */
     uint32_t woken;      /* how many tasks were woken */
-    uint32_t why;        /* the status that all of them are woken with */
+    uint32_t why;        /* the status that all of them are woken with; says nothing where none is */
     uint32_t delivers;   /* 1 where the one woken is given a message .. */
     uint32_t length;     /* .. of so many bytes */
     uint32_t wakes[32];  /* the woken ones' identifiers, in order, and zeros behind them */

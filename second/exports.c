@@ -28,7 +28,7 @@ uint32_t second_fresh(uint32_t priority, uint8_t *image, size_t image_len)
 
 /* All wakes of a step have one status; a message that is shown is a delivery
  * where a task is woken, and else an immediate receive. */
-static void put_answer(dryswennol_answer *to, const struct answer *from)
+void second_answer(dryswennol_answer *to, const struct answer *from)
 {
     memset(to, 0, sizeof *to);
     to->status = from->status;
@@ -77,7 +77,7 @@ uint32_t second_step(uint8_t *image, size_t image_len, const uint8_t *message,
     kernel_step(&k, call, mark, arg, &lent, &found);
     if (found.status <= PENDING)
         image_put(&k, image);
-    put_answer(answer, &found);
+    second_answer(answer, &found);
     return found.status;
 }
 

@@ -17,6 +17,11 @@ uint32_t second_step(uint8_t *image, size_t image_len, const uint8_t *message,
                      uint32_t call, uint32_t mark, uint32_t a, uint32_t b,
                      uint32_t c, uint32_t d, uint32_t e);
 
+struct answer;
+
+/* An answer of this program as C is given it. */
+void second_answer(dryswennol_answer *to, const struct answer *from);
+
 uint32_t second_line(uint32_t number, const dryswennol_answer *answer,
                      uint8_t *out, size_t out_len, size_t *length);
 
