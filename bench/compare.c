@@ -313,6 +313,7 @@ static int print_images(uint64_t first, int files,
     printf("other rooms %" PRIu64 ", images cut %" PRIu64 ", changed %" PRIu64
            ", of them still images %" PRIu64 ", lines of any bytes %" PRIu64
            "\n", c->rooms, c->cut, c->changed, c->accepted, c->lines);
+    images_print_kept();
     printf("differences 0\n");
     return 0;
 }

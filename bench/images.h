@@ -32,4 +32,7 @@ const char *images_of_script(const uint8_t *script, uint64_t seed,
 /* Steps on images made wrong, of states kept along the way. */
 const char *images_made_wrong(struct image_counts *counts);
 
+/* What those states had most of. */
+void images_print_kept(void);
+
 #endif

@@ -3,6 +3,7 @@
  * two, and bytes at random; of states that had most of something. "32 exactly
  * where the second program's own reader says so", and then every byte is left.
  */
+#include <stdio.h>
 #include <string.h>
 
 #include "both.h"
@@ -93,13 +94,18 @@ static uint32_t held(const uint8_t *image)
 
 /* One image for each measure, that of which there was most. */
 static struct {
+    const char *what;
     uint32_t (*measure)(const uint8_t *image);
     uint32_t most;
     uint8_t image[IMAGE];
 } kept[] = {
-    { .measure = ready }, { .measure = suspended }, { .measure = claiming },
-    { .measure = receiving }, { .measure = objects },
-    { .measure = buffers_out }, { .measure = held },
+    { .what = "tasks ready", .measure = ready },
+    { .what = "suspended", .measure = suspended },
+    { .what = "claiming", .measure = claiming },
+    { .what = "receiving", .measure = receiving },
+    { .what = "objects", .measure = objects },
+    { .what = "buffers out", .measure = buffers_out },
+    { .what = "messages held", .measure = held },
 };
 
 enum { KEPT = sizeof kept / sizeof kept[0] };
@@ -116,6 +122,14 @@ void wrong_keep(const uint8_t *image)
     }
 }
 
+void images_print_kept(void)
+{
+    printf("made wrong: images with");
+    for (int i = 0; i < KEPT; i++)
+        printf("%s %u %s", i > 0 ? "," : "", kept[i].most, kept[i].what);
+    printf("\n");
+}
+
 /* A call that finds something often enough. */
 static struct record any_call(struct dice *d)
 {
@@ -125,6 +139,45 @@ static struct record any_call(struct dice *d)
     for (int i = 1; i < 5; i++)
         call.arg[i] = ONE_OF(d, 0, 0, 1, 1, 2, 9, 64, 4096, TOP);
     return call;
+}
+
+static const struct record filling[] = {
+    { QUEUE_CREATE, 0, { 7, 16, 64, 1 } },
+    { POOL_CREATE, 0, { 7, 0, 2048, 32 } },
+    { SEM_CREATE, 0, { 7, 32767, 1 } },
+    { TASK_CREATE, 0, { 7, 9 } },
+};
+
+/* A call of the row, with each slot's own address or identifier. */
+static const char *fill_with(struct record call, uint32_t slot)
+{
+    uint8_t message[64];
+
+    memset(message, (int)(1 + slot), sizeof message);
+    if (call.number == POOL_CREATE)
+        call.arg[1] = 4096 * slot;
+    return both_step(&both, &call, message, sizeof message);
+}
+
+/* Every table full, every queue and every pool too: more than a script of the
+ * profiles makes. */
+static const char *fill(void)
+{
+    const char *trouble = NULL;
+
+    both_lend(&both, IMAGE);
+    if (!both_fresh(&both, 5))
+        return "the fresh images differ";
+    for (uint32_t i = 0; i < 32 * 4 && trouble == NULL; i++)
+        trouble = fill_with(filling[i % 4], i / 4);
+    for (uint32_t i = 0; i < 64 * 8 && trouble == NULL; i++)
+        trouble = fill_with((struct record){
+            POOL_GET_BUFF, 0, { 64 + i % 8 } }, i);
+    for (uint32_t i = 0; i < 16 * 8 && trouble == NULL; i++)
+        trouble = fill_with((struct record){
+            i % 3 ? QUEUE_SEND : QUEUE_JUMP, 0, { 64 + i % 8, 64 } }, i);
+    wrong_keep(both.image);
+    return trouble;
 }
 
 static const char *step(const uint8_t *image, size_t length, struct dice *d,
@@ -226,7 +279,7 @@ static bool any_line(struct dice *d)
 const char *images_made_wrong(struct image_counts *counts)
 {
     struct dice d = dice_of(1);
-    const char *trouble = NULL;
+    const char *trouble = fill();
 
     for (int i = 0; i < KEPT && trouble == NULL; i++) {
         if (kept[i].most == 0)
