@@ -6,7 +6,8 @@
  * text may lie at any address; an answer, a length and cells lie as C puts them.
  *
  * Nothing is kept between calls: no heap, no static data. So two threads may call at once, each with memory of its own, and a call
- * may interrupt another. No function needs 32 KiB of stack. The library needs nothing but `memcpy` and `memset`.
+ * may interrupt another. No function needs 32 KiB of stack. The library needs nothing but `memcpy`, `memmove`
+ * and `memset`.
  */
 #ifndef DRYSWENNOL_H
 #define DRYSWENNOL_H

@@ -151,6 +151,25 @@ def test_header(bench):
                     (done.returncode, done.stderr.decode()), (0, ""))
 
 
+def test_needs(bench):
+    """It has no data of its own, and needs what the header says."""
+    words = machine_words(bench)
+    why = library_trouble() or (words if isinstance(words, str) else None)
+    if why:
+        return bench.skip("needs of the library", why)
+    nm = words[0][0][:-len("gcc")] + "nm"
+    names = [line.split()[-2:] for line in subprocess.run(
+        [nm, LIBRARY], check=True, stdout=subprocess.PIPE).stdout.decode()
+        .splitlines() if len(line.split()) > 1]
+    header = " ".join(read(ROOT, "include", "dryswennol.h").decode().split())
+    said = re.search(r"needs nothing but ([^.]*)\.", header).group(1)
+    bench.equal("what the library needs", sorted(
+        name for kind, name in names if kind == "U"),
+        sorted(re.findall(r"`(\w+)`", said)))
+    bench.equal("data of the library that can change", [
+        name for kind, name in names if kind in "bBdDcC"], [])
+
+
 def test_c_program(bench):
     program = compiled(bench, SOURCE)
     for name in SCRIPTS if program else ():
