@@ -283,7 +283,7 @@ const char *images_made_wrong(struct image_counts *counts)
 
     for (int i = 0; i < KEPT && trouble == NULL; i++) {
         if (kept[i].most == 0)
-            return "no state of some kind";
+            continue;
         trouble = cut(kept[i].image, &d, counts);
         if (trouble == NULL)
             trouble = bytes_changed(kept[i].image, &d, counts);
