@@ -1,6 +1,6 @@
 -- A mask made bit by bit, and what its trailing zeros say: the first that passes, by one step a bit.
 -- Assumes nothing.
-use Prim.Native.Nat.{ℕ, zero, suc, _+_, _*_, _%_, _^_, _≤_, _<_}
+use Prim.Native.Nat.{ℕ, zero, suc, _+_, _-_, _*_, _%_, _^_, _≤_, _<_}
 use native.Mathlib.Omega.{arith}
 use native.Mathlib.Nat.{pow-suc, mul-assoc, mod-eq-of-lt, le-of-suc-le-suc, not-suc-le-zero, eq-or-lt-of-le}
 use mathlib.Core.Path.{_≡_, refl, sym, subst, ap, _∙_}
@@ -51,12 +51,16 @@ module _ (p : ℕ → Bool) where
       let l : 2 ^ n ≤ 2 ^ 15 = pow-mono {j = 15} (omega arith) in
       ⊎-elim (λ e. rw (bit-yes k e) (omega (arith, l))) (λ e. rw (bit-no k e) (omega arith)) (true-or-false (p k))
 
-  -- as the loop adds it: shifted to its place in a word of sixteen bits
-  pub mask-or : (n k m b : ℕ) → n < 16 → m ≡ maskFrom p k n → b ≡ bitAt p (k + n)
-      → bitOr m (b * 2 ^ n % 65536) ≡ maskFrom p k (n + 1)
+  -- as the loop adds it: shifted to its place in a word of sixteen bits, one past its number
+  pub mask-or : (n k m b : ℕ) → n + 1 < 16 → m ≡ maskFrom p k n * 2 → b ≡ bitAt p (k + n)
+      → bitOr m (b * 2 ^ (n + 1) % 65536) ≡ maskFrom p k (n + 1) * 2
   mask-or n k m b h d e =
       let t : n + 1 ≡ suc n = omega arith in
-      rw (d, e, t, mod-eq-of-lt (bit-fits (k + n) n h)) (or-shifted-r (bitAt p (k + n)) n (maskFrom p k n) (mask-lt n k) ∙ mask-more n k)
+      let l : maskFrom p k n * 2 < 2 ^ suc n = omega (arith, mask-lt n k, pow-suc 2 n) in
+      let f : bitAt p (k + n) * 2 ^ suc n < 65536 = subst (λ (v : ℕ). bitAt p (k + n) * 2 ^ v < 65536) t (bit-fits (k + n) (n + 1) h) in
+      let g : bitAt p (k + n) * 2 ^ suc n ≡ bitAt p (k + n) * 2 ^ n * 2 =
+      ap (λ (x : ℕ). bitAt p (k + n) * x) (pow-suc 2 n) ∙ sym (mul-assoc (bitAt p (k + n)) (2 ^ n) 2) in
+      rw (d, e, t, mod-eq-of-lt f) (or-shifted-r (bitAt p (k + n)) (suc n) (maskFrom p k n * 2) l ∙ omega (arith, g, mask-more n k))
 
   -- a mask of nothing
   pub mask-none : (n k : ℕ) → maskFrom p k n ≡ 0 → (j : ℕ) → k ≤ j → j < k + n → p j ≡ false
@@ -110,19 +114,31 @@ module _ (p : ℕ → Bool) where
           rw (digits-mod (maskFrom p (suc k) n) {m = 2} {r = 0} (omega arith), digits-div (maskFrom p (suc k) n) {m = 2} {r = 0} (omega arith))
 
 -- a look at the n slots from `base` on, where none before them passes
-module _ (p : ℕ → Bool) (base n m : ℕ) (before : (j : ℕ) → j < base → p j ≡ false) (is : m ≡ maskFrom p base n) where
+module _ (p : ℕ → Bool) (base n m : ℕ) (before : (j : ℕ) → j < base → p j ≡ false) (is : m ≡ maskFrom p base n * 2) where
+  -- the first bit is no slot's, so the zeros are one more than those of the slots' bits
+  zeros : trailingZeros 16 m ≡ suc (trailingZeros 15 (maskFrom p base n))
+  unfolding trailingZeros
+  zeros =
+      let e : m ≡ maskFrom p base n * 2 + 0 = omega (arith, is) in
+      rw (e, digits-mod (maskFrom p base n) {m = 2} {r = 0} (omega arith), digits-div (maskFrom p base n) {m = 2} {r = 0} (omega arith))
+
+  -- there is one at least
+  pub zeros-some : 1 ≤ trailingZeros 16 m
+  zeros-some = omega (arith, zeros)
+
   -- finds the first that does
-  pub look-hit : (len : ℕ) → base + n ≤ len → n ≤ 16 → (m ≡ 0 → ⊥) → base + trailingZeros 16 m ≡ least p len
+  pub look-hit : (len : ℕ) → base + n ≤ len → n ≤ 8 → (m ≡ 0 → ⊥) → base + trailingZeros 16 m - 1 ≡ least p len
   look-hit len within small some =
-      let f : First p n base (trailingZeros 16 (maskFrom p base n)) = mask-first p 16 n base small (λ z. some (is ∙ z)) in
-      let g : First p n base (trailingZeros 16 m) = subst (λ (v : ℕ). First p n base (trailingZeros 16 v)) (sym is) f in
-      least-hit p (omega (arith, g .below))
-      (λ j h. ⊎-elim (before j) (λ l. g .none j l h) (lt-or-le j base))
-      (g .passes)
+      let f : First p n base (trailingZeros 15 (maskFrom p base n)) = mask-first p 15 n base (omega (arith, small)) (λ z. some (omega (arith, is, z))) in
+      let e : base + trailingZeros 16 m - 1 ≡ base + trailingZeros 15 (maskFrom p base n) = omega (arith, zeros) in
+      e
+      ∙ least-hit p (omega (arith, f .below))
+      (λ j h. ⊎-elim (before j) (λ l. f .none j l h) (lt-or-le j base))
+      (f .passes)
 
   -- or shows that none of them does
   pub look-none : m ≡ 0 → (j : ℕ) → j < base + n → p j ≡ false
-  look-none z j h = ⊎-elim (before j) (λ l. mask-none p n base (sym is ∙ z) j l h) (lt-or-le j base)
+  look-none z j h = ⊎-elim (before j) (λ l. mask-none p n base (omega (arith, is, z)) j l h) (lt-or-le j base)
 
 -- a slot's bit: free, and a serial left
 module _ (serial : List ℕ) (live : List Bool) (k : ℕ) where

@@ -63,32 +63,33 @@ fn usable_bit<'a>(serial: &'a [u16], live: &'a [bool], k: usize) -> u16
     0
 }
 
-// How many of so many slots one look sees: sixteen, as many as the compiler makes a mask of without a branch.
+// How many of so many slots one look sees: eight, as many serials as the compiler takes at a time.
 fn seen(slots: usize) -> usize
-    ensures { λ r. ⌜ (r ≤ slots) × (r ≤ 16) × (0 < slots → 0 < r) ⌝ }
+    ensures { λ r. ⌜ (r ≤ slots) × (r ≤ 8) × (0 < slots → 0 < r) ⌝ }
 {
-    if slots < 16 {
+    if slots < 8 {
         return slots;
     }
-    16
+    8
 }
 
-// The usable ones of the n slots from `base` on, as a mask: bit i for slot base + i.
+// The usable ones of the n slots from `base` on, as a mask: bit i + 1 for slot base + i. Every slot's bit is shifted, the first one's too:
+// so the compiler takes all of them alike, and at once.
 fn usable_mask<'a>(serial: &'a [u16], live: &'a [bool], base: usize, n: usize) -> u16
-    requires { ⌜ (base + n ≤ length (now serial)) × (n ≤ 16) ⌝ }
-    ensures { λ r. ⌜ r ≡ maskFrom (usable (now (serial .entry)) (now (live .entry))) base n ⌝ }
+    requires { ⌜ (base + n ≤ length (now serial)) × (n ≤ 8) ⌝ }
+    ensures { λ r. ⌜ r ≡ maskFrom (usable (now (serial .entry)) (now (live .entry))) base n * 2 ⌝ }
 {
     let mut mask = 0;
     let mut i = 0;
     while i < n {
-        mask = mask | (usable_bit(serial, live, base + i) << i);
+        mask = mask | (usable_bit(serial, live, base + i) << (i + 1));
         i += 1;
     }
     mask
 }
 
 // The lowest slot that is free and has a serial left, or the table's size where there is none: the trailing zeros of a mask made
-// here. A table of more than sixteen slots takes another look where the first finds none.
+// here. A table of more than eight slots takes another look where the first finds none.
 pub fn lowest_usable<'a>(serial: &'a [u16], live: &'a [bool]) -> usize
     ensures { λ r. ⌜ r ≡ lowestUsable (now (serial .entry)) (now (live .entry)) ⌝ }
 {
@@ -97,7 +98,7 @@ pub fn lowest_usable<'a>(serial: &'a [u16], live: &'a [bool]) -> usize
         let n = seen(serial.len() - base);
         let mask = usable_mask(serial, live, base, n);
         if mask != 0 {
-            return base + (u16::trailing_zeros(mask) as usize);
+            return base + (u16::trailing_zeros(mask) as usize) - 1;
         }
         base += n;
     }

@@ -11,7 +11,7 @@ use borrow.Author.Needs.{needs}
 use borrow.Author.Count.{below-none}
 use Rattle.scope.specs.Identifiers.{usable, lowestUsable}
 use Rattle.laws.proofs.Searches.{least-none}
-use Rattle.tables.proofs.Masks.{look-hit, look-none}
+use Rattle.tables.proofs.Masks.{zeros-some, look-hit, look-none}
 use Rattle.tables.proofs.lowest_usable.Statement.{statement}
 use Rattle.tables.proofs.lowest_usable.Tie as tie
 
@@ -38,6 +38,9 @@ cast-result c = omega (arith, trailing-le 16 (c .before .usable-mask .result))
 
 add-result : tie.Need-add-result Inv-loop μ-loop
 add-result c = omega (arith, trailing-le 16 (c .before .usable-mask .result), c .before .before .before .before .loop .inv .0)
+
+sub-result : tie.Need-sub-result Inv-loop μ-loop
+sub-result c = omega (arith, zeros-some _ _ _ _ (c .before .before .before .before .loop .inv .1) (c .before .usable-mask .ensures))
 
 returns : tie.Need-returns Inv-loop μ-loop
 unfolding lowestUsable
@@ -73,6 +76,7 @@ lowest-usable-spec =
     usable-mask-requires
     cast-result
     add-result
+    sub-result
     returns
     add-base
     loop-less

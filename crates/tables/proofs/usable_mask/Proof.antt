@@ -1,6 +1,6 @@
 -- `tables::usable_mask` meets its contract. The loop's invariant: the mask is that of the slots looked at so far.
 -- Assumes nothing.
-use Prim.Native.Nat.{_-_, _≤_}
+use Prim.Native.Nat.{ℕ, _-_, _*_, _≤_}
 use native.Mathlib.Omega.{arith}
 use mathlib.Core.Path.{_≡_, ap, _∙_}
 use borrow.Author.Needs.{needs}
@@ -11,7 +11,7 @@ use Rattle.tables.proofs.usable_mask.Statement.{statement}
 use Rattle.tables.proofs.usable_mask.Tie as tie
 
 abbrev Inv-loop : tie.InvT-loop
-Inv-loop serial live base n mask₀ i₀ mask i = (i ≤ n) × (mask ≡ maskFrom (usable serial live) base i)
+Inv-loop serial live base n mask₀ i₀ mask i = (i ≤ n) × (mask ≡ maskFrom (usable serial live) base i * 2)
 
 abbrev μ-loop : tie.MeasureT-loop
 μ-loop serial live base n mask₀ i₀ mask i = n - i
@@ -25,6 +25,9 @@ add-usable-bit c = search needs
 
 usable-bit-requires : tie.Need-usable-bit-requires Inv-loop μ-loop
 usable-bit-requires c κs = search needs
+
+add-mask : tie.Need-add-mask Inv-loop μ-loop
+add-mask c = search needs
 
 cast-mask : tie.Need-cast-mask Inv-loop μ-loop
 cast-mask c = search needs
@@ -46,7 +49,10 @@ loop-again c =
     )
 
 returns : tie.Need-returns Inv-loop μ-loop
-returns c = let l = c .before .loop in l .inv .1 ∙ ap (maskFrom _ _) (omega (arith, c .loop-test .left, l .inv .0))
+returns c =
+    let l = c .before .loop in
+    let e : l .i ≡ c .before .before .before .before .args .n = omega (arith, c .loop-test .left, l .inv .0) in
+    rw e at (l .inv .1)
 
 pub usable-mask-spec : {M : Type 1} → statement M
 usable-mask-spec =
@@ -57,6 +63,7 @@ usable-mask-spec =
     loop-holds
     add-usable-bit
     usable-bit-requires
+    add-mask
     cast-mask
     shl-mask
     add-i
