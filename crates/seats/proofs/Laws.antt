@@ -1,27 +1,75 @@
 -- What the loops of the seats lean on: the last seat ahead is the one of the least way to the queue's end; a join's seat lies in its
 -- queue, and its two steps make `joins`; one task more counted.
 -- Assumes nothing.
-use Prim.Native.Nat.{ℕ, zero, suc, _+_, _-_, _%_, _^_, _≤_, _<_}
+use Prim.Native.Nat.{ℕ, zero, suc, _+_, _-_, _*_, _/_, _%_, _^_, _≤_, _<_}
 use native.Mathlib.Omega.{arith}
 use native.Mathlib.Numerals.{add-one}
 use mathlib.Core.Path.{_≡_, refl, sym, _∙_}
 use mathlib.Core.Logic.{_⊎_, inl, inr, ⊎-elim}
-use mathlib.Core.Bool.{Bool, true, false, _&&_}
+use mathlib.Core.Bool.{Bool, true, false, _&&_, _||_}
 use mathlib.Core.List.{List, map}
 use lib.ListN.{getD, set}
-use lib.Dec.{ltb, leb}
-use borrow.Author.Tests.{le-ltb, ltb-true, ltb-false, leb-false}
+use lib.Dec.{ltb, leb, eqb}
+use borrow.Author.Count.{below-none}
+use borrow.Author.Tests.{ne-eqb, lt-ltb, le-ltb, le-leb, lt-leb, ltb-true, ltb-false, leb-false}
 use Rattle.scope.specs.Choice.{pick, number}
-use Rattle.scope.specs.Seats.{lower, leaves, seatsEnd, laterOf, aheadOf, raise, joins, standsIn}
+use Rattle.scope.specs.Seats.{lower, isOn, onSeat, seatsEnd, laterOf, aheadOf, raise, joins, standsIn}
+use Rattle.scope.specs.Seats.{firstRing, ringSeats, ringOf, holdsTask, maskEmptied, maskLeft}
 use Rattle.laws.proofs.Arrays.{Changing}
-use Rattle.laws.proofs.Branches.{lt-or-le}
+use Rattle.laws.proofs.Branches.{true-false, picked-yes, picked-no, lt-or-le}
+use Rattle.laws.proofs.Searches.{none-more, some-more, noted}
 
--- what two numbers make, less what wraps: the second is the way from the first to c, or both lie past c
-pub wrapped : (c y d : ℕ) → c < 65536 → y < 65536 → d < 65536 → (d + y) % 2 ^ 16 ≡ c → (d + y ≡ c) ⊎ ((c < y) × (c < d))
-wrapped c y d h l m e = ⊎-elim (λ f. inl (omega (arith, e, f))) (λ f. inr (omega (arith, e, f), omega (arith, e, f))) (lt-or-le (d + y) 65536)
+-- the way from x to y, or one that wraps: then both x and the way itself are more than y
+abbrev pub Way : ℕ → ℕ → ℕ → Type 0
+Way x y d = (x + d ≡ y) ⊎ ((x + d ≡ y + 65536) × (y < x) × (y < d))
+
+-- a difference that may wrap is a way
+pub wrapped : (y x d : ℕ) → y < 65536 → x < 65536 → d < 65536 → (d + x) % 2 ^ 16 ≡ y → Way x y d
+wrapped y x d h l m e =
+    ⊎-elim (λ f. inl (omega (arith, e, f))) (λ f. inr (omega (arith, e, f), omega (arith, e, f), omega (arith, e, f))) (lt-or-le (d + x) 65536)
+
+-- one comparison of ways: a seat lies from x on and before e exactly if the way to it is shorter than the way to e
+pub nearer : (x y d n e : ℕ) → Way x y d → x + n ≡ e → e < 65536 → d < n → (x ≤ y) × (y < e)
+nearer x y d n e (inl w) g h l = (omega (arith, w), omega (arith, w, g))
+nearer x y d n e (inr w) g h l = absurd (omega (arith, w .0, g, h, l))
+
+pub farther : (x y d n e : ℕ) → Way x y d → x + n ≡ e → n ≤ d → (y < x) ⊎ (e ≤ y)
+farther x y d n e (inl w) g l = inr (omega (arith, w, g, l))
+farther x y d n e (inr w) g l = inl (w .1)
+
+-- the end of a queue's seats is a seat's number too
+pub end-fits : (x : ℕ) → x < 65536 → seatsEnd x < 65536
+end-fits x h = omega (arith, h)
+
+-- what the two tests make of a seat, told by where it lies
+pub lower-between : (x e y : ℕ) → (y ≡ x → ⊥) → (x ≤ y) × (y < e) → y - 1 ≡ lower x e y
+unfolding lower
+lower-between x e y ne (a, b) = sym (picked-no (eqb y x) _ _ (ne-eqb y x ne) ∙ picked-yes (ltb x y) _ _ (lt-ltb x y (omega (arith, a, ne))) ∙ picked-yes (ltb y e) _ _ (lt-ltb y e b))
+
+pub lower-apart : (x e y : ℕ) → (y ≡ x → ⊥) → (y < x) ⊎ (e ≤ y) → y ≡ lower x e y
+unfolding lower pick
+lower-apart x e y ne (inl a) = sym (picked-no (eqb y x) _ _ (ne-eqb y x ne) ∙ picked-no (ltb x y) _ _ (le-ltb x y (omega (arith, a))))
+lower-apart x e y ne (inr b) = sym (picked-no (eqb y x) _ _ (ne-eqb y x ne) ∙ go (ltb x y))
+  where
+    go : (d : Bool) → pick d (pick (ltb y e) (y - 1) y) y ≡ y
+    go true = picked-no (ltb y e) _ _ (le-ltb y e b)
+    go false = refl
+
+pub raise-between : (x e y : ℕ) → (x ≤ y) × (y < e) → y + 1 ≡ raise x e y
+unfolding raise
+raise-between x e y (a, b) = sym (picked-yes (leb x y) _ _ (le-leb x y a) ∙ picked-yes (ltb y e) _ _ (lt-ltb y e b))
+
+pub raise-apart : (x e y : ℕ) → (y < x) ⊎ (e ≤ y) → y ≡ raise x e y
+unfolding raise pick
+raise-apart x e y (inl a) = sym (picked-no (leb x y) _ _ (lt-leb x y a))
+raise-apart x e y (inr b) = sym (go (leb x y))
+  where
+    go : (d : Bool) → pick d (pick (ltb y e) (y + 1) y) y ≡ y
+    go true = picked-no (ltb y e) _ _ (le-ltb y e b)
+    go false = refl
 
 -- the lesser way ends at the later seat, and the way from a seat past the queue is never the lesser
-way-more : (b y d w k : ℕ) → w ≤ 62 → (d + y ≡ b + 62) ⊎ ((b + 62 < y) × (b + 62 < d))
+way-more : (b y d w k : ℕ) → w ≤ 62 → Way y (b + 62) d
     → b + 62 - pick (ltb d w) d w ≡ laterOf (b + 62 - w) y (b + 63) k 0
 unfolding laterOf pick
 way-more b y d w k h (inl e) = go (ltb d w) refl (ltb (b + 62 - w) y) refl (ltb y (b + 63)) refl (leb 0 k) refl
@@ -38,8 +86,8 @@ way-more b y d w k h (inr e) = go (ltb d w) refl (ltb (b + 62 - w) y) (ltb y (b 
   where
     go : (p : Bool) → ltb d w ≡ p → (a f : Bool) → ltb y (b + 63) ≡ f → (g : Bool)
         → b + 62 - pick p d w ≡ pick a (pick f (pick g y (b + 62 - w)) (b + 62 - w)) (b + 62 - w)
-    go true p a f v g = absurd (omega (arith, e .1, ltb-true d w p))
-    go false p true true f g = absurd (omega (arith, e .0, ltb-true y (b + 63) f))
+    go true p a f v g = absurd (omega (arith, e .2, ltb-true d w p))
+    go false p true true f g = absurd (omega (arith, e .1, ltb-true y (b + 63) f))
     go false p true false f g = refl
     go false p false u f g = refl
 
@@ -51,7 +99,7 @@ pub nearest-start : (q : List ℕ) (b : ℕ) → Nearest q b 62 0
 unfolding aheadOf
 nearest-start q b = (omega arith, λ key. omega arith)
 
-pub nearest-more : (q : List ℕ) (b w n d v : ℕ) → (d + getD q n 0 ≡ b + 62) ⊎ ((b + 62 < getD q n 0) × (b + 62 < d))
+pub nearest-more : (q : List ℕ) (b w n d v : ℕ) → Way (getD q n 0) (b + 62) d
     → v ≡ pick (ltb d w) d w → Nearest q b w n → Nearest q b v (n + 1)
 unfolding aheadOf pick
 nearest-more q b w n d v e g (small, all) = (
@@ -109,18 +157,43 @@ ahead-below q key b e p zero h = h
 ahead-below q key b e p (suc n) h = later-below (aheadOf q key b e p n) (getD q n 0) e (getD key n 0) p (ahead-below q key b e p n h)
 
 -- the last seat ahead, as the code has it, leaves room for one more
-pub small : (q key : List ℕ) (b e p a : ℕ) → b < 65000 → e ≡ b + 63 → a ≡ aheadOf q key b e p 32 → a < 65063
-small q key b e p a h d f = omega (arith, ahead-below q key b e p 32 (omega arith))
+pub small : (q key : List ℕ) (b e p a : ℕ) → e ≡ b + 63 → a ≡ aheadOf q key b e p 32 → a + 1 ≤ e
+small q key b e p a d f = omega (arith, ahead-below q key b e p 32 (omega arith))
 
--- all seats moved forward
-pub left : (q r : List ℕ) (t e : ℕ) → e ≡ seatsEnd (getD q t 0) → r ≡ map (lower (getD q t 0) e) q → r ≡ leaves q t
-unfolding leaves
-left q r t e d g = rw (g, d)
+-- the loop of `close_up`: whether one of the first n is on seat x
+abbrev pub Noted : List ℕ → ℕ → Bool → ℕ → Type 0
+Noted q x held n = (held ≡ false → (j : ℕ) → j < n → isOn q x j ≡ false) × (held ≡ true → (j : ℕ) × (j < n) × (isOn q x j ≡ true))
+
+pub noted-start : (q : List ℕ) (x : ℕ) → Noted q x false 0
+noted-start q x = ((λ e. below-none _), λ e. absurd (true-false e refl))
+
+pub noted-more : (q : List ℕ) (x y n : ℕ) (held : Bool) → y ≡ getD q n 0 → Noted q x held n → Noted q x (held || eqb y x) (n + 1)
+noted-more q x y n held e (none, some) = rw e (none-more (isOn q x) n held none, some-more (isOn q x) n held some)
+
+-- at its end it says whether anybody is
+pub noted-done : (q : List ℕ) (x n : ℕ) (held : Bool) → n ≡ 32 → Noted q x held n → held ≡ ltb (onSeat q x) 32
+unfolding onSeat
+noted-done q x n held e (none, some) =
+    noted (isOn q x) 32 held (λ f j h. none f j (omega (arith, e, h))) (λ f. let s = some f in (s .0, omega (arith, s .1, e), s .2))
+
+-- a ring's first seat, by the seat that was left, tells of the mask what `maskLeft` does
+pub ring-left : (m : ℕ) (q : List ℕ) (x : ℕ) (held : Bool) → held ≡ ltb (onSeat q (x / 64 * 64 + 1)) 32
+    → pick (ltb x firstRing) m (pick held m (maskEmptied m (ringOf x))) ≡ maskLeft m q x
+unfolding maskLeft holdsTask pick
+ring-left m q x held e = go (ltb x firstRing) refl
+  where
+    go : (b : Bool) → ltb x firstRing ≡ b
+        → pick b m (pick held m (maskEmptied m (ringOf x))) ≡ pick b m (pick (ltb (onSeat q (ringSeats (ringOf x) + 1)) 32) m (maskEmptied m (ringOf x)))
+    go true f = refl
+    go false f =
+        let first : ringSeats (ringOf x) + 1 ≡ x / 64 * 64 + 1 = omega (arith, ltb-false x firstRing f) in
+        rw (e, first)
 
 -- all seats moved back and the newcomer seated
-pub joined : (q key r : List ℕ) (t b e p a : ℕ) → e ≡ b + 63 → a ≡ aheadOf q key b e p 32 → r ≡ map (raise (a + 1) e) q → set r t (a + 1) ≡ joins q key t b p
+pub joined : (q key r : List ℕ) (t b e p a n : ℕ) → e ≡ b + 63 → a ≡ aheadOf q key b e p 32 → a + 1 + n ≡ e → r ≡ map (raise (a + 1) (a + 1 + n)) q
+    → set r t (a + 1) ≡ joins q key t b p
 unfolding joins
-joined q key r t b e p a d f g = rw (g, f, d)
+joined q key r t b e p a n d f h g = rw (g, h, f, d)
 
 -- one task more looked at
 pub counted : (q : List ℕ) (i base end n one t : ℕ) → base ≡ i → end ≡ base + 63 → n ≡ number (standsIn q i) t → one ≡ pick {A = ℕ} (ltb base (getD q t 0) && ltb (getD q t 0) end) 1 0 → n + one ≡ number (standsIn q i) (t + 1)

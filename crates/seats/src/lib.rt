@@ -6,46 +6,59 @@ ghost use mathlib.Core.Logic.{_⊎_};
 ghost use mathlib.Core.Bool.{_&&_};
 ghost use mathlib.Core.List.{List, map};
 ghost use lib.ListN.{set};
-ghost use Prim.Native.Nat.{ℕ, _+_, _<_};
+ghost use Prim.Native.Nat.{ℕ, _+_, _*_, _/_, _<_};
 ghost use lib.Dec.{ltb, leb};
 ghost use Rattle.scope.specs.Choice.{pick, hasBit};
 ghost use Rattle.scope.specs.Seats.{lower, raise, leaves, joins, becomesReady, aheadOf, onSeat, firstOf, standing, runnerOf, waitsOn, queueSeats, seatsEnd};
-ghost use Rattle.scope.specs.Seats.{maskFilled, maskEmptied, maskLeft, ringsLeft, ringsReady};
+ghost use Rattle.scope.specs.Seats.{maskFilled, maskEmptied, ringsLeft, ringsReady, firstRing, ringOf};
 
-// A seat after seat `x` was left; `end` is the end of its queue's seats.
-fn lowered(y: u16, x: u16, end: u16) -> u16
-    ensures { λ r. ⌜ r ≡ lower x end y ⌝ }
+// The way from seat `x` on to seat `y`; to a seat before `x` it wraps.
+fn way(x: u16, y: u16) -> u16
+    ensures { λ r. ⌜ (x + r ≡ y) ⊎ ((x + r ≡ y + 65536) × (y < x) × (y < r)) ⌝ }
+{
+    std::num::wrapping_sub_u16(y, x)
+}
+
+// A seat after seat `x` was left; `reach` is the way from `x` to the end of its queue's seats. Which seats lie between is told by one
+// comparison, that of the ways.
+fn lowered(y: u16, x: u16, reach: u16) -> u16
+    requires { ⌜ x + reach ≡ seatsEnd x ⌝ }
+    ensures { λ r. ⌜ r ≡ lower x (seatsEnd x) y ⌝ }
 {
     if y == x {
         return 0;
     }
-    if x < y {
-        if y < end {
-            return y - 1;
-        }
+    if way(x, y) < reach {
+        return y - 1;
     }
     y
 }
 
-// The end of the seats of the queue that seat `x` is in.
-fn end_of(x: u16) -> u16
-    ensures { λ r. ⌜ r ≡ seatsEnd x ⌝ }
-{
-    x / 64 * 64 + 63
+// The seats after one was left, and whether anybody is the first of its queue then.
+struct Closed {
+    seats: [u16; 32],
+    held: bool,
 }
 
-// The seats after seat `x` was left; `end` is the end of its queue's seats.
-fn close_up(q: [u16; 32], x: u16, end: u16) -> [u16; 32]
-    ensures { λ r. ⌜ r ≡ map (lower x end) q ⌝ }
+// The seats after seat `x` was left. Who is first is asked in the same pass.
+fn close_up(q: [u16; 32], x: u16) -> Closed
+    ensures { λ r. ⌜ (r .seats ≡ map (lower x (seatsEnd x)) q) × (r .held ≡ ltb (onSeat (map (lower x (seatsEnd x)) q) (x / 64 * 64 + 1)) 32) ⌝ }
 {
+    let reach = 63 - x % 64;
+    let first = x / 64 * 64 + 1;
     let mut r = q;
+    let mut held = false;
     let mut k: usize = 0;
     while k < 32 {
-        let y = lowered(r[k], x, end);
+        let y = lowered(r[k], x, reach);
         r[k] = y;
+        held = held | (y == first);
         k += 1;
     }
-    r
+    Closed {
+        seats: r,
+        held: held,
+    }
 }
 
 // Task `t` leaves the queue it stands in; those behind it come forward. Its seat is read where it lies: read from a copy of all seats,
@@ -55,17 +68,18 @@ pub fn leave(seat: &mut [u16; 32], t: usize)
     ensures { λ r. ⌜ now (seat .exit) ≡ leaves (now (seat .entry)) t ⌝ }
 {
     let x = seat[t];
-    *seat = close_up(*seat, x, end_of(x));
+    let c = close_up(*seat, x);
+    let q = c.seats;
+    *seat = q;
 }
 
-// A seat after another task took seat `x`.
-fn raised(y: u16, x: u16, end: u16) -> u16
-    ensures { λ r. ⌜ r ≡ raise x end y ⌝ }
+// A seat after another task took seat `x`; `reach` is the way from `x` to the end of its queue's seats.
+fn raised(y: u16, x: u16, reach: u16) -> u16
+    requires { ⌜ x + reach < 65536 ⌝ }
+    ensures { λ r. ⌜ r ≡ raise x (x + reach) y ⌝ }
 {
-    if x <= y {
-        if y < end {
-            return y + 1;
-        }
+    if way(x, y) < reach {
+        return y + 1;
     }
     y
 }
@@ -79,27 +93,20 @@ fn smaller(x: u16, y: u16) -> u16
     x
 }
 
-// The way from seat `y` to seat `last`; from a seat past that it wraps, and is longer than any.
-fn way_to(last: u16, y: u16) -> u16
-    ensures { λ r. ⌜ (r + y ≡ last) ⊎ ((last < y) × (last < r)) ⌝ }
-{
-    std::num::wrapping_sub_u16(last, y)
-}
-
-// The last seat taken above `base`, in a queue's 62 seats; `base` if there is none. By the least way from a seat to the queue's last,
-// with no branch for each task: the compiler takes many seats at a time.
+// The last seat taken above `base`, in a queue's 62 seats; `base` if there is none. By the least way from a seat to the queue's last, longer
+// than any from a seat past it, with no branch for each task: the compiler takes many seats at a time.
 fn hindmost(q: [u16; 32], base: u16) -> u16
     requires { ⌜ base < 65000 ⌝ }
     ensures { λ r. ⌜ ((key : List ℕ) → r ≡ aheadOf q key base (base + 63) 0 32) ⌝ }
 {
     let last = base + 62;
-    let mut way: u16 = 62;
+    let mut least: u16 = 62;
     let mut k: usize = 0;
     while k < 32 {
-        way = smaller(way, way_to(last, q[k]));
+        least = smaller(least, way(q[k], last));
         k += 1;
     }
-    last - way
+    last - least
 }
 
 // Seat `y` if its task's key is `p` or more; else 0, which is nowhere.
@@ -127,14 +134,15 @@ fn ahead(q: [u16; 32], key: [u8; 32], base: u16, p: u8) -> u16
     hindmost(s, base)
 }
 
-// The seats after another task took seat `x`; `end` is the end of its queue's seats.
-fn make_room(q: [u16; 32], x: u16, end: u16) -> [u16; 32]
-    ensures { λ r. ⌜ r ≡ map (raise x end) q ⌝ }
+// The seats after another task took seat `x`; `reach` is the way from `x` to the end of its queue's seats.
+fn make_room(q: [u16; 32], x: u16, reach: u16) -> [u16; 32]
+    requires { ⌜ x + reach < 65536 ⌝ }
+    ensures { λ r. ⌜ r ≡ map (raise x (x + reach)) q ⌝ }
 {
     let mut r = q;
     let mut k: usize = 0;
     while k < 32 {
-        let y = raised(r[k], x, end);
+        let y = raised(r[k], x, reach);
         r[k] = y;
         k += 1;
     }
@@ -148,7 +156,7 @@ pub fn join(seat: &mut [u16; 32], key: &[u8; 32], t: usize, base: u16, p: u8)
     ensures { λ r. ⌜ now (seat .exit) ≡ joins (now (seat .entry)) (now (key .entry)) t base p ⌝ }
 {
     let x = ahead(*seat, *key, base, p) + 1;
-    *seat = make_room(*seat, x, base + 63);
+    *seat = make_room(*seat, x, base + 63 - x);
     seat[t] = x;
 }
 
@@ -286,14 +294,14 @@ fn mask_emptied(mask: u16, p: u16) -> u16
     mask
 }
 
-// The mask after seat `x` was left, with the seats as they are then: it changes where `x` was in a ring and nobody is left there.
-pub fn mask_left(mask: u16, q: [u16; 32], x: u16) -> u16
-    ensures { λ r. ⌜ r ≡ maskLeft mask q x ⌝ }
+// The mask after seat `x` was left; `held` says whether anybody is the first of its queue then. It changes where `x` was in a ring and nobody is.
+fn mask_left(mask: u16, held: bool, x: u16) -> u16
+    ensures { λ r. ⌜ r ≡ pick (ltb x firstRing) mask (pick held mask (maskEmptied mask (ringOf x))) ⌝ }
 {
     if x < 2048 {
         return mask;
     }
-    if is_taken(q, x / 64 * 64 + 1) {
+    if held {
         return mask;
     }
     mask_emptied(mask, x / 64 - 32)
@@ -306,8 +314,10 @@ pub fn take_out(seat: &mut [u16; 32], rings: &mut [u16; 1], t: usize)
         × (now (rings .exit) ≡ ringsLeft (now (rings .entry)) (now (seat .entry)) t) ⌝ }
 {
     let x = seat[t];
-    leave(seat, t);
-    let mask = mask_left(rings[0], *seat, x);
+    let c = close_up(*seat, x);
+    let q = c.seats;
+    *seat = q;
+    let mask = mask_left(rings[0], c.held, x);
     rings[0] = mask;
 }
 

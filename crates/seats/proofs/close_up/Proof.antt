@@ -1,20 +1,38 @@
--- `seats::close_up`: the loop maps the seats in place by `lower`.
+-- `seats::close_up`: the loop maps the seats in place by `lower`, and notes whether one of those it has made is the first of the queue.
 -- Assumes nothing.
-use Prim.Native.Nat.{_-_}
+use Prim.Native.Nat.{_+_, _-_, _*_, _/_}
+use native.Mathlib.Omega.{arith}
+use mathlib.Core.Path.{_≡_, sym, ap, _∙_}
+use mathlib.Core.List.{map}
+use lib.ListN.{getD, length}
 use borrow.Author.Needs.{needs}
-use Rattle.laws.proofs.Arrays.{Changing, changing-start, changing-more, mapping-done}
-use Rattle.scope.specs.Seats.{lower}
+use Rattle.laws.proofs.Arrays.{Changing, changing-start, changing-more, mapping-done, getD-map}
+use Rattle.scope.specs.Seats.{lower, seatsEnd}
+use Rattle.seats.proofs.Laws.{Noted, noted-start, noted-more, noted-done}
 use Rattle.seats.proofs.close_up.Statement.{statement}
 use Rattle.seats.proofs.close_up.Tie as tie
 
 abbrev Inv-loop : tie.InvT-loop
-Inv-loop x end r₀ k₀ r k = Changing 32 (λ j. lower x end) r₀ r k
+Inv-loop x reach first r₀ held₀ k₀ r held k =
+    Changing 32 (λ j. lower x (seatsEnd x)) r₀ r k × Noted (map (lower x (seatsEnd x)) r₀) first held k
 
 abbrev μ-loop : tie.MeasureT-loop
-μ-loop x end r₀ k₀ r k = 32 - k
+μ-loop x reach first r₀ held₀ k₀ r held k = 32 - k
+
+sub-reach : tie.Need-sub-reach Inv-loop μ-loop
+sub-reach c = omega arith
+
+mul-first : tie.Need-mul-first Inv-loop μ-loop
+mul-first c = search needs
+
+add-first : tie.Need-add-first Inv-loop μ-loop
+add-first c = search needs
 
 loop-holds : tie.Need-loop-holds Inv-loop μ-loop
-loop-holds c = changing-start 32 (λ j. lower (c .args .x) (c .args .end)) (c .args .q) (search needs)
+loop-holds c = (
+  changing-start 32 (λ j. lower (c .args .x) (seatsEnd (c .args .x))) (c .args .q) (search needs),
+  noted-start (map (lower (c .args .x) (seatsEnd (c .args .x))) (c .args .q)) (c .args .x / 64 * 64 + 1),
+)
 
 mul-lowered : tie.Need-mul-lowered Inv-loop μ-loop
 mul-lowered c = search needs
@@ -23,7 +41,7 @@ array-read-lowered : tie.Need-array-read-lowered Inv-loop μ-loop
 array-read-lowered c = search needs
 
 lowered-requires : tie.Need-lowered-requires Inv-loop μ-loop
-lowered-requires c κs = search needs
+lowered-requires c κs = omega arith
 
 mul-r : tie.Need-mul-r Inv-loop μ-loop
 mul-r c = search needs
@@ -38,10 +56,22 @@ loop-less : tie.Need-loop-less Inv-loop μ-loop
 loop-less c = search needs
 
 loop-again : tie.Need-loop-again Inv-loop μ-loop
-loop-again c = changing-more 32 (λ j. lower (c .before .before .before .args .x) (c .before .before .before .args .end)) (c .before .before .before .args .q) (c .before .before .loop .r) (c .before .before .loop .k) _ (search needs) (c .lowered .ensures) (c .before .before .loop .inv)
+loop-again c =
+    let a = c .before .before .before .args in
+    let l = c .before .before .loop in
+    let made = lower (a .x) (seatsEnd (a .x)) in
+    let long : length (a .q) ≡ 32 = search needs in (
+      changing-more 32 (λ j. made) (a .q) (l .r) (l .k) _ (search needs) (c .lowered .ensures) (l .inv .0),
+      noted-more (map made (a .q)) _ _ (l .k) (l .held) (c .lowered .ensures ∙ ap made (l .inv .0 .4 (l .k) (omega arith)) ∙ sym (getD-map made (a .q) (l .k) (omega (arith, long, c .before .loop-test .taken)))) (l .inv .1),
+    )
 
 returns : tie.Need-returns Inv-loop μ-loop
-returns c = mapping-done 32 (lower (c .before .before .args .x) (c .before .before .args .end)) (c .before .before .args .q) (c .before .loop .r) (c .before .loop .k) (search needs) (c .before .loop .inv)
+returns c =
+    let a = c .before .before .args in
+    let l = c .before .loop in (
+      mapping-done 32 (lower (a .x) (seatsEnd (a .x))) (a .q) (l .r) (l .k) (search needs) (l .inv .0),
+      noted-done _ _ (l .k) (l .held) (omega (arith, c .loop-test .left, l .inv .0 .0)) (l .inv .1),
+    )
 
 pub close-up-spec : {M : Type 1} → statement M
 close-up-spec =
@@ -49,6 +79,9 @@ close-up-spec =
     (tie.spec
     Inv-loop
     μ-loop
+    sub-reach
+    mul-first
+    add-first
     loop-holds
     mul-lowered
     array-read-lowered

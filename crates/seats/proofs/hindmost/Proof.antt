@@ -9,10 +9,10 @@ use Rattle.seats.proofs.hindmost.Statement.{statement}
 use Rattle.seats.proofs.hindmost.Tie as tie
 
 abbrev Inv-loop : tie.InvT-loop
-Inv-loop base q last way₀ k₀ way k = (k ≤ 32) × Nearest q base way k
+Inv-loop base q last least₀ k₀ least k = (k ≤ 32) × Nearest q base least k
 
 abbrev μ-loop : tie.MeasureT-loop
-μ-loop base q last way₀ k₀ way k = 32 - k
+μ-loop base q last least₀ k₀ least k = 32 - k
 
 add-last : tie.Need-add-last Inv-loop μ-loop
 add-last c = search needs
@@ -20,14 +20,14 @@ add-last c = search needs
 loop-holds : tie.Need-loop-holds Inv-loop μ-loop
 loop-holds c = (search needs, nearest-start (c .args .t1) (c .args .base))
 
-mul-way-to : tie.Need-mul-way-to Inv-loop μ-loop
-mul-way-to c = search needs
+mul-way : tie.Need-mul-way Inv-loop μ-loop
+mul-way c = search needs
 
-array-read-way-to : tie.Need-array-read-way-to Inv-loop μ-loop
-array-read-way-to c = search needs
+array-read-way : tie.Need-array-read-way Inv-loop μ-loop
+array-read-way c = search needs
 
-way-to-requires : tie.Need-way-to-requires Inv-loop μ-loop
-way-to-requires c κs = search needs
+way-requires : tie.Need-way-requires Inv-loop μ-loop
+way-requires c κs = search needs
 
 smaller-requires : tie.Need-smaller-requires Inv-loop μ-loop
 smaller-requires c κs = search needs
@@ -39,10 +39,10 @@ loop-less : tie.Need-loop-less Inv-loop μ-loop
 loop-less c = search needs
 
 loop-again : tie.Need-loop-again Inv-loop μ-loop
-loop-again c = (search needs, nearest-more (c .before .before .before .before .args .t1) (c .before .before .before .before .args .base) (c .before .before .before .loop .way) (c .before .before .before .loop .k) _ _ (c .before .way-to .ensures) (c .smaller .ensures) (c .before .before .before .loop .inv .1))
+loop-again c = (search needs, nearest-more (c .before .before .before .before .args .t1) (c .before .before .before .before .args .base) (c .before .before .before .loop .least) (c .before .before .before .loop .k) _ _ (c .before .way .ensures) (c .smaller .ensures) (c .before .before .before .loop .inv .1))
 
 sub-result : tie.Need-sub-result Inv-loop μ-loop
-sub-result c = let h : c .before .loop .way ≤ 62 = c .before .loop .inv .1 .0 in omega arith
+sub-result c = let h : c .before .loop .least ≤ 62 = c .before .loop .inv .1 .0 in omega arith
 
 returns : tie.Need-returns Inv-loop μ-loop
 returns c = λ key. let e : c .before .loop .k ≡ 32 = omega (arith, c .before .loop .inv .0) in rw e at (c .before .loop .inv .1 .1 key)
@@ -55,9 +55,9 @@ hindmost-spec =
     μ-loop
     add-last
     loop-holds
-    mul-way-to
-    array-read-way-to
-    way-to-requires
+    mul-way
+    array-read-way
+    way-requires
     smaller-requires
     add-k
     loop-less

@@ -1,7 +1,7 @@
 -- `seats::leave`: all seats by `close_up`, for the seat that the task has.
 -- Assumes nothing.
 use borrow.Author.Needs.{needs}
-use Rattle.seats.proofs.Laws.{left}
+use Rattle.scope.specs.Seats.{leaves}
 use Rattle.seats.proofs.leave.Statement.{statement}
 use Rattle.seats.proofs.leave.Tie as tie
 
@@ -11,15 +11,12 @@ mul-x c = search needs
 element-copy-out-x : tie.Need-element-copy-out-x
 element-copy-out-x c = search needs
 
-end-of-requires : tie.Need-end-of-requires
-end-of-requires c κs = search needs
-
 close-up-requires : tie.Need-close-up-requires
 close-up-requires c κs = search needs
 
 returns : tie.Need-returns
-returns c = left (c .before .before .before .before .args .seat .now) _ (c .before .before .before .before .args .t) (c .before .end-of .result) (c .before .end-of .ensures) (c .close-up .ensures)
+unfolding leaves
+returns c = c .before .close-up .ensures .0
 
 pub leave-spec : {M : Type 1} → statement M
-leave-spec =
-    tie.close (tie.spec mul-x element-copy-out-x end-of-requires close-up-requires returns)
+leave-spec = tie.close (tie.spec mul-x element-copy-out-x close-up-requires returns)

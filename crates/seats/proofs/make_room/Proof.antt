@@ -1,6 +1,6 @@
 -- `seats::make_room`: the loop maps the seats in place by `raise`.
 -- Assumes nothing.
-use Prim.Native.Nat.{_-_}
+use Prim.Native.Nat.{_+_, _-_}
 use borrow.Author.Needs.{needs}
 use Rattle.laws.proofs.Arrays.{Changing, changing-start, changing-more, mapping-done}
 use Rattle.scope.specs.Seats.{raise}
@@ -8,13 +8,13 @@ use Rattle.seats.proofs.make_room.Statement.{statement}
 use Rattle.seats.proofs.make_room.Tie as tie
 
 abbrev Inv-loop : tie.InvT-loop
-Inv-loop x end r₀ k₀ r k = Changing 32 (λ j. raise x end) r₀ r k
+Inv-loop x reach r₀ k₀ r k = Changing 32 (λ j. raise x (x + reach)) r₀ r k
 
 abbrev μ-loop : tie.MeasureT-loop
-μ-loop x end r₀ k₀ r k = 32 - k
+μ-loop x reach r₀ k₀ r k = 32 - k
 
 loop-holds : tie.Need-loop-holds Inv-loop μ-loop
-loop-holds c = changing-start 32 (λ j. raise (c .args .x) (c .args .end)) (c .args .q) (search needs)
+loop-holds c = changing-start 32 (λ j. raise (c .args .x) (c .args .x + c .args .reach)) (c .args .q) (search needs)
 
 mul-raised : tie.Need-mul-raised Inv-loop μ-loop
 mul-raised c = search needs
@@ -38,10 +38,10 @@ loop-less : tie.Need-loop-less Inv-loop μ-loop
 loop-less c = search needs
 
 loop-again : tie.Need-loop-again Inv-loop μ-loop
-loop-again c = changing-more 32 (λ j. raise (c .before .before .before .args .x) (c .before .before .before .args .end)) (c .before .before .before .args .q) (c .before .before .loop .r) (c .before .before .loop .k) _ (search needs) (c .raised .ensures) (c .before .before .loop .inv)
+loop-again c = changing-more 32 (λ j. raise (c .before .before .before .args .x) (c .before .before .before .args .x + c .before .before .before .args .reach)) (c .before .before .before .args .q) (c .before .before .loop .r) (c .before .before .loop .k) _ (search needs) (c .raised .ensures) (c .before .before .loop .inv)
 
 returns : tie.Need-returns Inv-loop μ-loop
-returns c = mapping-done 32 (raise (c .before .before .args .x) (c .before .before .args .end)) (c .before .before .args .q) (c .before .loop .r) (c .before .loop .k) (search needs) (c .before .loop .inv)
+returns c = mapping-done 32 (raise (c .before .before .args .x) (c .before .before .args .x + c .before .before .args .reach)) (c .before .before .args .q) (c .before .loop .r) (c .before .loop .k) (search needs) (c .before .loop .inv)
 
 pub make-room-spec : {M : Type 1} → statement M
 make-room-spec =

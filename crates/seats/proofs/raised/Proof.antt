@@ -1,27 +1,30 @@
--- `seats::raised`: each branch is one choice of `raise`.
+-- `seats::raised`: where the seat lies is told by the comparison of the ways.
 -- Assumes nothing.
+use native.Mathlib.Omega.{arith}
 use mathlib.Core.Path.{refl}
 use borrow.Author.Needs.{needs}
-use borrow.Author.Tests.{lt-ltb, le-ltb, le-leb, lt-leb}
-use Rattle.laws.proofs.Branches.{pick-yes, pick-no}
-use Rattle.scope.specs.Seats.{raise}
+use Rattle.seats.proofs.Laws.{nearer, farther, raise-between, raise-apart}
 use Rattle.seats.proofs.raised.Statement.{statement}
 use Rattle.seats.proofs.raised.Tie as tie
 
+way-requires : tie.Need-way-requires
+way-requires c κs = search needs
+
 add-result : tie.Need-add-result
-add-result c = search needs
+add-result c =
+    let s = c .before .before in
+    let at = nearer (s .args .x) (s .args .y) _ (s .args .reach) _ (c .before .way .ensures) refl (s .pre) (c .if1 .taken) in
+    omega (arith, at .1, s .pre)
 
 returns : tie.Need-returns
-unfolding raise
-returns c = pick-yes _ _ _ (le-leb _ _ (c .before .if1 .taken)) (pick-yes _ _ _ (lt-ltb _ _ (c .if2 .taken)) refl)
+returns c =
+    let s = c .before .before in
+    raise-between _ _ _ (nearer (s .args .x) (s .args .y) _ (s .args .reach) _ (c .before .way .ensures) refl (s .pre) (c .if1 .taken))
 
 returns-2 : tie.Need-returns-2
-unfolding raise
-returns-2 c = pick-yes _ _ _ (le-leb _ _ (c .before .if1 .taken)) (pick-no _ _ _ (le-ltb _ _ (c .if2 .left)) refl)
-
-returns-3 : tie.Need-returns-3
-unfolding raise
-returns-3 c = pick-no _ _ _ (lt-leb _ _ (c .if1 .left)) refl
+returns-2 c =
+    let s = c .before .before in
+    raise-apart _ _ _ (farther (s .args .x) (s .args .y) _ (s .args .reach) _ (c .before .way .ensures) refl (c .if1 .left))
 
 pub raised-spec : {M : Type 1} → statement M
-raised-spec = tie.close (tie.spec add-result returns returns-2 returns-3)
+raised-spec = tie.close (tie.spec way-requires add-result returns returns-2)

@@ -14,7 +14,7 @@ hindmost-requires : tie.Need-hindmost-requires
 hindmost-requires c κs = search needs
 
 add-result : tie.Need-add-result
-add-result c = let a = c .before .args in omega (arith, small (a .q) (a .q) (a .base) (a .base + 63) 0 _ (search needs) refl (c .hindmost .ensures (a .q)))
+add-result c = let a = c .before .args in omega (arith, small (a .q) (a .q) (a .base) (a .base + 63) 0 _ refl (c .hindmost .ensures (a .q)), c .before .pre)
 
 returns : tie.Need-returns
 returns c =
