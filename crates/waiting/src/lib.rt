@@ -29,7 +29,8 @@ fn join_queue(
     seats::join(seat, joined, t, base, priority);
 }
 
-// Task `t` leaves the ready order and joins the queue of object `i`.
+// Task `t` leaves the ready order and joins the queue of object `i`. What does not wait for another store is stored first: so less is kept for
+// later.
 pub fn wait(
     left: &mut [u32; 32],
     seat: &mut [u16; 32],
@@ -45,10 +46,10 @@ pub fn wait(
     ensures { λ r. ⌜ lineOf (now (left .exit)) (now (seat .exit)) (now (joined .exit)) (now (rings .exit)) ≡ waits (lineOf (now (left .entry))
         (now (seat .entry)) (now (joined .entry)) (now (rings .entry))) i fifo priority ticks t ⌝ }
 {
+    left[t] = ticks;
     seats::take_out(seat, rings, t);
     let base = (i * 64 + 64) as u16;
     join_queue(seat, joined, t, base, fifo, priority);
-    left[t] = ticks;
     joined[t] = priority;
 }
 
@@ -75,7 +76,8 @@ fn woken_mask(mask: u16, suspended: bool, priority: u8) -> u16
     seats::mask_filled(mask, priority)
 }
 
-// Task `t` leaves its queue and waits no longer, and is the next of the wake list.
+// Task `t` leaves its queue and waits no longer, and is the next of the wake list. What is asked of it is read once, before a seat changes:
+// the compiler could not tell that it stays the same.
 pub fn wake_next(
     left: &mut [u32; 32],
     seat: &mut [u16; 32],
@@ -93,8 +95,10 @@ pub fn wake_next(
         (now (wakes .exit)) (woken + 1) ≡ wakeNext (wakers k (now (serial .entry)) (now (suspended .entry))
         (now (priority .entry))) (wakingOf (now (left .entry)) (now (seat .entry)) (now (joined .entry)) (now (rings .entry)) (now (wakes .entry)) woken) t) ⌝ }
 {
-    leave_queue(seat, suspended[t], priority[t], t);
-    let mask = woken_mask(rings[0], suspended[t], priority[t]);
+    let is_suspended = suspended[t];
+    let p = priority[t];
+    leave_queue(seat, is_suspended, p, t);
+    let mask = woken_mask(rings[0], is_suspended, p);
     rings[0] = mask;
     left[t] = 0;
     joined[t] = 0;

@@ -5,6 +5,12 @@ use borrow.Author.Needs.{needs}
 use Rattle.waiting.proofs.wait.Statement.{statement}
 use Rattle.waiting.proofs.wait.Tie as tie
 
+mul-left : tie.Need-mul-left
+mul-left c = search needs
+
+element-write-left : tie.Need-element-write-left
+element-write-left c = search needs
+
 take-out-requires : tie.Need-take-out-requires
 take-out-requires c κs = search needs
 
@@ -20,12 +26,6 @@ cast-base c = search needs
 join-queue-requires : tie.Need-join-queue-requires
 join-queue-requires c κs = search needs
 
-mul-left : tie.Need-mul-left
-mul-left c = search needs
-
-element-write-left : tie.Need-element-write-left
-element-write-left c = search needs
-
 element-write-joined : tie.Need-element-write-joined
 element-write-joined c = search needs
 
@@ -37,12 +37,12 @@ pub wait-spec : {M : Type 1} → statement M
 wait-spec =
     tie.close
     (tie.spec
+    mul-left
+    element-write-left
     take-out-requires
     mul-base
     add-base
     cast-base
     join-queue-requires
-    mul-left
-    element-write-left
     element-write-joined
     returns)

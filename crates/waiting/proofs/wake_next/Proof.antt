@@ -8,23 +8,17 @@ use Rattle.waiting.proofs.Laws.{woken-rings}
 use Rattle.waiting.proofs.wake_next.Statement.{statement}
 use Rattle.waiting.proofs.wake_next.Tie as tie
 
-element-copy-out-leave-queue : tie.Need-element-copy-out-leave-queue
-element-copy-out-leave-queue c = search needs
+element-copy-out-is-suspended : tie.Need-element-copy-out-is-suspended
+element-copy-out-is-suspended c = search needs
 
-element-copy-out-leave-queue-2 : tie.Need-element-copy-out-leave-queue-2
-element-copy-out-leave-queue-2 c = search needs
+element-copy-out-p : tie.Need-element-copy-out-p
+element-copy-out-p c = search needs
 
 leave-queue-requires : tie.Need-leave-queue-requires
 leave-queue-requires c κs = search needs
 
 element-copy-out-woken-mask : tie.Need-element-copy-out-woken-mask
 element-copy-out-woken-mask c = search needs
-
-element-copy-out-woken-mask-2 : tie.Need-element-copy-out-woken-mask-2
-element-copy-out-woken-mask-2 c = search needs
-
-element-copy-out-woken-mask-3 : tie.Need-element-copy-out-woken-mask-3
-element-copy-out-woken-mask-3 c = search needs
 
 woken-mask-requires : tie.Need-woken-mask-requires
 woken-mask-requires c κs = search needs
@@ -59,9 +53,9 @@ element-write-wakes c = search needs
 returns : tie.Need-returns
 unfolding wakeNext wake wokenRings ringsReady
 returns c =
-    let a = c .before .before .before .before .before .before .before .before .before .before .args in
+    let a = c .before .before .before .before .before .before .before .before .args in
     λ k. rw (
-      c .before .before .before .before .before .before .leave-queue .ensures (now (a .left)) (now (a .joined)) (now (a .rings)),
+      c .before .before .before .before .leave-queue .ensures (now (a .left)) (now (a .joined)) (now (a .rings)),
       c .before .before .woken-mask .ensures,
       woken-rings (now (a .rings)),
       c .identifier .ensures,
@@ -71,12 +65,10 @@ pub wake-next-spec : {M : Type 1} → statement M
 wake-next-spec =
     tie.close
     (tie.spec
-    element-copy-out-leave-queue
-    element-copy-out-leave-queue-2
+    element-copy-out-is-suspended
+    element-copy-out-p
     leave-queue-requires
     element-copy-out-woken-mask
-    element-copy-out-woken-mask-2
-    element-copy-out-woken-mask-3
     woken-mask-requires
     element-write-rings
     mul-left
