@@ -332,7 +332,8 @@ pub fn put_in(seat: &mut [u16; 32], key: &[u8; 32], rings: &mut [u16; 1], t: usi
     rings[0] = mask;
 }
 
-// The running task: the first of the ring that the leading zeros of the mask name; 32 if no ring holds a task.
+// The running task: the first of the ring that the leading zeros of the mask name; 32 if no ring holds a task. Slot 0 is asked before the
+// search is called: the first task is who runs while all others wait.
 pub fn runner(q: &[u16; 32], mask: u16) -> usize
     ensures { λ r. ⌜ r ≡ runnerOf (now (q .entry)) mask ⌝ }
 {
@@ -340,7 +341,11 @@ pub fn runner(q: &[u16; 32], mask: u16) -> usize
         return 32;
     }
     let p = 15 - u16::leading_zeros(mask);
-    on_seat(q, (p * 64 + 2049) as u16)
+    let x = (p * 64 + 2049) as u16;
+    if q[0] == x {
+        return 0;
+    }
+    on_seat(q, x)
 }
 
 // Whether a task on this seat waits in an object's queue.
