@@ -4,18 +4,19 @@
 use Prim.Native.Nat.{ℕ, zero, suc, _+_, _-_, _*_, _/_, _%_, _^_, _≤_, _<_}
 use native.Mathlib.Omega.{arith}
 use native.Mathlib.Numerals.{add-one}
-use mathlib.Core.Path.{_≡_, refl, sym, _∙_}
+use mathlib.Core.Path.{_≡_, refl, sym, ap, _∙_}
 use mathlib.Core.Logic.{_⊎_, inl, inr, ⊎-elim}
 use mathlib.Core.Bool.{Bool, true, false, _&&_, _||_}
 use mathlib.Core.List.{List, map}
-use lib.ListN.{getD, set}
+use lib.ListN.{length, getD, set, length-map}
+use lib.Seq.{set-getD}
 use lib.Dec.{ltb, leb, eqb}
 use borrow.Author.Count.{below-none}
-use borrow.Author.Tests.{ne-eqb, lt-ltb, le-ltb, le-leb, lt-leb, ltb-true, ltb-false, leb-false}
+use borrow.Author.Tests.{eq-eqb, ne-eqb, lt-ltb, le-ltb, le-leb, lt-leb, ltb-true, ltb-false, leb-false}
 use Rattle.scope.specs.Choice.{pick, number}
-use Rattle.scope.specs.Seats.{lower, isOn, onSeat, seatsEnd, laterOf, aheadOf, raise, joins, standsIn}
+use Rattle.scope.specs.Seats.{lower, leaves, isOn, onSeat, seatsEnd, laterOf, aheadOf, raise, joins, becomesReady, standsIn}
 use Rattle.scope.specs.Seats.{firstRing, ringSeats, ringOf, holdsTask, maskEmptied, maskLeft}
-use Rattle.laws.proofs.Arrays.{Changing}
+use Rattle.laws.proofs.Arrays.{Changing, getD-map}
 use Rattle.laws.proofs.Branches.{true-false, picked-yes, picked-no, lt-or-le}
 use Rattle.laws.proofs.Searches.{none-more, some-more, noted}
 
@@ -194,6 +195,22 @@ pub joined : (q key r : List ℕ) (t b e p a n : ℕ) → e ≡ b + 63 → a ≡
     → set r t (a + 1) ≡ joins q key t b p
 unfolding joins
 joined q key r t b e p a n d f h g = rw (g, h, f, d)
+
+-- who left stands nowhere
+nowhere : (q : List ℕ) (t e : ℕ) → t < length q → getD (map (lower (getD q t 0) e) q) t 0 ≡ 0
+unfolding lower
+nowhere q t e h = getD-map (lower (getD q t 0) e) q t h ∙ picked-yes (eqb (getD q t 0) (getD q t 0)) _ _ (eq-eqb (getD q t 0) (getD q t 0) refl)
+
+-- a woken task left its queue, and took the seat behind its ring unless it is suspended
+pub woken : (q r key : List ℕ) (t p b y behind : ℕ) (suspended : Bool) → t < 32 → length r ≡ 32 → b ≡ p
+    → r ≡ leaves q t → ((k : List ℕ) (u : ℕ) → set r u behind ≡ joins r k u (b * 64 + 2048) 0) → y ≡ pick suspended 0 behind
+    → set r t y ≡ pick suspended (leaves q t) (becomesReady (leaves q t) key t p)
+unfolding leaves pick
+woken q r key t p b y behind true h long d e all g =
+    let same : length r ≡ length q = ap length e ∙ length-map q (lower (getD q t 0) (seatsEnd (getD q t 0))) in
+    let out : getD (leaves q t) t 0 ≡ 0 = nowhere q t (seatsEnd (getD q t 0)) (omega (arith, h, long, same)) in
+    rw (g, e) (ap (set (leaves q t) t) (sym out) ∙ set-getD (leaves q t) t 0)
+woken q r key t p b y behind false h long d e all g = rw (g, ← e, ← d) (all key t)
 
 -- one task more looked at
 pub counted : (q : List ℕ) (i base end n one t : ℕ) → base ≡ i → end ≡ base + 63 → n ≡ number (standsIn q i) t → one ≡ pick {A = ℕ} (ltb base (getD q t 0) && ltb (getD q t 0) end) 1 0 → n + one ≡ number (standsIn q i) (t + 1)

@@ -61,18 +61,6 @@ fn close_up(q: [u16; 32], x: u16) -> Closed
     }
 }
 
-// Task `t` leaves the queue it stands in; those behind it come forward. Its seat is read where it lies: read from a copy of all seats,
-// the copy would have to be made.
-pub fn leave(seat: &mut [u16; 32], t: usize)
-    requires { ⌜ t < 32 ⌝ }
-    ensures { λ r. ⌜ now (seat .exit) ≡ leaves (now (seat .entry)) t ⌝ }
-{
-    let x = seat[t];
-    let c = close_up(*seat, x);
-    let q = c.seats;
-    *seat = q;
-}
-
 // A seat after another task took seat `x`; `reach` is the way from `x` to the end of its queue's seats.
 fn raised(y: u16, x: u16, reach: u16) -> u16
     requires { ⌜ x + reach < 65536 ⌝ }
@@ -191,6 +179,58 @@ pub fn make_ready(seat: &mut [u16; 32], t: usize, p: u8)
     join_last(seat, t, wide(p) * 64 + 2048);
 }
 
+// The seats after one was left, and the seat behind all of some queue then.
+struct Moved {
+    seats: [u16; 32],
+    behind: u16,
+}
+
+// The seats after seat `x` was left, and the seat behind all of the queue whose seats begin above `base`: both in one pass.
+fn move_up(q: [u16; 32], x: u16, base: u16) -> Moved
+    requires { ⌜ base < 65000 ⌝ }
+    ensures { λ r. ⌜ (r .seats ≡ map (lower x (seatsEnd x)) q) × ((key : List ℕ) (t : ℕ) → set (r .seats) t (r .behind) ≡ joins (r .seats) key t base 0) ⌝ }
+{
+    let reach = 63 - x % 64;
+    let last = base + 62;
+    let mut r = q;
+    let mut least: u16 = 62;
+    let mut k: usize = 0;
+    while k < 32 {
+        let y = lowered(r[k], x, reach);
+        r[k] = y;
+        least = smaller(least, way(y, last));
+        k += 1;
+    }
+    Moved {
+        seats: r,
+        behind: last - least + 1,
+    }
+}
+
+// Seat `y`, or nowhere for a task that is suspended.
+fn seat_unless(suspended: bool, y: u16) -> u16
+    ensures { λ r. ⌜ r ≡ pick suspended 0 y ⌝ }
+{
+    if suspended {
+        return 0;
+    }
+    y
+}
+
+// Task `t` leaves the queue it stands in and, unless it is suspended, goes behind all ready tasks of priority `p`.
+pub fn wake(seat: &mut [u16; 32], t: usize, suspended: bool, p: u8)
+    requires { ⌜ t < 32 ⌝ }
+    ensures { λ r. ⌜ ((key : List ℕ) → now (seat .exit)
+        ≡ pick suspended (leaves (now (seat .entry)) t) (becomesReady (leaves (now (seat .entry)) t) key t p)) ⌝ }
+{
+    let x = seat[t];
+    let m = move_up(*seat, x, wide(p) * 64 + 2048);
+    let q = m.seats;
+    *seat = q;
+    let y = seat_unless(suspended, m.behind);
+    seat[t] = y;
+}
+
 // The task on seat `x`; 32 if there is none.
 pub fn on_seat(q: &[u16; 32], x: u16) -> usize
     ensures { λ r. ⌜ r ≡ onSeat (now (q .entry)) x ⌝ }
@@ -307,7 +347,8 @@ fn mask_left(mask: u16, held: bool, x: u16) -> u16
     mask_emptied(mask, x / 64 - 32)
 }
 
-// Task `t` leaves the queue it stands in, and the mask follows.
+// Task `t` leaves the queue it stands in, and the mask follows. Its seat is read where it lies: read from a copy of all seats, the copy
+// would have to be made.
 pub fn take_out(seat: &mut [u16; 32], rings: &mut [u16; 1], t: usize)
     requires { ⌜ t < 32 ⌝ }
     ensures { λ r. ⌜ (now (seat .exit) ≡ leaves (now (seat .entry)) t)

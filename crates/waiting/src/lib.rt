@@ -59,11 +59,7 @@ fn leave_queue(seat: &mut [u16; 32], suspended: bool, priority: u8, t: usize)
     ensures { λ r. ⌜ ((left joined rings : List ℕ) → now (seat .exit)
         ≡ wokenSeats (lineOf left (now (seat .entry)) joined rings) suspended priority t) ⌝ }
 {
-    seats::leave(seat, t);
-    if suspended {
-        return;
-    }
-    seats::make_ready(seat, t, priority);
+    seats::wake(seat, t, suspended, priority);
 }
 
 // The mask of the rings then: the queue that the task leaves is no ring.
