@@ -192,18 +192,25 @@ def tasks(ch):
 def call_source(ch):
     o = f"\n// The {CALLS[ch.name][0]}s{tasks(ch)}.\nfn {ch.name}_call(\n{ch.params(ch.beside)}) -> Outcome\n"
     o += f'    requires {{ ⌜ {ch.requires()} ⌝ }}\n'
-    o += ''.join(f'    requires {{ ⌜ now {b} ≡ {BLANK[b]} ⌝ }}\n' for b in ch.blank)
+    o += ''.join(f'    requires {{ ⌜ now {b} ≡ {BLANK[b]} ⌝ }}\n' for b in ch.blank if b != 'wakes')
     o += promise(ch, '(now (wakes .exit))' if 'wakes' in ch.beside else 'noWakes', 'callAt (x .call) .does', LETTERS)
     o += '\n{\n    let call = x.call;\n    match call {\n'
     for c in ch.calls:
-        o += f'        {"_" if c is ch.calls[-1] else c.number} => ' + called(f'{c.crate}::{c.fn}', c.args, ' ' * 8) + ',\n'
+        here = f'        {"_" if c is ch.calls[-1] else c.number} => '
+        if 'wakes' in ch.blank and 'wakes' not in c.beside:
+            o += here + '{\n            *wakes = [0; 32];\n            ' + called(f'{c.crate}::{c.fn}', c.args, ' ' * 12) + '\n        }\n'
+        else:
+            o += here + called(f'{c.crate}::{c.fn}', c.args, ' ' * 8) + ',\n'
     return o + '    }\n}\n'
 
 
 def part_source(ch):
     o = f"\n// {head(ch.name)}{tasks(ch)}.\nfn {ch.name}_part(\n{ch.params(ch.parts)}) -> Outcome\n"
     o += f'    requires {{ ⌜ {asks(ch.name, "x .call")} ⌝ }}\n' + promise(ch, '(now (wakes .exit))', 'answered', NUMS)
-    o += '\n{\n    *wakes = [0; 32];\n    let refusal = chapters::caller_refusal(x.call, x.mark, x.running);\n    if refusal != scope::OK {\n        return answers::plain(refusal, x.running);\n    }\n'
+    # a call that may wake blanks the list itself
+    late = 'wakes' in ch.beside
+    o += '\n{\n' + '    *wakes = [0; 32];\n' * (not late) + '    let refusal = chapters::caller_refusal(x.call, x.mark, x.running);\n    if refusal != scope::OK {\n'
+    o += '        *wakes = [0; 32];\n' * late + '        return answers::plain(refusal, x.running);\n    }\n'
     if ch.one:
         c = ch.calls[0]
         return o + '    ' + called(f'{c.crate}::{c.fn}', c.args, ' ' * 4) + '\n}\n'
@@ -237,12 +244,14 @@ def call_proof(ch):
         needs += f'\n{k}-requires : tie.Need-{k}-requires\n{k}-requires c κs = search needs\n'
         wanted.append(f'{k}-requires')
     for i, (c, k) in enumerate(zip(calls, kebab)):
-        far = c.back + 1
+        # a list that is blanked here is one step more
+        far = c.back + 1 + ('wakes' in ch.blank and 'wakes' not in c.beside)
         start = back(far + 1 + ch.sends)
         got = f'c .{k} .ensures (whole ({start}) s)'
         for b, law in (('wakes', 'none-woken _ _'), ('shown', 'none-shown _ _ _')):
             if b in ch.blank and b not in c.beside:
-                got = f'{law} ({start} .pre .{1 + ch.blank.index(b)}) ({got})'
+                known = 'refl' if b == 'wakes' else f'({start} .pre .1)'
+                got = f'{law} {known} ({got})'
         title = 'returns' + (f'-{i + 1}' if i else '')
         wanted.append(title)
         if c is not calls[-1]:
@@ -256,7 +265,7 @@ def call_proof(ch):
     return f'''-- `{ch.crate}::{name}_call`: each call of the chapter by its number; the last is what is left when it is none of those before.
 -- Assumes nothing. Printed by tools/generate/run.
 use native.Mathlib.Omega.{{arith}}
-use mathlib.Core.Path.{{_≡_}}
+use mathlib.Core.Path.{{_≡_, refl}}
 use borrow.Author.Needs.{{needs}}
 use denote.Ref.{{now}}
 use Rattle.answers.proofs.Outcomes.{{none-woken, none-shown}}
@@ -283,7 +292,8 @@ def part_proof(ch):
     far = sum(not shr for _, shr, _ in ch.columns) + sum(b in BLANK for b in ch.beside) + 4
     callee = ch.calls[0].fn.replace('_', '-') if ch.one else f'{name}-call'
     # a slice lent is one step more at the start
-    first, start = back(4 + ch.sends), back(far + ch.sends)
+    late = 'wakes' in ch.beside
+    first, start = back(4 + ch.sends), back(far - late + ch.sends)
     bound, m = ('s', lambda at: f'(now ({at} .args .message))') if ch.sends else ('s m', lambda at: 'm')
     asked = lambda at: ' '.join([f'({at} .args .x .{x})' for x in NUMS] + ['_', m(at)])
     got = f'c .{callee} .ensures (whole s ({start}))' + ('' if ch.sends else ' m')
@@ -296,7 +306,7 @@ def part_proof(ch):
     if ch.last:
         meets = [f'(search needs, known-call _ _ _ (sym ({back(far - 3)} .caller-refusal .ensures) ∙ {back(far - 4)} .if1 .left))']
     if not ch.one:
-        meets += [{'wakes': 'refl', 'shown': f'{back(far - 1)} .pre .1'}[b] for b in ch.blank]
+        meets += [f'{back(far - 1)} .pre .1' for b in ch.blank if b == 'shown']
     return f'''-- `{ch.crate}::{name}_part`: the caller's test first, then the call.
 -- Assumes nothing. Printed by tools/generate/run.
 use mathlib.Core.Path.{{refl{', sym, _∙_' if ch.last else ''}}}
@@ -320,7 +330,7 @@ plain-requires : tie.Need-plain-requires
 plain-requires c κs = search needs
 
 returns : tie.Need-returns
-returns c = λ {bound}. answered-refused (whole s ({first})) {asked(first)} ({back(2)} .caller-refusal .ensures) ({back(1)} .if1 .taken) ({refused})
+returns c = λ {bound}. answered-refused (whole s ({first})) {asked(first)} ({back(2 + late)} .caller-refusal .ensures) ({back(1 + late)} .if1 .taken) ({refused})
 
 {callee}-requires : tie.Need-{callee}-requires
 {callee}-requires c κs = {meets[0] if len(meets) == 1 else '(' + ', '.join(meets) + ')'}

@@ -10,7 +10,6 @@ ghost use mathlib.Core.List.{List};
 ghost use Rattle.scope.specs.Calls.{callAt};
 ghost use Rattle.scope.specs.Step.{answered};
 ghost use Rattle.scope.specs.declared.State.{State};
-ghost use Rattle.scope.specs.Answers.{noWakes};
 ghost use Rattle.answers.specs.Outcomes.{answerOf};
 ghost use Rattle.answers.specs.Columns.{lentQueues};
 
@@ -34,7 +33,6 @@ fn queue_call(
     x: Asked,
 ) -> Outcome
     requires { ⌜ (20 ≤ x .call) × (x .call < 23) ⌝ }
-    requires { ⌜ now wakes ≡ noWakes ⌝ }
     ensures { λ r. ⌜ ((s : State) (m : List ℕ) → answerOf (lentQueues s (now (left .exit)) (now (seat .exit)) (now (joined .exit)) (now (rings .exit))
         (now (waker .entry)) (now (suspended .entry)) (now (priority .entry)) (now (name .exit)) (now (serial .exit)) (now (live .exit))
         (now (fifo .exit)) (now (limits .exit)) (now (held .exit)) (now (cells .exit)) (x .running)) (now (wakes .exit)) r
@@ -44,18 +42,21 @@ fn queue_call(
 {
     let call = x.call;
     match call {
-        20 => queues::queue_create(
-            name,
-            serial,
-            live,
-            fifo,
-            limits,
-            x.running,
-            x.a,
-            x.b,
-            x.c,
-            x.d,
-        ),
+        20 => {
+            *wakes = [0; 32];
+            queues::queue_create(
+                name,
+                serial,
+                live,
+                fifo,
+                limits,
+                x.running,
+                x.a,
+                x.b,
+                x.c,
+                x.d,
+            )
+        }
         21 => queues::queue_delete(
             left,
             seat,
@@ -74,7 +75,10 @@ fn queue_call(
             wakes,
             x,
         ),
-        _ => queues::queue_ident(name, serial, live, x.running, x.a),
+        _ => {
+            *wakes = [0; 32];
+            queues::queue_ident(name, serial, live, x.running, x.a)
+        }
     }
 }
 
@@ -105,9 +109,9 @@ fn queue_part(
         (now (suspended .entry)) (now (priority .entry)) (now (name .entry)) (now (serial .entry)) (now (live .entry)) (now (fifo .entry))
         (now (limits .entry)) (now (held .entry)) (now (cells .entry)) (x .running)) (x .call) (x .mark) (x .a) (x .b) (x .c) (x .d) (x .e) m) ⌝ }
 {
-    *wakes = [0; 32];
     let refusal = chapters::caller_refusal(x.call, x.mark, x.running);
     if refusal != scope::OK {
+        *wakes = [0; 32];
         return answers::plain(refusal, x.running);
     }
     queue_call(

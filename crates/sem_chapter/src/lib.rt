@@ -10,7 +10,6 @@ ghost use mathlib.Core.List.{List};
 ghost use Rattle.scope.specs.Calls.{callAt};
 ghost use Rattle.scope.specs.Step.{answered};
 ghost use Rattle.scope.specs.declared.State.{State};
-ghost use Rattle.scope.specs.Answers.{noWakes};
 ghost use Rattle.answers.specs.Outcomes.{answerOf};
 ghost use Rattle.answers.specs.Columns.{lentSemaphores};
 
@@ -32,7 +31,6 @@ fn sem_call(
     x: Asked,
 ) -> Outcome
     requires { ⌜ (8 ≤ x .call) × (x .call < 14) ⌝ }
-    requires { ⌜ now wakes ≡ noWakes ⌝ }
     ensures { λ r. ⌜ ((s : State) (m : List ℕ) → answerOf (lentSemaphores s (now (left .exit)) (now (seat .exit)) (now (joined .exit))
         (now (rings .exit)) (now (waker .entry)) (now (suspended .entry)) (now (priority .entry)) (now (name .exit)) (now (serial .exit))
         (now (units .exit)) (now (live .exit)) (now (fifo .exit)) (x .running)) (now (wakes .exit)) r
@@ -42,7 +40,10 @@ fn sem_call(
 {
     let call = x.call;
     match call {
-        8 => semaphores::sem_create(name, serial, units, live, fifo, x.running, x.a, x.b, x.c),
+        8 => {
+            *wakes = [0; 32];
+            semaphores::sem_create(name, serial, units, live, fifo, x.running, x.a, x.b, x.c)
+        }
         9 => semaphores::sem_delete(
             left,
             seat,
@@ -60,22 +61,28 @@ fn sem_call(
             x.running,
             x.a,
         ),
-        10 => semaphores::sem_ident(name, serial, live, x.running, x.a),
-        11 => semaphores::sem_claim(
-            left,
-            seat,
-            joined,
-            rings,
-            priority,
-            serial,
-            units,
-            live,
-            fifo,
-            x.running,
-            x.a,
-            x.b,
-            x.c,
-        ),
+        10 => {
+            *wakes = [0; 32];
+            semaphores::sem_ident(name, serial, live, x.running, x.a)
+        }
+        11 => {
+            *wakes = [0; 32];
+            semaphores::sem_claim(
+                left,
+                seat,
+                joined,
+                rings,
+                priority,
+                serial,
+                units,
+                live,
+                fifo,
+                x.running,
+                x.a,
+                x.b,
+                x.c,
+            )
+        }
         12 => semaphores::sem_release(
             left,
             seat,
@@ -91,7 +98,10 @@ fn sem_call(
             x.running,
             x.a,
         ),
-        _ => semaphores::sem_info(seat, serial, units, live, fifo, x.running, x.a),
+        _ => {
+            *wakes = [0; 32];
+            semaphores::sem_info(seat, serial, units, live, fifo, x.running, x.a)
+        }
     }
 }
 
@@ -120,9 +130,9 @@ fn sem_part(
         (now (suspended .entry)) (now (priority .entry)) (now (name .entry)) (now (serial .entry)) (now (units .entry)) (now (live .entry))
         (now (fifo .entry)) (x .running)) (x .call) (x .mark) (x .a) (x .b) (x .c) (x .d) (x .e) m) ⌝ }
 {
-    *wakes = [0; 32];
     let refusal = chapters::caller_refusal(x.call, x.mark, x.running);
     if refusal != scope::OK {
+        *wakes = [0; 32];
         return answers::plain(refusal, x.running);
     }
     sem_call(

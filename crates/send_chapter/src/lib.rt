@@ -109,9 +109,9 @@ fn send_part(
         (now (limits .entry)) (now (held .entry)) (now (cells .entry)) (x .running)) (x .call) (x .mark) (x .a) (x .b) (x .c) (x .d) (x .e)
         (now (message .entry))) ⌝ }
 {
-    *wakes = [0; 32];
     let refusal = chapters::caller_refusal(x.call, x.mark, x.running);
     if refusal != scope::OK {
+        *wakes = [0; 32];
         return answers::plain(refusal, x.running);
     }
     send_call(

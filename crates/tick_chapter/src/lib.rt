@@ -30,9 +30,9 @@ fn tick_part(
         ≡ answered (lentLine s (now (left .entry)) (now (seat .entry)) (now (joined .entry)) (now (rings .entry)) (now (waker .entry))
         (now (suspended .entry)) (now (priority .entry)) (x .running)) (x .call) (x .mark) (x .a) (x .b) (x .c) (x .d) (x .e) m) ⌝ }
 {
-    *wakes = [0; 32];
     let refusal = chapters::caller_refusal(x.call, x.mark, x.running);
     if refusal != scope::OK {
+        *wakes = [0; 32];
         return answers::plain(refusal, x.running);
     }
     ticks::tick(left, seat, joined, rings, waker, suspended, priority, wakes)

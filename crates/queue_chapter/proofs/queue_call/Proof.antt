@@ -1,7 +1,7 @@
 -- `queue_chapter::queue_call`: each call of the chapter by its number; the last is what is left when it is none of those before.
 -- Assumes nothing. Printed by tools/generate/run.
 use native.Mathlib.Omega.{arith}
-use mathlib.Core.Path.{_≡_}
+use mathlib.Core.Path.{_≡_, refl}
 use borrow.Author.Needs.{needs}
 use denote.Ref.{now}
 use Rattle.answers.proofs.Outcomes.{none-woken}
@@ -25,13 +25,13 @@ queue-ident-requires : tie.Need-queue-ident-requires
 queue-ident-requires c κs = search needs
 
 returns : tie.Need-returns
-returns c = λ s m. rw (c .before .before .before .before .before .before .match .keys1) (none-woken _ _ (c .before .before .before .before .before .before .before .pre .1) (c .queue-create .ensures (whole (c .before .before .before .before .before .before .before) s)))
+returns c = λ s m. rw (c .before .before .before .before .before .before .before .match .keys1) (none-woken _ _ refl (c .queue-create .ensures (whole (c .before .before .before .before .before .before .before .before) s)))
 
 returns-2 : tie.Need-returns-2
 returns-2 c = λ s m. rw (c .before .before .before .before .before .before .before .before .before .before .before .before .before .match .keys2) (c .queue-delete .ensures (whole (c .before .before .before .before .before .before .before .before .before .before .before .before .before .before) s))
 
 returns-3 : tie.Need-returns-3
-returns-3 c = λ s m. let h : c .before .before .before .before .before .args .x .call ≡ 22 = only 22 _ (past 21 _ (past 20 _ (omega arith) (c .before .before .before .before .match .rest .0 .1)) (c .before .before .before .before .match .rest .1)) (omega arith) in rw h (none-woken _ _ (c .before .before .before .before .before .pre .1) (c .queue-ident .ensures (whole (c .before .before .before .before .before) s)))
+returns-3 c = λ s m. let h : c .before .before .before .before .before .before .args .x .call ≡ 22 = only 22 _ (past 21 _ (past 20 _ (omega arith) (c .before .before .before .before .before .match .rest .0 .1)) (c .before .before .before .before .before .match .rest .1)) (omega arith) in rw h (none-woken _ _ refl (c .queue-ident .ensures (whole (c .before .before .before .before .before .before) s)))
 
 pub queue-call-spec : {M : Type 1} → statement M
 queue-call-spec =

@@ -20,13 +20,13 @@ plain-requires : tie.Need-plain-requires
 plain-requires c κs = search needs
 
 returns : tie.Need-returns
-returns c = λ s. answered-refused (whole s (c .before .before .before .before .before)) (c .before .before .before .before .before .args .x .call) (c .before .before .before .before .before .args .x .mark) (c .before .before .before .before .before .args .x .a) (c .before .before .before .before .before .args .x .b) (c .before .before .before .before .before .args .x .c) (c .before .before .before .before .before .args .x .d) (c .before .before .before .before .before .args .x .e) _ (now (c .before .before .before .before .before .args .message)) (c .before .before .caller-refusal .ensures) (c .before .if1 .taken) (none-shown _ _ _ (c .before .before .before .before .before .pre .1) (plain-of _ _ _ _ (c .plain .ensures)))
+returns c = λ s. answered-refused (whole s (c .before .before .before .before .before)) (c .before .before .before .before .before .args .x .call) (c .before .before .before .before .before .args .x .mark) (c .before .before .before .before .before .args .x .a) (c .before .before .before .before .before .args .x .b) (c .before .before .before .before .before .args .x .c) (c .before .before .before .before .before .args .x .d) (c .before .before .before .before .before .args .x .e) _ (now (c .before .before .before .before .before .args .message)) (c .before .before .before .caller-refusal .ensures) (c .before .before .if1 .taken) (none-shown _ _ _ (c .before .before .before .before .before .pre .1) (plain-of _ _ _ _ (c .plain .ensures)))
 
 send-call-requires : tie.Need-send-call-requires
 send-call-requires c κs = search needs
 
 returns-2 : tie.Need-returns-2
-returns-2 c = λ s. answered-does (whole s (c .before .before .before .before .before .before .before .before .before .before .before .before .before .before .before .before)) (c .before .before .before .before .before .before .before .before .before .before .before .before .before .before .before .before .args .x .call) (c .before .before .before .before .before .before .before .before .before .before .before .before .before .before .before .before .args .x .mark) (c .before .before .before .before .before .before .before .before .before .before .before .before .before .before .before .before .args .x .a) (c .before .before .before .before .before .before .before .before .before .before .before .before .before .before .before .before .args .x .b) (c .before .before .before .before .before .before .before .before .before .before .before .before .before .before .before .before .args .x .c) (c .before .before .before .before .before .before .before .before .before .before .before .before .before .before .before .before .args .x .d) (c .before .before .before .before .before .before .before .before .before .before .before .before .before .before .before .before .args .x .e) _ (now (c .before .before .before .before .before .before .before .before .before .before .before .before .before .before .before .before .args .message)) (c .before .before .before .before .before .before .before .before .before .before .before .before .before .caller-refusal .ensures) (c .before .before .before .before .before .before .before .before .before .before .before .before .if1 .left) (c .send-call .ensures (whole s (c .before .before .before .before .before .before .before .before .before .before .before .before .before .before .before .before)))
+returns-2 c = λ s. answered-does (whole s (c .before .before .before .before .before .before .before .before .before .before .before .before .before .before .before)) (c .before .before .before .before .before .before .before .before .before .before .before .before .before .before .before .args .x .call) (c .before .before .before .before .before .before .before .before .before .before .before .before .before .before .before .args .x .mark) (c .before .before .before .before .before .before .before .before .before .before .before .before .before .before .before .args .x .a) (c .before .before .before .before .before .before .before .before .before .before .before .before .before .before .before .args .x .b) (c .before .before .before .before .before .before .before .before .before .before .before .before .before .before .before .args .x .c) (c .before .before .before .before .before .before .before .before .before .before .before .before .before .before .before .args .x .d) (c .before .before .before .before .before .before .before .before .before .before .before .before .before .before .before .args .x .e) _ (now (c .before .before .before .before .before .before .before .before .before .before .before .before .before .before .before .args .message)) (c .before .before .before .before .before .before .before .before .before .before .before .before .before .caller-refusal .ensures) (c .before .before .before .before .before .before .before .before .before .before .before .before .if1 .left) (c .send-call .ensures (whole s (c .before .before .before .before .before .before .before .before .before .before .before .before .before .before .before)))
 
 pub send-part-spec : {M : Type 1} → statement M
 send-part-spec = tie.close (tie.spec caller-refusal-requires plain-requires returns send-call-requires returns-2)

@@ -20,13 +20,13 @@ plain-requires : tie.Need-plain-requires
 plain-requires c κs = search needs
 
 returns : tie.Need-returns
-returns c = λ s m. answered-refused (whole s (c .before .before .before .before)) (c .before .before .before .before .args .x .call) (c .before .before .before .before .args .x .mark) (c .before .before .before .before .args .x .a) (c .before .before .before .before .args .x .b) (c .before .before .before .before .args .x .c) (c .before .before .before .before .args .x .d) (c .before .before .before .before .args .x .e) _ m (c .before .before .caller-refusal .ensures) (c .before .if1 .taken) (plain-of _ _ _ _ (c .plain .ensures))
+returns c = λ s m. answered-refused (whole s (c .before .before .before .before)) (c .before .before .before .before .args .x .call) (c .before .before .before .before .args .x .mark) (c .before .before .before .before .args .x .a) (c .before .before .before .before .args .x .b) (c .before .before .before .before .args .x .c) (c .before .before .before .before .args .x .d) (c .before .before .before .before .args .x .e) _ m (c .before .before .before .caller-refusal .ensures) (c .before .before .if1 .taken) (plain-of _ _ _ _ (c .plain .ensures))
 
 tick-requires : tie.Need-tick-requires
 tick-requires c κs = search needs
 
 returns-2 : tie.Need-returns-2
-returns-2 c = λ s m. answered-does (whole s (c .before .before .before .before .before .before .before .before .before)) (c .before .before .before .before .before .before .before .before .before .args .x .call) (c .before .before .before .before .before .before .before .before .before .args .x .mark) (c .before .before .before .before .before .before .before .before .before .args .x .a) (c .before .before .before .before .before .before .before .before .before .args .x .b) (c .before .before .before .before .before .before .before .before .before .args .x .c) (c .before .before .before .before .before .before .before .before .before .args .x .d) (c .before .before .before .before .before .before .before .before .before .args .x .e) _ m (c .before .before .before .before .before .before .before .caller-refusal .ensures) (c .before .before .before .before .before .before .if1 .left) (rw (c .before .before .before .before .before .before .before .before .before .pre) (c .tick .ensures (whole s (c .before .before .before .before .before .before .before .before .before)) (c .before .before .before .before .before .before .before .before .before .args .x .running)))
+returns-2 c = λ s m. answered-does (whole s (c .before .before .before .before .before .before .before .before)) (c .before .before .before .before .before .before .before .before .args .x .call) (c .before .before .before .before .before .before .before .before .args .x .mark) (c .before .before .before .before .before .before .before .before .args .x .a) (c .before .before .before .before .before .before .before .before .args .x .b) (c .before .before .before .before .before .before .before .before .args .x .c) (c .before .before .before .before .before .before .before .before .args .x .d) (c .before .before .before .before .before .before .before .before .args .x .e) _ m (c .before .before .before .before .before .before .before .caller-refusal .ensures) (c .before .before .before .before .before .before .if1 .left) (rw (c .before .before .before .before .before .before .before .before .pre) (c .tick .ensures (whole s (c .before .before .before .before .before .before .before .before)) (c .before .before .before .before .before .before .before .before .args .x .running)))
 
 pub tick-part-spec : {M : Type 1} → statement M
 tick-part-spec = tie.close (tie.spec caller-refusal-requires plain-requires returns tick-requires returns-2)
