@@ -6,7 +6,6 @@
  */
 #include "images.h"
 
-#include <stdio.h>
 #include <string.h>
 
 #include "both.h"
