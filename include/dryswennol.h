@@ -6,8 +6,7 @@
  * text may lie at any address; an answer, a length and cells lie as C puts them.
  *
  * Nothing is kept between calls: no heap, no static data. So two threads may call at once, each with memory of its own, and a call
- * may interrupt another. No function needs 32 KiB of stack. The library needs nothing but `memcpy`, `memmove`
- * and `memset`.
+ * may interrupt another. No function needs 32 KiB of stack. The library needs nothing but `memcpy`, `memmove` and `memset`.
  */
 #ifndef DRYSWENNOL_H
 #define DRYSWENNOL_H
@@ -19,7 +18,7 @@
 extern "C" {
 #endif
 
-/* Some statuses; docs/CALLS.md has them all. Any but OK and PENDING is a refusal, which changes nothing. */
+/* Some statuses; docs/CALLS.md has them all. Of a step any but OK and PENDING is a refusal, which changes nothing. */
 enum {
     DRYSWENNOL_OK = 0,
     DRYSWENNOL_PENDING = 1,           /* the caller now waits */
@@ -51,8 +50,8 @@ typedef struct dryswennol_answer {
 /*
  * A fresh state: one task, 64, started, of this priority.
  *
- * 31: image_len is less than 9,920, and nothing is written. Else its image is in the first 9,920 bytes, those behind are as they were;
- * 0, or 19 where the priority is above 15: then the image is that of priority 0.
+ * Gives 31 where image_len is less than 9,920, and writes nothing. Else its image is written to the first 9,920 bytes, and those behind
+ * are as they were. Then it gives 0; or 19 where the priority is above 15, and the image is that of priority 0.
  */
 uint32_t dryswennol_fresh(uint32_t priority, uint8_t *image, size_t image_len);
 
@@ -61,9 +60,9 @@ uint32_t dryswennol_fresh(uint32_t priority, uint8_t *image, size_t image_len);
  * interrupt. Send and jump take as many bytes of `message` as their length says, and answer 27 where fewer are lent; no other call
  * looks at it. Gives the status, and in `answer` all of the answer, whose every byte is set.
  *
- * 32: the first 9,920 bytes are not the image of a state that keeps the rules, or there are fewer; the answer is that status
- * and zeros. A refused step, this one too, leaves every byte of the image. Else it is now the image of the state after the
- * call. Bytes behind the 9,920 are as they were.
+ * Gives 32 where the first 9,920 bytes are not the image of a state that keeps the rules, or where there are fewer: the answer is
+ * that status and zeros. A refused step, this one too, leaves every byte of the image. After any other it is the image of the
+ * state after the call. Bytes behind the 9,920 are as they were.
  */
 uint32_t dryswennol_step(uint8_t *image, size_t image_len, const uint8_t *message, size_t message_len, dryswennol_answer *answer,
     uint32_t call, uint32_t mark, uint32_t a, uint32_t b, uint32_t c, uint32_t d, uint32_t e);
@@ -72,8 +71,8 @@ uint32_t dryswennol_step(uint8_t *image, size_t image_len, const uint8_t *messag
  * The listing's line of an answer, with the number that it is to have, for an answer of any bytes: `negative` and `delivers` are a yes
  * unless 0, and where `woken` is above 32 it is read as 32.
  *
- * *length is the line's length, whatever out_len is. 0 where it fits: the line is at the start of `out`, the bytes behind it are as they
- * were. 31 where it does not: no byte of `out` is changed.
+ * *length is the line's length, whatever out_len is. Gives 0 where it fits: the line is at the start of `out`, the bytes behind it are
+ * as they were. Gives 31 where it does not: no byte of `out` is changed.
  */
 uint32_t dryswennol_line(uint32_t number, const dryswennol_answer *answer, uint8_t *out, size_t out_len, size_t *length);
 
@@ -81,8 +80,8 @@ uint32_t dryswennol_line(uint32_t number, const dryswennol_answer *answer, uint8
  * The listing of a script, for any bytes; where they are no script it is the one line `script refused`. It is the lines of the answers
  * that steps from the fresh state give.
  *
- * *length is the listing's length, whatever out_len is. 0 where it fits: the listing is at the start of `out`, the bytes behind it are
- * as they were. 31 where it does not: no byte of `out` is changed; lend *length bytes and call again.
+ * *length is the listing's length, whatever out_len is. Gives 0 where it fits: the listing is at the start of `out`, the bytes behind it
+ * are as they were. Gives 31 where it does not: no byte of `out` is changed; lend *length bytes and call again.
  * Where out_len is less than 793 bytes a record, the records are played twice: to measure, and to write.
  */
 uint32_t dryswennol_listing(const uint8_t *script, size_t script_len, uint8_t *out, size_t out_len, size_t *length);
