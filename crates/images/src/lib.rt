@@ -150,7 +150,7 @@ fn standing_from(image: &[u8; 9920]) -> Standing
         &mut seat,
         &mut joined,
     );
-    let mask = orders::ring_mask(&seat);
+    let mask = seats::ring_mask(&seat);
     let rings = [mask; 1];
     let line = Line {
         left,

@@ -2,9 +2,7 @@
 // one down. (specs/Places.antt.)
 ghost use mathlib.Core.Path.{_≡_};
 ghost use mathlib.Core.List.{List, [], _∷_, _++_};
-ghost use Prim.Native.Nat.{ℕ, suc, _^_, _<_};
-ghost use Rattle.scope.specs.Choice.{pick};
-ghost use Rattle.scope.specs.Seats.{holdsTask, ringMask};
+ghost use Prim.Native.Nat.{ℕ, suc, _<_};
 ghost use Rattle.orders.specs.Places.{orderPlaces, Told, ringTasks, markedAt, Placed};
 
 fn wide(x: u16) -> usize
@@ -86,28 +84,4 @@ pub fn ready_places(seat: &[u16; 32]) -> [u8; 32]
         n = put_ring(&table, p, &mut places, n);
     }
     places
-}
-
-// Bit `p` of a mask where ring `p` holds a task, else 0.
-fn ring_bit(q: &[u16; 32], p: u32) -> u16
-    requires { ⌜ p < 16 ⌝ }
-    ensures { λ r. ⌜ r ≡ pick (holdsTask (now (q .entry)) p) (2 ^ p) 0 ⌝ }
-{
-    if seats::is_taken(*q, (p * 64 + 2049) as u16) {
-        return 1u16 << p;
-    }
-    0
-}
-
-// The mask of the rings that hold a task.
-pub fn ring_mask(q: &[u16; 32]) -> u16
-    ensures { λ r. ⌜ r ≡ ringMask (now (q .entry)) ⌝ }
-{
-    let mut mask: u16 = 0;
-    let mut p: u32 = 0;
-    while p < 16 {
-        mask += ring_bit(q, p);
-        p += 1;
-    }
-    mask
 }

@@ -9,7 +9,7 @@ ghost use Prim.Native.Nat.{ℕ, _-_, _%_, _^_, _<_};
 ghost use lib.ListN.{getD};
 ghost use lib.Dec.{eqb, ltb, leb};
 ghost use Rattle.scope.specs.Choice.{pick, number};
-ghost use Rattle.scope.specs.Seats.{isOn, queueSeats, queueOf, onSeat, standing, holdsTask, ringMask};
+ghost use Rattle.scope.specs.Seats.{isOn, queueSeats, queueOf, onSeat, standing};
 ghost use Rattle.scope.specs.Objects.{queueObject, ofObject};
 ghost use Rattle.scope.specs.Views.{readyWith, less};
 ghost use Rattle.scope.specs.Queues.{areLimits};
@@ -126,35 +126,11 @@ fn ready_order_right(
     ok
 }
 
-// Bit `p` of a mask where ring `p` holds a task, else 0.
-fn ring_bit(q: &[u16; 32], p: u32) -> u16
-    requires { ⌜ p < 16 ⌝ }
-    ensures { λ r. ⌜ r ≡ pick (holdsTask (now (q .entry)) p) (2 ^ p) 0 ⌝ }
-{
-    if seats::is_taken(*q, (p * 64 + 2049) as u16) {
-        return 1u16 << p;
-    }
-    0
-}
-
-// The mask of the rings that hold a task.
-fn ring_mask(q: &[u16; 32]) -> u16
-    ensures { λ r. ⌜ r ≡ ringMask (now (q .entry)) ⌝ }
-{
-    let mut mask: u16 = 0;
-    let mut p: u32 = 0;
-    while p < 16 {
-        mask += ring_bit(q, p);
-        p += 1;
-    }
-    mask
-}
-
 // The kept mask is that of the rings that hold a task.
 fn rings_right(seat: &[u16; 32], rings: &[u16; 1]) -> bool
     ensures { λ r. ⌜ ((left joined : List ℕ) → r ≡ ringsRight (lineOf left (now (seat .entry)) joined (now (rings .entry)))) ⌝ }
 {
-    rings[0] == ring_mask(seat)
+    rings[0] == seats::ring_mask(seat)
 }
 
 // What a row of the semaphores and one of the queues hold for object `i`; false where there is none.

@@ -6,11 +6,11 @@ ghost use mathlib.Core.Logic.{_⊎_};
 ghost use mathlib.Core.Bool.{_&&_};
 ghost use mathlib.Core.List.{List, map};
 ghost use lib.ListN.{set};
-ghost use Prim.Native.Nat.{ℕ, _+_, _*_, _/_, _<_};
+ghost use Prim.Native.Nat.{ℕ, _+_, _*_, _/_, _^_, _<_};
 ghost use lib.Dec.{ltb, leb};
 ghost use Rattle.scope.specs.Choice.{pick, hasBit};
 ghost use Rattle.scope.specs.Seats.{lower, raise, leaves, joins, becomesReady, aheadOf, onSeat, firstOf, standing, runnerOf, waitsOn, queueSeats, seatsEnd};
-ghost use Rattle.scope.specs.Seats.{maskFilled, maskEmptied, ringsLeft, ringsReady, firstRing, ringOf};
+ghost use Rattle.scope.specs.Seats.{maskFilled, maskEmptied, ringsLeft, ringsReady, firstRing, ringOf, holdsTask, ringMask};
 
 // The way from seat `x` on to seat `y`; to a seat before `x` it wraps.
 fn way(x: u16, y: u16) -> u16
@@ -397,4 +397,28 @@ pub fn waits_on(x: u16) -> bool
         return x < 2048;
     }
     false
+}
+
+// Bit `p` of a mask where ring `p` holds a task, else 0.
+fn ring_bit(q: &[u16; 32], p: u32) -> u16
+    requires { ⌜ p < 16 ⌝ }
+    ensures { λ r. ⌜ r ≡ pick (holdsTask (now (q .entry)) p) (2 ^ p) 0 ⌝ }
+{
+    if is_taken(*q, (p * 64 + 2049) as u16) {
+        return 1u16 << p;
+    }
+    0
+}
+
+// The mask of the rings that hold a task.
+pub fn ring_mask(q: &[u16; 32]) -> u16
+    ensures { λ r. ⌜ r ≡ ringMask (now (q .entry)) ⌝ }
+{
+    let mut mask: u16 = 0;
+    let mut p: u32 = 0;
+    while p < 16 {
+        mask += ring_bit(q, p);
+        p += 1;
+    }
+    mask
 }

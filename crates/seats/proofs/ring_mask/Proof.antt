@@ -1,4 +1,4 @@
--- `rules::ring_mask`: before each turn the loop holds the mask of the rings passed.
+-- `seats::ring_mask`: before each turn the loop holds the mask of the rings passed.
 -- Assumes nothing.
 use Prim.Native.Nat.{ℕ, _+_, _-_, _^_, _≤_}
 use native.Mathlib.Omega.{arith}
@@ -9,8 +9,8 @@ use borrow.Author.Needs.{needs}
 use Rattle.laws.proofs.Bits.{bits-lt}
 use Rattle.scope.specs.Choice.{bits}
 use Rattle.scope.specs.Seats.{holdsTask, ringMask}
-use Rattle.rules.proofs.ring_mask.Statement.{statement}
-use Rattle.rules.proofs.ring_mask.Tie as tie
+use Rattle.seats.proofs.ring_mask.Statement.{statement}
+use Rattle.seats.proofs.ring_mask.Tie as tie
 
 abbrev Inv-loop : tie.InvT-loop
 Inv-loop q mask₀ p₀ mask p = (p ≤ 16) × (mask ≡ bits (holdsTask q) p)

@@ -1,4 +1,4 @@
--- `orders::ring_bit`: the seat asked for is the ring's first, and a bit below the sixteenth is there.
+-- `seats::ring_bit`: the seat asked for is the ring's first, and a bit below the sixteenth is there.
 -- Assumes nothing.
 use Prim.Native.Nat.{ℕ, _+_, _*_}
 use native.Mathlib.Omega.{arith}
@@ -9,8 +9,8 @@ use borrow.Author.Needs.{needs}
 use Rattle.laws.proofs.Branches.{pick-yes, pick-no}
 use Rattle.laws.proofs.Bits.{bit-fits}
 use Rattle.scope.specs.Seats.{onSeat, ringSeats, holdsTask}
-use Rattle.orders.proofs.ring_bit.Statement.{statement}
-use Rattle.orders.proofs.ring_bit.Tie as tie
+use Rattle.seats.proofs.ring_bit.Statement.{statement}
+use Rattle.seats.proofs.ring_bit.Tie as tie
 
 mul-is-taken : tie.Need-mul-is-taken
 mul-is-taken c = search needs
