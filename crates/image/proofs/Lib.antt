@@ -3,3 +3,4 @@ pub mod Order
 pub mod Back
 pub mod Image
 pub mod Tests
+pub mod Front
