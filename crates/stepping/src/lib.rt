@@ -1,0 +1,233 @@
+// The kernel for C, on numbers and bytes: a fresh image, and a step that changes an image in place and gives its answer as bytes.
+// (specs/Steps.antt, specs/Answers.antt.)
+use answers::Outcome;
+ghost use mathlib.Core.Path.{_≡_};
+ghost use mathlib.Core.Bool.{false};
+ghost use Prim.Native.Nat.{_≤_};
+ghost use lib.ListN.{length, take};
+ghost use lib.Seq.{sets};
+ghost use Rattle.scope.specs.Rules.{sound};
+ghost use Rattle.scope.specs.Step.{answered};
+ghost use Rattle.scope.specs.Fresh.{fresh};
+ghost use Rattle.columns.specs.Columns.{part};
+ghost use Rattle.image.specs.Image.{imageOf, imageSize};
+ghost use Rattle.image.specs.Reading.{stateFrom};
+ghost use Rattle.stepping.specs.Answers.{answerBytes, numbersBy};
+ghost use Rattle.stepping.specs.Steps.{ToldBy, StepsTo, badAnswer, stepsOn, freshes};
+
+const NO_ROOM: u32 = 31;
+
+const BAD_IMAGE: u32 = 32;
+
+// What a step makes of an image: whether its state keeps the rules, the running task after the step, and the outcome.
+struct Taken {
+    good: bool,
+    running: u32,
+    outcome: Outcome,
+}
+
+fn keep(good: bool, running: u32, outcome: Outcome) -> Taken
+    ensures { λ r. ⌜ r ≡ (record { good = good; running = running; outcome = outcome }) ⌝ }
+{
+    Taken {
+        good,
+        running,
+        outcome,
+    }
+}
+
+// The step of the state that stands in an image's bytes, which then are the image of the state after it. The state is kept here, and lent as
+// one thing.
+fn step_image(
+    image: &mut [u8; 9920],
+    wakes: &mut [u32; 32],
+    shown: &mut [u8; 64],
+    message: &[u8],
+    call: u32,
+    mark: u32,
+    a: u32,
+    b: u32,
+    c: u32,
+    d: u32,
+    e: u32,
+) -> Taken
+    requires { ⌜ length (now image) ≡ imageSize ⌝ }
+    ensures { λ r. ⌜ (r .good ≡ sound (stateFrom (now (image .entry))))
+        × ((now (image .exit) ≡ imageOf (answered (stateFrom (now (image .entry))) call mark a b c d e (now (message .entry)) .state))
+        × ToldBy (answered (stateFrom (now (image .entry))) call mark a b c d e (now (message .entry))) (now (wakes .exit)) (now (shown .exit)) (r .outcome) (r .running)) ⌝ }
+{
+    let mut s = images::state_from(image);
+    let good = kernel::is_sound(&mut s);
+    let o = kernel::perform(&mut s, wakes, shown, message, call, mark, a, b, c, d, e);
+    let running = lending::runner(&mut s);
+    writing::put(&mut s, image);
+    keep(good, running, o)
+}
+
+// The numbers of an answer, in their order.
+fn numbers_of(o: Outcome, running: u32) -> [u32; 11]
+    requires { ⌜ o .woken ≤ 32 ⌝ }
+    ensures { λ r. ⌜ r ≡ numbersBy o running ⌝ }
+{
+    let v = o.values;
+    [
+        o.status,
+        v[0],
+        v[1],
+        v[2],
+        v[3],
+        answers::bit(o.negative),
+        running,
+        o.woken as u32,
+        o.why,
+        answers::bit(o.delivers),
+        o.length,
+    ]
+}
+
+// An answer's bytes.
+fn put_answer(answer: &mut [u8; 236], numbers: &[u32; 11], wakes: &[u32; 32], shown: &[u8; 64])
+    ensures { λ _. ⌜ now (answer .exit) ≡ answerBytes (now (numbers .entry)) (now (wakes .entry)) (now (shown .entry)) ⌝ }
+{
+    columns::put_u32s(answer, 0, 4, numbers);
+    columns::put_u32s(answer, 44, 4, wakes);
+    columns::put_rows(answer, 172, 64, 1, 64, shown);
+}
+
+// 32: a status, and nobody runs.
+fn refuse(answer: &mut [u8; 236]) -> u32
+    ensures { λ r. ⌜ (now (answer .exit) ≡ badAnswer) × (r ≡ 32) ⌝ }
+{
+    let wakes = [0u32; 32];
+    let shown = [0u8; 64];
+    let numbers = [BAD_IMAGE, 0, 0, 0, 0, 0, 0, 0, 0, 0, 0];
+    put_answer(answer, &numbers, &wakes, &shown);
+    BAD_IMAGE
+}
+
+// The step through an image that has its own bytes. They are left as the step leaves them where they are an image, and as anything else
+// where they are none.
+fn step_own(
+    image: &mut [u8; 9920],
+    message: &[u8],
+    answer: &mut [u8; 236],
+    call: u32,
+    mark: u32,
+    a: u32,
+    b: u32,
+    c: u32,
+    d: u32,
+    e: u32,
+) -> u32
+    requires { ⌜ length (now image) ≡ imageSize ⌝ }
+    ensures { λ r. ⌜ StepsTo (now (image .entry)) (stepsOn (now (image .entry)) call mark a b c d e (now (message .entry))) (now (image .exit)) (now (answer .exit)) r ⌝ }
+{
+    let mut wakes = [0u32; 32];
+    let mut shown = [0u8; 64];
+    let written = images::is_written(image);
+    let t = step_image(
+        image,
+        &mut wakes,
+        &mut shown,
+        message,
+        call,
+        mark,
+        a,
+        b,
+        c,
+        d,
+        e,
+    );
+    if t.good & written {
+        let o = t.outcome;
+        let numbers = numbers_of(o, t.running);
+        put_answer(answer, &numbers, &wakes, &shown);
+        return o.status;
+    }
+    refuse(answer)
+}
+
+// The first bytes of a slice, as many as an image has.
+fn front(image: &[u8]) -> [u8; 9920]
+    requires { ⌜ imageSize ≤ length (now image) ⌝ }
+    ensures { λ r. ⌜ r ≡ take imageSize (now (image .entry)) ⌝ }
+{
+    let mut own = [0u8; 9920];
+    columns::copy(&mut own, 0, image, 0, 9920);
+    own
+}
+
+// And back.
+fn put_front(image: &mut [u8], own: &[u8; 9920])
+    requires { ⌜ imageSize ≤ length (now image) ⌝ }
+    ensures { λ _. ⌜ now (image .exit) ≡ sets (now (image .entry)) 0 (part imageSize 0 (now (own .entry))) ⌝ }
+{
+    columns::copy(image, 0, own, 0, 9920);
+}
+
+// The step of the state that stands in the image, in place; the answer is written beside it, and its status answered. 32 where the bytes
+// are no image, and a refused step leaves every byte of it.
+pub fn step(
+    image: &mut [u8],
+    message: &[u8],
+    answer: &mut [u8; 236],
+    call: u32,
+    mark: u32,
+    a: u32,
+    b: u32,
+    c: u32,
+    d: u32,
+    e: u32,
+) -> u32
+    ensures { λ r. ⌜ (record { image = now (image .exit); answer = now (answer .exit); status = r })
+        ≡ stepsOn (now (image .entry)) call mark a b c d e (now (message .entry)) ⌝ }
+{
+    if image.len() < 9920 {
+        return refuse(answer);
+    }
+    let mut own = front(image);
+    let status = step_own(&mut own, message, answer, call, mark, a, b, c, d, e);
+    if 1 < status {
+        return status;
+    }
+    put_front(image, &own);
+    status
+}
+
+// "Asked with a priority above 15, the answer is 19".
+fn fresh_status(priority: u32) -> u32
+    ensures { λ r. ⌜ r ≡ fresh priority .status ⌝ }
+{
+    if 15 < priority {
+        return scope::INVALID_PRIORITY;
+    }
+    scope::OK
+}
+
+// The image of the fresh state, over bytes of our own.
+fn fresh_image(image: &mut [u8; 9920], priority: u32) -> u32
+    requires { ⌜ length (now image) ≡ imageSize ⌝ }
+    ensures { λ r. ⌜ (r ≡ 9920) × (now (image .exit) ≡ imageOf (fresh priority .state)) ⌝ }
+{
+    let mut s = kernel::fresh_value(priority);
+    writing::put(&mut s, image)
+}
+
+fn blank() -> [u8; 9920]
+    ensures { λ r. ⌜ length r ≡ imageSize ⌝ }
+{
+    [0; 9920]
+}
+
+// The image of the fresh state, at the start of the slice; the status is answered, "31 before 19".
+pub fn fresh(priority: u32, image: &mut [u8]) -> u32
+    ensures { λ r. ⌜ (record { bytes = now (image .exit); status = r }) ≡ freshes priority (now (image .entry)) ⌝ }
+{
+    if image.len() < 9920 {
+        return NO_ROOM;
+    }
+    let mut own = blank();
+    fresh_image(&mut own, priority);
+    put_front(image, &own);
+    fresh_status(priority)
+}
