@@ -1,0 +1,2 @@
+-- The line of an answer's bytes, and how text is lent.
+pub mod Lines
