@@ -14,20 +14,20 @@ struct writer {
     size_t length; /* counts on past the room */
 };
 
-static inline void put_sign(struct writer *w, char sign)
+static void put_sign(struct writer *w, char sign)
 {
     if (w->length < w->room)
         w->out[w->length] = sign;
     w->length++;
 }
 
-static inline void put_text(struct writer *w, const char *text)
+static void put_text(struct writer *w, const char *text)
 {
     for (; *text != 0; text++)
         put_sign(w, *text);
 }
 
-static inline void put_number(struct writer *w, int64_t number)
+static void put_number(struct writer *w, int64_t number)
 {
     char digits[20];
     int count = 0;
@@ -43,7 +43,7 @@ static inline void put_number(struct writer *w, int64_t number)
         put_sign(w, digits[--count]);
 }
 
-static inline void put_field(struct writer *w, int64_t number)
+static void put_field(struct writer *w, int64_t number)
 {
     put_sign(w, ' ');
     put_number(w, number);
