@@ -5,10 +5,10 @@ from walk import chain, path
 
 CRATE = 'stepping'
 FRESH = [('fv', 'kernel', 'fresh_value', False), ('pu', 'writing', 'put', False)]
-CALLS = [('sf', 'images', 'state_from', False), ('so', 'kernel', 'is_sound', False), ('pf', 'kernel', 'perform', False), ('ru', 'lending', 'runner', False), ('pu', 'writing', 'put', False), ('to', CRATE, 'keep', True)]
+CALLS = [('fv', 'kernel', 'fresh_value', False), ('ta', 'taking', 'take', False), ('so', 'kernel', 'is_sound', False), ('pf', 'kernel', 'perform', False), ('ru', 'lending', 'runner', False), ('pu', 'writing', 'put', False), ('to', CRATE, 'keep', True)]
 # the locals in the order of the MIR: the answer, the parameters, the state and what is known of it, and what is passed
-NAMES = 'res image wakes shown message n0 n1 n2 n3 n4 n5 n6 s good o id made ishr ref1 ref2 wref href ref3 len ref4 iref'.split()
-TYPES = 'tkTy imTy wRef hRef msTy num num num num num num num stTy tyBool oTy num stTy refJ refS refS refW refH refS num refS refI'.split()
+NAMES = 'res image wakes shown message n0 n1 n2 n3 n4 n5 n6 s good o id made took ref0 ishr ref1 ref2 wref href ref3 len ref4 iref'.split()
+TYPES = 'tkTy imTy wRef hRef msTy num num num num num num num stTy tyBool oTy num stTy word refS refJ refS refS refW refH refS num refS refI'.split()
 I = {n: i for i, n in enumerate(NAMES)}
 N = len(NAMES)
 X7 = ['x ' + path(i) for i in range(7)]
@@ -58,6 +58,7 @@ use Rattle.answers.specs.Outcomes.{{answerShown}}
 use Rattle.answers.proofs.Outcome as O
 use Rattle.answers.proofs.Outcome.Laws as O′
 use Rattle.scope.specs.declared.Answer.{{Answer}}
+use Rattle.scope.specs.Fresh.{{fresh}}
 use Rattle.scope.specs.Rules.{{sound as isSound}}
 use Rattle.scope.specs.Step.{{answered}}
 use Rattle.scope.specs.Views.{{runningTask}}
@@ -99,6 +100,9 @@ wTy = tyArray (tyInt w32) 32
 
 abbrev hTy : Ty
 hTy = tyArray (tyInt w8) 64
+
+abbrev word : Ty
+word = tyInt w64
 
 abbrev refJ : Ty
 refJ = tyRef erased imm (tyArray (tyInt w8) 9920)
@@ -204,9 +208,16 @@ def facts(w):
   abbrev Said : Z → Outcome → Type 0
   Said z r = (answerShown (z .0) (z .1 .0) (z .1 .1 .0) r ≡ a₀) × (z .0 .running ≡ r .runs)
 
-  module _ (k : Keys (csI o)) where
-    abbrev to-sf : Gsf 𝓤 H A at-mem run .Ghost
-    to-sf = (((k .0 .0 ∷ [], tt), (fullShare, tt), tt, (record {{ ptr = (b, o); name = k .0 .1; now = im }}, tt), (vptr b o ∷ [], tt)), tt)
+  -- the state before it is taken
+  abbrev f₀ : State
+  f₀ = fresh 0 .state
+
+  abbrev to-fv : Gfv 𝓤 H A at-mem run .Ghost
+  to-fv = ((tt, tt, tt, (0, tt), (vint w32 0 ∷ [], tt)), tt)
+
+  module _ (l : ℕ) (k : Keys csS) (i : Keys (csI o)) where
+    abbrev to-ta : Gta 𝓤 H A at-mem run .Ghost
+    to-ta = (((k .0 .0 ∷ [], (i .0 .0 ∷ [], tt)), (fullShare, (fullShare, tt)), tt, (record {{ ptr = (l, 0); name = k .0 .1; now = f₀ }}, (record {{ ptr = (b, o); name = i .0 .1; now = im }}, tt)), (vptr l 0 ∷ [], (vptr b o ∷ [], tt))), tt)
 
   module _ (l : ℕ) (k : Keys csS) (d : State) where
     abbrev lent : RefT State
@@ -275,12 +286,12 @@ def reads(W, s, nm, ref, to, d, isd, k, y, row, law, tells, said, is_):
     w('\n')
 
 
-def made(W, s, to, nm, d, d0, land):
+def made(W, s, to, d, d0, land, isd='isD'):
     """What a call answered is the local state."""
     owes = f'LL.owes S.the-type S′.the-laws {d} (LL.owed S.the-type S′.the-laws {d} _ isM)'
     W.w(f'''        land ! (from ! (stop !)) (init ! {W.L(land)} refl (LL.lawful S.the-type S′.the-laws 𝓤 H A W .typed {d} _ isM .0)) $ rewrite ! {W.L(land)} (λ (u : Val). ‵ (fat fullShare stTy l{land} 0 u)) (ap only (LL.tells S.the-type S′.the-laws {d} _ isM)) refl $ drop ! $
         '''); W.ctx.pop(0)
-    W.w(f'assigns ! (of-opd ! {W.ld(land)}) (from ! (stop !)) (init ! {W.L(to)} refl {lawS(d, "(" + owes + ")")}) $ forget ! {W.L(land)} refl $ rewrite ! {W.L(to)} (λ (x : State). ‵ (fat fullShare stTy {s} 0 (val x))) is-d refl $\n        let isD : IsS {d0} = subst (λ (x : State). IsS x) is-d ({owes}) in\n')
+    W.w(f'assigns ! (of-opd ! {W.ld(land)}) (from ! (stop !)) (init ! {W.L(to)} refl {lawS(d, "(" + owes + ")")}) $ forget ! {W.L(land)} refl $ rewrite ! {W.L(to)} (λ (x : State). ‵ (fat fullShare stTy {s} 0 (val x))) is-d refl $\n        let {isd} : IsS {d0} = subst (λ (x : State). IsS x) is-d ({owes}) in\n')
 
 
 def written(W, s, ref, iref, image, to, d, isd, ln, k='k₄'):
@@ -316,16 +327,29 @@ def stepped():
     W.move('ins'); w('fsplit ! $ '); W.head(1, 'im', 'T₀'); w('fsplit3 ! $ drop ! $ '); W.head(1, 'obs', 'bor')
     # the image is opened and read
     W.move('obs', 'bor', 'tk'); w('open-ref ! tt (mem ImageT) {x = im} {b = b} {o = o} $\n        '); W.head(3, 'lies', 'obor', 'obs', 'auth')
-    w(f'assigns ! (addr ! (from ! (hop ! (look ! {L("image")} refl) (stop !)))) {put("ishr")} (tt, tt)) $\n        ')
-    W.move('lies'); w('nothing ! $ move ! (1 ∷ 0 ∷ []) $ fjoin ! $ nothing ! $ nothing ! $ '); W.head(1, 'P', 'T', 'lie'); W.move('lie', 'P', 'T')
-    w(f'\n        use3 W (later (some (λ (k : Keys (csI o)). ‵ (tokens (csI o) k ftrue) ⊛ ‵ (shared b (csI o) (im, tt) k ftrue) ⊛ ‵ (kept-shared b (csI o) (im, tt) k)))) (lends-shared b 𝓤 H A W ftrue ftrue (csI o) (im, tt)) $ await ! tt $ pick ! (λ k₀. split3 ! $\n'); W.head(3, 'P', 'T', 'kept'); W.close += 1
-    w('        use2 W (raw (Gsf 𝓤 H A at-mem run .pre (to-sf k₀))) (qed W (‵ (tokens (csI o) k₀ ftrue) ∷ ‵ (shared b (csI o) (im, tt) k₀ ftrue) ∷ []) ∵ join ! $ frame ! $ done !) $\n'); W.head(2, 'pre')
-    w(f'''        calls-at ! fm (Gsf 𝓤 H A at-mem run) known-sf (to-sf k₀) {ands([ld('ishr')])} (λ v₁.
-        use1 W (later (some (λ (d : State). (‵ (tokens (csI o) k₀ ftrue) ⊛ ‵ (R .own d (v₁ ∷ []))) ⊛ raw (ensured 𝓤 H A sf.ended (sf.clauses 𝓤 H A at-mem run) (to-sf k₀ .0 .0) (to-sf k₀ .0 .3) tt d)))) (id⊢ 𝓤 _) $ await ! tt $ pick ! (λ d.
-        split ! $ move ! (1 ∷ []) $ use1 W (some (λ (z : {units(1)}). ‵ (silent (csI o) ftrue) ⊛ raw (fact 𝓤 (d ≡ d₀)))) (id⊢ 𝓤 _) $ pick ! (λ z-sf. split ! $ move ! (1 ∷ []) $ heard ! (d ≡ d₀) (λ is-d.
-        move ! (1 ∷ []) $ split ! $ move ! (1 ∷ []) $ peeks ! R (Is R) (shows 𝓤 H A R) d (v₁ ∷ []) (λ isM.
+    w('nothing ! $ owned ! u32 (Is u32) (uint-makes 𝓤 H A W w32) 0 _ (refl, lit< tt) $ fjoin ! $ nothing ! $\n        use2 W (raw (Gfv 𝓤 H A at-mem run .pre to-fv)) (qed W (‵ ftrue ∷ ‵ (owns (u32 ∷ []) (0, tt) (vint w32 0 ∷ [], tt)) ∷ []) ∵ join ! $ frame ! $ done !) $\n'); W.push('pre')
+    w(f'''        calls-at ! fm (Gfv 𝓤 H A at-mem run) known-fv to-fv {ands(['(lit ! tt)'])} (λ v₁.
+        use1 W (later (some (λ (d : State). (‵ ftrue ⊛ ‵ (R .own d (v₁ ∷ []))) ⊛ raw (ensured 𝓤 H A fv.ended (fv.clauses 𝓤 H A at-mem run) tt (0, tt) tt d)))) (id⊢ 𝓤 _) $ await ! tt $ pick ! (λ d.
+        split ! $ move ! (1 ∷ []) $ use1 W (some (λ (z : {units(1)}). ‵ ({trues(1)}) ⊛ raw (fact 𝓤 (d ≡ f₀)))) (id⊢ 𝓤 _) $ pick ! (λ z-fv. split ! $ drop ! $ heard ! (d ≡ f₀) (λ is-d.
+        split ! $ drop ! $ peeks ! R (Is R) (shows 𝓤 H A R) d (v₁ ∷ []) (λ isM.
+'''); W.head(1, 'own1'); W.close += 5
+    made(W, S, I['s'], 'd', 'f₀', I['made'], 'isF₀')
+    w('        '); W.move('lies'); w('nothing ! $ move ! (1 ∷ 0 ∷ []) $ fjoin ! $ nothing ! $ nothing ! $ '); W.head(1, 'P', 'T', 'lie'); W.move('lie', 'P', 'T')
+    w(f'\n        use3 W (later (some (λ (k : Keys (csI o)). ‵ (tokens (csI o) k ftrue) ⊛ ‵ (shared b (csI o) (im, tt) k ftrue) ⊛ ‵ (kept-shared b (csI o) (im, tt) k)))) (lends-shared b 𝓤 H A W ftrue ftrue (csI o) (im, tt)) $ await ! tt $ pick ! (λ k₀. split3 ! $\n'); W.head(3, 'P', 'T', 'keptI'); W.close += 1
+    pI, tI, lI = '(tokens (csI o) k₀ ftrue)', '(shared b (csI o) (im, tt) k₀ ftrue)', '(silent (csI o) ftrue)'
+    lends(W, S, I['ref0'], 'kT', 'f₀', 'isF₀', pI, tI)
+    w(f'        assigns ! (addr ! (from ! (hop ! (look ! {L("image")} refl) (stop !)))) {put("ishr")} (tt, tt)) $\n        ')
+    W.move('P', 'T'); w(f'use2 W (raw (Gta 𝓤 H A at-mem run .pre (to-ta {S} kT k₀))) (qed W (‵ (tokens csS kT {pI}) ∷ ‵ (refs {S} csS (f₀, tt) kT {tI}) ∷ []) ∵ join ! $ frame ! $ done !) $\n'); W.head(2, 'pre')
+    fact = lambda z: f'(({z} .0 ≡ d₀) × (n-ta ≡ 9888))'
+    w(f'''        calls-at ! fm (Gta 𝓤 H A at-mem run) known-ta (to-ta {S} kT k₀) {ands([ld('ref0'), ld('ishr')])} (λ v-ta.
+        use1 W (later (some (λ (n-ta : ℕ). (‵ (tokens csS kT {pI}) ⊛ ‵ (usize .own n-ta (v-ta ∷ []))) ⊛ raw (ensured 𝓤 H A ta.ended (ta.clauses 𝓤 H A at-mem run) (to-ta {S} kT k₀ .0 .0) (to-ta {S} kT k₀ .0 .3) tt n-ta)))) (id⊢ 𝓤 _) $ await ! tt $ pick ! (λ n-ta.
+        split ! $ move ! (1 ∷ []) $ use1 W (some (λ (u : State × (Unit {{0}} × Unit {{0}})). ‵ (lasts csS (u .0, tt) kT {lI}) ⊛ raw (fact 𝓤 {fact('u')}))) (id⊢ 𝓤 _) $ pick ! (λ z-ta.
+        split ! $ move ! (1 ∷ []) $ heard ! {fact('z-ta')} (λ is-ta. rewrite ! 0 (λ (x : State). ‵ (lasts csS (x, tt) kT {lI})) (is-ta .0) refl $ move ! (1 ∷ []) $ split ! $ move ! (1 ∷ []) $ peeks ! usize (Is usize) (shows 𝓤 H A usize) n-ta (v-ta ∷ []) (λ it-ta.
 '''); W.head(1, 'own1', 'P', 'T'); W.close += 5
-    made(W, S, I['s'], 'sf', 'd', 'd₀', I['made'])
+    w(f'        land ! {put("took")} (uint-lawful 𝓤 H A W w64 .typed n-ta _ it-ta .0)) $ drop ! $\n        '); W.ctx.pop(0)
+    back(W, S, 'kT', 'd₀', pI, lI, 'isD')
+    W.ctx = ['kept' if c == 'keptI' else c for c in W.ctx]
+    w('\n')
     w('        '); W.move('P', 'kept', 'T'); w('use3 W (later (‵ (lie b (csI o) (im, tt)) ⊛ ‵ ftrue ⊛ ‵ ftrue)) (backs-shared b 𝓤 H A W ftrue ftrue (csI o) (im, tt) k₀) $ await ! tt $ split3 ! $ fsplit ! $ '); W.head(3, 'lies', 'x', 'P', 'T')
     for c in ('x', 'P', 'T'): W.move(c); w('drop ! $ '); W.ctx.pop(0)
     W.move('lies', 'obor', 'obs', 'auth'); w('close-ref ! tt (mem ImageT) im {b = b} {o = o} $ '); W.head(4, 'obs', 'bor', 'tk')
@@ -456,7 +480,7 @@ stayed = (gave-ref (0 ∷ []) tt (plain (λ _. ImageT)), (stay-dropped (plain (�
         split ! $ move ! (1 ∷ []) $ use1 W (some (λ (z : {units(1)}). ‵ ({trues(1)}) ⊛ raw (fact 𝓤 (d ≡ d₀)))) (id⊢ 𝓤 _) $ pick ! (λ z-fv. split ! $ drop ! $ heard ! (d ≡ d₀) (λ is-d.
         split ! $ drop ! $ peeks ! R (Is R) (shows 𝓤 H A R) d (v₁ ∷ []) (λ isM.
 '''); W.head(1, 'own1'); W.close += 5
-    made(W, 'l3', 3, 'fv', 'd', 'd₀', 4)
+    made(W, 'l3', 3, 'd', 'd₀', 4)
     w('        nothing ! $ '); W.push('z'); W.join('im', 'z', 'T'); w('\n'); W.ctx = ['P' if c == 'P₁' else c for c in W.ctx]
     written(W, 'l3', 5, 6, 1, 0, 'd₀', 'isD', None)
     want = ['P', 'endI', 'res']

@@ -56,7 +56,8 @@ fn step_image(
         × ((now (image .exit) ≡ imageOf (answered (stateFrom (now (image .entry))) call mark a b c d e (now (message .entry)) .state))
         × ToldBy (answered (stateFrom (now (image .entry))) call mark a b c d e (now (message .entry))) (now (wakes .exit)) (now (shown .exit)) (r .outcome) (r .running)) ⌝ }
 {
-    let mut s = images::state_from(image);
+    let mut s = kernel::fresh_value(0);
+    taking::take(&mut s, image);
     let good = kernel::is_sound(&mut s);
     let o = kernel::perform(&mut s, wakes, shown, message, call, mark, a, b, c, d, e);
     let running = lending::runner(&mut s);
