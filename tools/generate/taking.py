@@ -41,7 +41,7 @@ ghost use Rattle.taking.specs.Taken.{tasksTaken, semsTaken, poolsTaken, 
         o += f'\n// {words}, into the columns.\nfn {n}_part(\n' + ''.join(f'    {c}: &mut {array(g, c)},\n' for g, c, _ in cl) + '    image: &[u8; 9920],\n) -> usize\n'
         o += f'    ensures {{ λ r. ⌜ {made} × {told}{")" * (len(gs) - 1)} ⌝ }}\n{{\n'.replace(') × (', ')\n        × (', 1) if len(gs) > 1 else f'    ensures {{ λ r. ⌜ {made} × {told} ⌝ }}\n{{\n'
         o += f'    image::take_{n}({line});\n' if len(line) <= 60 else f'    image::take_{n}(\n' + ''.join(f'        {x},\n' for x in take) + '    );\n'
-        o += f'    {after}\n}}\n' if after else '    let mask = orders::ring_mask(seat);\n    *rings = [mask];\n    seats::runner(seat, mask)\n}\n'
+        o += f'    {after}\n}}\n' if after else '    let mask = seats::ring_mask(seat);\n    *rings = [mask];\n    seats::runner(seat, mask)\n}\n'
         told = f'(r ≡ {after})' if after else '(r ≡ now (s .exit) .running)'
         o += f'\npub fn take_{n}(s: &mut State, image: &[u8; 9920]) -> usize\n    ensures {{ λ r. ⌜ (now (s .exit) ≡ {is_} (now (s .entry)) (now (image .entry))) × {told} ⌝ }}\n{{\n    '
         o += ('' if after else 'let running = ') + f'{n}_part(\n' + ''.join(f'        &mut s.{table(g)[2]}.{c},\n' for g, c, _ in cl) + '        image,\n    )' + ('\n}\n' if after else ';\n    s.running = running;\n    running\n}\n')

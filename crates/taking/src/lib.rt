@@ -36,7 +36,7 @@ fn tasks_part(
         seat,
         joined,
     );
-    let mask = orders::ring_mask(seat);
+    let mask = seats::ring_mask(seat);
     *rings = [mask];
     seats::runner(seat, mask)
 }
