@@ -1,6 +1,6 @@
 # Prints crate `taking`: each table of a state that is lent as one thing is taken out of a lent image, its columns lent to a function that takes
 # them, all at once; and `take`, which has them taken one after the other.
-from table import TABLES, array, cols, layout, table
+from table import TABLES, array, cols, layout, short, table
 from lent import HEADER, Lent, ands, callee, contracts, known
 from walk import Walk, chain, path
 from writing import BINDS, GHOST, outer_ as outer_of
@@ -45,7 +45,7 @@ ghost use Rattle.taking.specs.Taken.{tasksTaken, semsTaken, poolsTaken, 
         told = f'(r ≡ {after})' if after else '(r ≡ now (s .exit) .running)'
         o += f'\npub fn take_{n}(s: &mut State, image: &[u8; 9920]) -> usize\n    ensures {{ λ r. ⌜ (now (s .exit) ≡ {is_} (now (s .entry)) (now (image .entry))) × {told} ⌝ }}\n{{\n    '
         o += ('' if after else 'let running = ') + f'{n}_part(\n' + ''.join(f'        &mut s.{table(g)[2]}.{c},\n' for g, c, _ in cl) + '        image,\n    )' + ('\n}\n' if after else ';\n    s.running = running;\n    running\n}\n')
-    return o + '''
+    return short(o) + '''
 // The whole state.
 pub fn take(s: &mut State, image: &[u8; 9920]) -> usize
     ensures { λ r. ⌜ (now (s .exit) ≡ stateFrom (now (image .entry))) × (r ≡ 9888) ⌝ }

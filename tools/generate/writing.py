@@ -1,6 +1,6 @@
 # Prints crate `writing`: each table of a state that is lent as one thing is put into a lent image, its columns lent shared to a function that
 # puts them, all at once; and `put`, which has them put one after the other. The walks are the readers', with the image passed on for good.
-from table import TABLES, array, cols, layout, table
+from table import TABLES, array, cols, layout, short, table
 from lent import HEADER, Lent, ands, callee, contracts, known
 from walk import Walk, chain
 
@@ -44,7 +44,7 @@ ghost use Rattle.writing.specs.Written.{tasksPart, tasksPut, semsPart, s
         o += f'\npub fn put_{n}(s: &mut State, image: &mut [u8; 9920]) -> u32\n'
         o += f'    ensures {{ λ r. ⌜ (r ≡ {after}) × ((now (image .exit) ≡ {put} (now (s .entry)) (now (image .entry))) × (now (s .exit) ≡ now (s .entry))) ⌝ }}\n{{\n    {n}_part(\n'
         o += ''.join(f'        &s.{table(g)[2]}.{c},\n' for g, c, _ in cl) + '        image,\n    )\n}\n'
-    return o + '''
+    return short(o) + '''
 // The whole image.
 pub fn put(s: &mut State, image: &mut [u8; 9920]) -> u32
     requires { ⌜ length (now image) ≡ imageSize ⌝ }
