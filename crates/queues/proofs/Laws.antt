@@ -1,17 +1,28 @@
--- What the queue calls lean on: what a test passed tells of the numbers tested, and where a cell is put.
+-- What the queue calls lean on: what a test passed tells of the numbers tested, where a cell is put, and that who runs waits.
 -- Assumes nothing.
 use Prim.Native.Nat.{ℕ, _≤_, _<_}
 use native.Mathlib.Omega.{arith}
 use mathlib.Core.Path.{_≡_, sym, _∙_}
 use mathlib.Core.Bool.{Bool, true, false, _&&_}
 use mathlib.Core.List.{List}
-use lib.ListN.{length}
+use lib.ListN.{length, getD}
 use lib.Dec.{leb}
 use borrow.Author.Tests.{le-leb, lt-leb, leb-true}
 use Rattle.scope.specs.Choice.{pick}
 use Rattle.scope.specs.Messages.{Store, appended, pushed}
-use Rattle.scope.specs.Queues.{areLimits, fitsQueue}
-use Rattle.laws.proofs.Branches.{both-true, first-fails, second-fails, second-decides}
+use Rattle.scope.specs.declared.State.{State}
+use Rattle.scope.specs.declared.Line.{Line}
+use Rattle.scope.specs.Statuses.{PENDING}
+use Rattle.scope.specs.Seats.{maskOf, runnerOf}
+use Rattle.scope.specs.Objects.{queueObject}
+use Rattle.scope.specs.Answers.{noWakes}
+use Rattle.scope.specs.Waiting.{waits}
+use Rattle.scope.specs.Queues.{areLimits, fitsQueue, queueWaitAt}
+use Rattle.answers.specs.declared.Outcome.{Outcome}
+use Rattle.answers.specs.Outcomes.{answerOf, outcome}
+use Rattle.answers.specs.Columns.{stateOf}
+use Rattle.answers.proofs.Outcomes.{plain-moved}
+use Rattle.laws.proofs.Branches.{pick-no, both-true, first-fails, second-fails, second-decides}
 
 pub limits-told : (most longest : ℕ) → areLimits most longest ≡ true → (most ≤ 16) × (longest ≤ 64)
 unfolding areLimits
@@ -50,3 +61,10 @@ module _ {jump : Bool} (s t : Store) (i : ℕ) {cell : List ℕ} (message : List
   pub put-end : jump ≡ false → cell ≡ message → t ≡ appended s i cell → t ≡ pick jump pushed appended s i message
   unfolding pick
   put-end e f p = rw (e, ← f) p
+
+-- who runs waits: l is where tasks stand then, and n who runs
+pub waiter-joined : (s : State) (ticks i n : ℕ) (o : Outcome) {l : Line} → s .running < 32 → o ≡ outcome PENDING 0 0 0 0 false n → n ≡ runnerOf (l .seat) (maskOf (l .rings))
+    → l ≡ waits (s .line) (queueObject i) (getD (s .queues .fifo) i false) (getD (s .tasks .priority) (s .running) 0) ticks (s .running)
+    → answerOf (stateOf l (s .tasks) (s .semaphores) (s .pools) (s .queues) (s .running)) noWakes o ≡ queueWaitAt s ticks i
+unfolding queueWaitAt
+waiter-joined s ticks i n o h e f g = pick-no _ _ _ (lt-leb 32 (s .running) h) (plain-moved _ _ _ _ _ _ _ _ _ _ e f g)

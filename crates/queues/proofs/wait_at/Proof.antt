@@ -1,10 +1,11 @@
 -- `queues::wait_at`: who runs waits, and the answer is PENDING.
 -- Assumes nothing.
-use borrow.Author.Tests.{le-leb, lt-leb}
-use Rattle.laws.proofs.Branches.{pick-yes, pick-no}
-use Rattle.answers.proofs.Outcomes.{plain-of, plain-moved}
+use borrow.Author.Tests.{le-leb}
+use Rattle.laws.proofs.Branches.{pick-yes}
+use Rattle.answers.proofs.Outcomes.{plain-of}
 use Rattle.scope.specs.Queues.{queueWaitAt}
 use borrow.Author.Needs.{needs}
+use Rattle.queues.proofs.Laws.{waiter-joined}
 use Rattle.queues.proofs.wait_at.Statement.{statement}
 use Rattle.queues.proofs.wait_at.Tie as tie
 
@@ -37,8 +38,7 @@ plain-requires-2 : tie.Need-plain-requires-2
 plain-requires-2 c κs = search needs
 
 returns-2 : tie.Need-returns-2
-unfolding queueWaitAt
-returns-2 c = λ s serial live held cells. pick-no _ _ _ (lt-leb _ _ (c .before .before .before .before .before .before .before .before .before .before .before .if1 .left)) (plain-moved _ _ _ _ _ _ _ _ _ _ (c .plain2 .ensures) (c .before .runner .ensures) (c .before .before .before .before .wait .ensures))
+returns-2 c = λ s serial live held cells. waiter-joined _ _ _ _ _ (c .before .before .before .before .before .before .before .before .before .before .before .if1 .left) (c .plain2 .ensures) (c .before .runner .ensures) (c .before .before .before .before .wait .ensures)
 
 pub wait-at-spec : {M : Type 1} → statement M
 wait-at-spec =
