@@ -1,8 +1,8 @@
 -- `tables::usable_mask` meets its contract. The loop's invariant: the mask is that of the slots looked at so far.
 -- Assumes nothing.
-use Prim.Native.Nat.{ℕ, _-_, _*_, _≤_}
+use Prim.Native.Nat.{_-_, _*_, _≤_}
 use native.Mathlib.Omega.{arith}
-use mathlib.Core.Path.{_≡_, ap, _∙_}
+use mathlib.Core.Path.{_≡_, _∙_}
 use borrow.Author.Needs.{needs}
 use Rattle.scope.specs.Identifiers.{usable}
 use Rattle.tables.specs.Masks.{maskFrom}
