@@ -495,5 +495,86 @@ stayed = (gave-ref (0 ∷ []) tt (plain (λ _. ImageT)), (stay-dropped (plain (�
     return ''.join(W.out)
 
 
+WRITE = [('so', 'kernel', 'is_sound', False), ('pu', 'writing', 'put', False)]
+
+
+def imaged():
+    """image_of: the locals are the answer, the parameters, the state and whether it keeps the rules, and what is passed."""
+    n = 9
+    S, GOOD, REF1, LEN, REF2, IREF = 3, 4, 5, 6, 7, 8
+    W = Lent(); w = W.w
+    ghost = '(((κ, tt), (q, tt), tt, a, vals), tt)'
+    out = '‵ P₁ ∷ ‵ (endI xs) ∷ []'
+    w(f'''-- `stepping::image_of` meets its contract: a walk of its MIR. The state is copied to a local, which is lent to the check and to who writes it.
+-- Assumes nothing. Printed by tools/generate/run.
+{HEADER}{USES}use Rattle.scope.specs.Rules.{{sound as isSound}}
+{''.join(callee(*c) for c in WRITE)}{outer(CRATE, 'image_of')}{STATE}{IMAGE}abbrev stayed : Stays (h.ended .signature .params) (h.ended .kept)
+stayed = (stay-dropped (plain (λ _. S.the-row)) yes, (gave-ref (0 ∷ []) tt (plain (λ _. ImageT)), tt))
+
+{contracts(WRITE)}module _ {{M : Type 1}} (𝓤 : URA M) (H : Heap 𝓤) (A : Atoms 𝓤) (W : Given 𝓤 H A) (at-mem : Memory → SProp 𝓤) (run : Routine → Fun 𝓤) (d₀ : State) (isD : IsS d₀) (κ : Lft) (q : Share) (b o : ℕ) (γ : GName) (im : List ℕ) (req : length im ≡ imageSize) where
+  abbrev image : RefT (List ℕ)
+  image = record {{ ptr = (b, o); name = γ; now = im }}
+
+  abbrev a : State × (RefT (List ℕ) × Unit {{0}})
+  a = (d₀, (image, tt))
+
+  abbrev vals : List Val × (List Val × Unit {{0}})
+  vals = (val d₀ ∷ [], (vptr b o ∷ [], tt))
+
+  abbrev Post : Val → SProp 𝓤
+  Post = walkOf 𝓤 H A h.ended stayed (h.clauses 𝓤 H A at-mem run) .post {ghost}
+
+  abbrev endI : List ℕ → Fml
+  endI xs = fres γ (ImageT .coded .code xs)
+
+  abbrev P₁ : Fml
+  P₁ = fsep (flft κ q) ftrue
+
+  abbrev T₁ : Fml
+  T₁ = fsep (MutRef (named 0) κ ImageT .own image (vptr b o ∷ [])) ftrue
+
+  abbrev L₁ : List ℕ → Fml
+  L₁ xs = fsep (endI xs) ftrue
+
+  exits : (xs : List ℕ) (r : Bool) → (r ≡ isSound d₀) × (xs ≡ imageOf d₀) → ent 𝓤 (⋆ 𝓤 H A ({out})) (Post (vbool r))
+  exits xs r said =
+      qed W ({out}) ∵
+      suffices ! _ (ends-at 𝓤 H A h.ended stayed (h.clauses 𝓤 H A at-mem run) W {ghost} (vbool r) r (tt, (xs, tt)) (tt, (tt, tt))) $
+      says ! said $ owned ! Boolean (Is Boolean) (bool-makes 𝓤 H A W) r _ refl $ move ! (1 ∷ []) $ frame ! $ nothing ! $ move ! (2 ∷ 0 ∷ []) $ fjoin ! $ nothing ! $ fjoin ! $ done !
+
+  abbrev to-so : ℕ → Keys csS → State → Gso 𝓤 H A at-mem run .Ghost
+  to-so l k d = (((k .0 .0 ∷ [], tt), (fullShare, tt), tt, (record {{ ptr = (l, 0); name = k .0 .1; now = d }}, tt), (vptr l 0 ∷ [], tt)), tt)
+
+  abbrev to-pu : ℕ → Keys csS → State → Gpu 𝓤 H A at-mem run .Ghost
+  to-pu l k d = (((k .0 .0 ∷ [], (κ, tt)), (fullShare, (q, tt)), tt, (record {{ ptr = (l, 0); name = k .0 .1; now = d }}, (image, tt)), (vptr l 0 ∷ [], (vptr b o ∷ [], tt))), tt)
+
+  module _ (𝓣 : Tables 𝓤 H) (fm : FmC 𝓤 H (W .laws) (𝓣 .C)){known(WRITE)} where
+    walk : ent 𝓤 (onEntry 𝓤 H A h.signature (κ, tt) (q, tt) a vals) (WpFn 𝓤 H (𝓣 .C) (𝓣 .Λ) code.function (val d₀ ∷ vptr b o ∷ []) Post)
+    walk =
+        qed W (‵ P₁ ∷ ‵ (owns (R ∷ MutRef (named 0) κ ImageT ∷ []) a vals) ∷ []) ∵ enter ! (𝓣 .C) (𝓣 .Λ) code.function (val d₀ ∷ vptr b o ∷ []) _ $
+        ''')
+    W.entered(n, 'P₁', 'ins')
+    L = W.L
+    w(''.join(f'alloc1 ! (λ l{i}. ' for i in range(n)) + f'alloc0 ! $ params1 ! $ pass1 ! (init ! {L(1)} refl {lawS("d₀", "isD")}) $ pass1 ! (init ! {L(2)} refl (tt, tt)) $ pass0 ! $\n        '); W.close += n
+    W.move('ins'); w('fsplit ! $ drop ! $ '); W.head(1, 'T₁')
+    w(f'assigns ! (of-opd ! {W.ld(1)}) (from ! (stop !)) (init ! {L(S)} refl {lawS("d₀", "isD")}) $\n')
+    reads(W, f'l{S}', 'so', REF1, GOOD, 'd₀', 'isD', 'k₁', 'y', ('Bool', 'Boolean', 'tyBool'), 'bool-lawful 𝓤 H A W', 'bool-tells', 'isSound d₀', 'isD₂')
+    W.ctx = [c[0] if c in ('P₁', 'T₁') else c for c in W.ctx]
+    written(W, f'l{S}', REF2, IREF, 2, LEN, 'd₀', 'isD', None)
+    W.move('res'); w('drop ! $ '); W.ctx.pop(0)
+    w(f'assigns ! (of-opd ! {W.ld(GOOD)}) (from ! (stop !)) (init ! {L(0)} refl (tt, tt)) $ ')
+    want = ['P', 'endI']
+    W.move(*want)
+    w(f'returns ! (look ! {L(0)} refl) $ ')
+    W.leave(n, range(n), 8)
+    assert W.ctx == want, W.ctx
+    w('\n        by ! (exits (z-pu .1 .0) y (is-so .0, is-pu .1 .0))' + ')' * W.close + '\n')
+    w(closing('image_of', WRITE, ['(λ x. LL.vals S.the-type S′.the-laws x)', 'ptr-vals'], ['LL.tells S.the-type S′.the-laws', 'mut-tells (named 0) (κs .0) ImageT'],
+              ['goes-dropped 𝓤 H A W 1 (plain (λ _. S.the-row)) yes (λ κs x f. refl)', 'goes-gave-ref 𝓤 H A W 1 0 tt (plain (λ _. ImageT))'],
+              ('needs 𝓤 (length (a .1 .0 .now) ≡ imageSize) _ (λ req. ', ')'), '(a .0) (are .0) (κs .0) (qs .0) (a .1 .0 .ptr .0) (a .1 .0 .ptr .1) (a .1 .0 .name) (a .1 .0 .now) req'))
+    return ''.join(W.out)
+
+
 def files():
-    return {f'crates/{CRATE}/proofs/step_image/Proof.antt': stepped(), f'crates/{CRATE}/proofs/fresh_image/Proof.antt': freshened()}
+    at = f'crates/{CRATE}/proofs'
+    return {f'{at}/step_image/Proof.antt': stepped(), f'{at}/fresh_image/Proof.antt': freshened(), f'{at}/image_of/Proof.antt': imaged()}

@@ -127,14 +127,3 @@ def layout():
         end += up(al, e)
     at['running'] = up(8, end)
     return at
-
-# a source whose contracts have no line of more than 160 characters: a line goes on behind eight spaces, from the next column
-def short(source):
-    lines = []
-    for line in source.split('\n'):
-        while len(line) > 160:
-            at = line.rfind(' (now (', 20, 160)
-            lines.append(line[:at])
-            line = '        ' + line[at + 1:]
-        lines.append(line)
-    return '\n'.join(lines)

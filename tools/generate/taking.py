@@ -1,9 +1,9 @@
 # Prints crate `taking`: each table of a state that is lent as one thing is taken out of a lent image, its columns lent to a function that takes
 # them, all at once; and `take`, which has them taken one after the other.
-from table import TABLES, array, cols, layout, short, table
+from table import TABLES, array, cols, layout, table
 from lent import HEADER, Lent, ands, callee, contracts, known
 from walk import Walk, chain, path
-from writing import BINDS, GHOST, outer_ as outer_of
+from writing import BINDS, GHOST, outer_ as outer_of, wrapped
 
 AT = layout()
 CRATE = 'taking'
@@ -34,7 +34,7 @@ ghost use Rattle.taking.specs.Taken.{tasksTaken, semsTaken, poolsTaken, 
 '''
     for n, words, gs, is_, after in TAKERS:
         cl = cols(segs(gs))
-        made = ' × ('.join(f'({OF[g]} {" ".join(f"(now ({c} .exit))" for c, _ in table(g)[4])} ≡ {FROM[g]} (now (image .entry)))' for g in gs)
+        made = ' × ('.join(f'({OF[g]} {" ".join(f"(now ({c} .exit))" for c, _ in table(g)[4])} \n        ≡ {FROM[g]} (now (image .entry)))' for g in gs)
         told = f'(r ≡ {after})' if after else '(r ≡ runnerOf (now (seat .exit)) (maskOf (now (rings .exit))))'
         take = ['image'] + ([c for c, _ in table('K')[4]] + ['left', 'seat', 'joined'] if after is None else [c for _, c, _ in cl])
         line = ', '.join(take)
@@ -45,7 +45,7 @@ ghost use Rattle.taking.specs.Taken.{tasksTaken, semsTaken, poolsTaken, 
         told = f'(r ≡ {after})' if after else '(r ≡ now (s .exit) .running)'
         o += f'\npub fn take_{n}(s: &mut State, image: &[u8; 9920]) -> usize\n    ensures {{ λ r. ⌜ (now (s .exit) ≡ {is_} (now (s .entry)) (now (image .entry))) × {told} ⌝ }}\n{{\n    '
         o += ('' if after else 'let running = ') + f'{n}_part(\n' + ''.join(f'        &mut s.{table(g)[2]}.{c},\n' for g, c, _ in cl) + '        image,\n    )' + ('\n}\n' if after else ';\n    s.running = running;\n    running\n}\n')
-    return short(o) + '''
+    return o + '''
 // The whole state.
 pub fn take(s: &mut State, image: &[u8; 9920]) -> usize
     ensures { λ r. ⌜ (now (s .exit) ≡ stateFrom (now (image .entry))) × (r ≡ 9888) ⌝ }
@@ -376,7 +376,7 @@ csS o = record {{ row = R; at = o }} ∷ []
 
 
 def files():
-    r = {f'crates/{CRATE}/src/lib.rt': source()}
+    r = {f'crates/{CRATE}/src/lib.rt': wrapped(source())}
     for x in TAKERS: r[f'crates/{CRATE}/proofs/take_{x[0]}/Proof.antt'] = taker(*x)
     r[f'crates/{CRATE}/proofs/take/Proof.antt'] = whole()
     return r

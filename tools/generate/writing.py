@@ -1,6 +1,6 @@
 # Prints crate `writing`: each table of a state that is lent as one thing is put into a lent image, its columns lent shared to a function that
 # puts them, all at once; and `put`, which has them put one after the other. The walks are the readers', with the image passed on for good.
-from table import TABLES, array, cols, layout, short, table
+from table import TABLES, array, cols, layout, table
 from lent import HEADER, Lent, ands, callee, contracts, known
 from walk import Walk, chain
 
@@ -17,6 +17,18 @@ PUT = {
     'tasks': ('    image::put_header(image);\n', ''),
     'queues': ('', '    let places = orders::ready_places(seat);\n    image::put_order(image, &places);\n'),
 }
+
+
+# long lines of a contract, broken between two columns
+def wrapped(text):
+    out = []
+    for line in text.split('\n'):
+        while len(line) > 190:
+            at = line.rindex(' (now (', 0, 160)
+            out.append(line[:at])
+            line = '       ' + line[at:]
+        out.append(line.rstrip())
+    return '\n'.join(out)
 
 
 def given(segs, at):
@@ -38,13 +50,13 @@ ghost use Rattle.writing.specs.Written.{tasksPart, tasksPut, semsPart, s
         own = [c for g, c, _ in cl if (g, c) != ('L', 'seat') or n == 'tasks']
         first, last = PUT.get(n, ('', ''))
         o += f'\n// {words}, out of the columns.\nfn {n}_part(\n' + ''.join(f'    {c}: &{array(g, c)},\n' for g, c, _ in cl) + '    image: &mut [u8; 9920],\n) -> u32\n'
-        o += f'    ensures {{ λ r. ⌜ (r ≡ {after}) × (now (image .exit) ≡ {put.replace("Put", "Part")} {now} (now (image .entry))) ⌝ }}\n{{\n'
+        o += f'    ensures {{ λ r. ⌜ (r ≡ {after}) × (now (image .exit)\n        ≡ {put.replace("Put", "Part")} {now}\n        (now (image .entry))) ⌝ }}\n{{\n'
         lent = ', '.join(['image'] + own)
         o += first + (f'    image::put_{n}({lent});\n' if len(lent) <= 60 else f'    image::put_{n}(\n        image,\n' + ''.join(f'        {c},\n' for c in own) + '    );\n') + last + f'    {after}\n}}\n'
         o += f'\npub fn put_{n}(s: &mut State, image: &mut [u8; 9920]) -> u32\n'
         o += f'    ensures {{ λ r. ⌜ (r ≡ {after}) × ((now (image .exit) ≡ {put} (now (s .entry)) (now (image .entry))) × (now (s .exit) ≡ now (s .entry))) ⌝ }}\n{{\n    {n}_part(\n'
         o += ''.join(f'        &s.{table(g)[2]}.{c},\n' for g, c, _ in cl) + '        image,\n    )\n}\n'
-    return short(o) + '''
+    return o + '''
 // The whole image.
 pub fn put(s: &mut State, image: &mut [u8; 9920]) -> u32
     requires { ⌜ length (now image) ≡ imageSize ⌝ }
@@ -388,7 +400,7 @@ def last_(f, calls):
 
 
 def files():
-    r = {f'crates/{CRATE}/src/lib.rt': source()}
+    r = {f'crates/{CRATE}/src/lib.rt': wrapped(source())}
     for x in WRITERS: r[f'crates/{CRATE}/proofs/put_{x[0]}/Proof.antt'] = writer(*x)
     r[f'crates/{CRATE}/proofs/put/Proof.antt'] = whole()
     return r

@@ -29,6 +29,7 @@ use Rattle.image.proofs.Image.{accepted, from-image}
 use Rattle.image.proofs.Back.{state-back}
 use Rattle.stepping.specs.Steps.{Stepped, answersOn, stepsOn, freshes}
 use Rattle.stepping.proofs.Laws.{on-image}
+use Rattle.stepping.proofs.Fitting.{fits-always}
 
 -- ---- what is read has the sizes of a state
 
@@ -117,11 +118,11 @@ module _ (priority : ℕ) (out : List ℕ) (room : imageSize ≤ length out) whe
   unfolding freshes
   fresh-bytes = ap (λ (w : Wrote). w .bytes) (picked-no (ltb (length out) imageSize) _ _ (le-ltb (length out) imageSize room))
 
-  pub fresh-is-image : Fits (fresh priority .state) → isImage (freshes priority out .bytes) ≡ true
-  fresh-is-image f =
+  pub fresh-is-image : isImage (freshes priority out .bytes) ≡ true
+  fresh-is-image =
       subst (λ (l : List ℕ). isImage l ≡ true) (sym fresh-bytes)
-      (accepted (fresh priority .state) f (sound-right (fresh priority .state) (fresh-always priority)) (drop imageSize out))
+      (accepted (fresh priority .state) (fits-always priority) (sound-right (fresh priority .state) (fresh-always priority)) (drop imageSize out))
 
-  pub fresh-is-read : Fits (fresh priority .state) → stateFrom (freshes priority out .bytes) ≡ fresh priority .state
-  fresh-is-read f =
-      ap stateFrom fresh-bytes ∙ state-back (fresh priority .state) f (sound-right (fresh priority .state) (fresh-always priority)) (drop imageSize out)
+  pub fresh-is-read : stateFrom (freshes priority out .bytes) ≡ fresh priority .state
+  fresh-is-read =
+      ap stateFrom fresh-bytes ∙ state-back (fresh priority .state) (fits-always priority) (sound-right (fresh priority .state) (fresh-always priority)) (drop imageSize out)

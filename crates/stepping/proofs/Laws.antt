@@ -12,6 +12,7 @@ use lib.Seq.{sets, take-all}
 use borrow.Author.Tests.{le-leb, lt-leb, lt-ltb, le-ltb}
 use Rattle.scope.specs.declared.State.{State}
 use Rattle.scope.specs.declared.Answer.{Answer}
+use Rattle.scope.specs.Statuses.{OK, BAD-STATE}
 use Rattle.scope.specs.Views.{runningTask}
 use Rattle.scope.specs.Rules.{sound}
 use Rattle.scope.specs.Step.{answered}
@@ -29,12 +30,12 @@ use Rattle.columns.proofs.Bytes.{part-is}
 use Rattle.columns.proofs.Stores.{whole}
 use Rattle.columns.proofs.Tables.{written}
 use Rattle.image.specs.Image.{imageOf, imageSize}
-use Rattle.image.specs.Reading.{NO-ROOM, Wrote, stateFrom, sameBytes, isImage}
+use Rattle.image.specs.Reading.{NO-ROOM, Wrote, puts, stateFrom, sameBytes, isImage}
 use Rattle.image.proofs.Image.{from-image}
 use Rattle.image.proofs.Front.{state-front}
 use Rattle.images.proofs.Laws.{copied}
 use Rattle.stepping.specs.Answers.{numbersBy, answerTables, answerBytes, bytesOfAnswer}
-use Rattle.stepping.specs.Steps.{ToldBy, StepsTo, Stepped, badAnswer, badImage, answersOn, stepsOn, freshes}
+use Rattle.stepping.specs.Steps.{ToldBy, StepsTo, Stepped, badAnswer, badImage, answersOn, stepsOn, freshes, writes}
 
 -- ---- the answer's bytes
 
@@ -250,3 +251,21 @@ module _ (priority : ℕ) (out : List ℕ) where
   fresh-done own {out'} h e f g =
       let k = copied (fresh priority .state) own out out' e h f in
       pick-no (ltb (length out) imageSize) _ _ (le-ltb (length out) imageSize h) (λ i. wrote (k i) (g i))
+
+-- ---- a state is written
+
+module _ (s : State) (out : List ℕ) where
+  pub bad-unwritten : {r : Bool} → r ≡ sound s → r ≡ false → wrote out BAD-STATE ≡ writes s out
+  unfolding writes
+  bad-unwritten e f = pick-no (sound s) (puts s out) _ (sym e ∙ f) refl
+
+  pub no-room : {r : Bool} → r ≡ sound s → r ≡ true → length out < imageSize → wrote out NO-ROOM ≡ writes s out
+  unfolding writes puts
+  no-room e f h = pick-yes (sound s) (puts s out) _ (sym e ∙ f) (pick-yes (ltb (length out) imageSize) _ _ (lt-ltb (length out) imageSize h) refl)
+
+  pub state-written : {r : Bool} (own : List ℕ) {out' : List ℕ} → r ≡ sound s → r ≡ true → imageSize ≤ length out → own ≡ imageOf s → out' ≡ sets out 0 (part imageSize 0 own)
+      → wrote out' OK ≡ writes s out
+  unfolding writes puts
+  state-written own {out'} e f h g k =
+      pick-yes (sound s) (puts s out) _ (sym e ∙ f)
+      (pick-no (ltb (length out) imageSize) _ _ (le-ltb (length out) imageSize h) (λ i. wrote (copied s own out out' g h k i) OK))

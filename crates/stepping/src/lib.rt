@@ -1,6 +1,7 @@
 // The kernel for C, on numbers and bytes: a fresh image, and a step that changes an image in place and gives its answer as bytes.
 // (specs/Steps.antt, specs/Answers.antt.)
 use answers::Outcome;
+use scope::State;
 ghost use mathlib.Core.Path.{_≡_};
 ghost use mathlib.Core.Bool.{false};
 ghost use Prim.Native.Nat.{_≤_};
@@ -13,7 +14,7 @@ ghost use Rattle.columns.specs.Columns.{part};
 ghost use Rattle.image.specs.Image.{imageOf, imageSize};
 ghost use Rattle.image.specs.Reading.{stateFrom};
 ghost use Rattle.stepping.specs.Answers.{answerBytes, numbersBy};
-ghost use Rattle.stepping.specs.Steps.{ToldBy, StepsTo, badAnswer, stepsOn, freshes};
+ghost use Rattle.stepping.specs.Steps.{ToldBy, StepsTo, badAnswer, stepsOn, freshes, writes};
 
 const NO_ROOM: u32 = 31;
 
@@ -231,4 +232,31 @@ pub fn fresh(priority: u32, image: &mut [u8]) -> u32
     fresh_image(&mut own, priority);
     put_front(image, &own);
     fresh_status(priority)
+}
+
+// A state's image over bytes of our own, and whether the state keeps the rules.
+fn image_of(state: State, image: &mut [u8; 9920]) -> bool
+    requires { ⌜ length (now image) ≡ imageSize ⌝ }
+    ensures { λ r. ⌜ (r ≡ sound state) × (now (image .exit) ≡ imageOf state) ⌝ }
+{
+    let mut s = state;
+    let good = kernel::is_sound(&mut s);
+    writing::put(&mut s, image);
+    good
+}
+
+// A state's image at the start of the slice. "A bad state is not written: 26, before 31."
+pub fn write(s: State, out: &mut [u8]) -> u32
+    ensures { λ r. ⌜ (record { bytes = now (out .exit); status = r }) ≡ writes s (now (out .entry)) ⌝ }
+{
+    let mut own = blank();
+    let good = image_of(s, &mut own);
+    if good {
+        if out.len() < 9920 {
+            return NO_ROOM;
+        }
+        put_front(out, &own);
+        return scope::OK;
+    }
+    scope::BAD_STATE
 }
