@@ -8,7 +8,6 @@ use lib.Dec.{ltb, lit≤}
 use lib.ListN.{length, take, drop, getD, length-take}
 use lib.Seq.{sets}
 use borrow.Author.Tests.{lt-ltb, le-ltb}
-use Rattle.scope.specs.Choice.{pick}
 use Rattle.scope.specs.Statuses.{OK}
 use Rattle.scope.specs.Listing.{lineOf, listing}
 use Rattle.listings.specs.Whole.{Whole}

@@ -2,17 +2,17 @@
 -- Assumes nothing.
 use Prim.Native.Nat.{ℕ, _≤_}
 use native.Mathlib.Omega.{arith}
-use mathlib.Core.Path.{_≡_, refl, sym, ap, _∙_}
+use mathlib.Core.Path.{_≡_, refl, ap, _∙_}
 use mathlib.Core.Bool.{Bool, true, false}
 use mathlib.Core.List.{List, [], _∷_}
 use lib.Dec.{ltb}
-use lib.ListN.{length, take, getD}
+use lib.ListN.{length, getD}
 use lib.Seq.{take-all}
 use borrow.Author.Tests.{le-ltb}
 use Rattle.scope.specs.declared.Answer.{Answer}
 use Rattle.scope.specs.Choice.{pick}
 use Rattle.scope.specs.Answers.{bitOf}
-use Rattle.scope.specs.Replies.{replyOf, wakesFrom}
+use Rattle.scope.specs.Replies.{replyOf}
 use Rattle.scope.specs.Listing.{lineOf}
 use Rattle.laws.proofs.Branches.{picked-no}
 use Rattle.text.specs.Lines.{replyBy}
@@ -20,7 +20,7 @@ use Rattle.columns.specs.Numbers.{isOn}
 use Rattle.columns.specs.Fields.{Table, AllFine, TablesRead, bytesOf, sizeOf}
 use Rattle.columns.proofs.Tables.{size-is, read-back}
 use Rattle.stepping.specs.Answers.{numbersOf, answerTables, answerBytes, bytesOfAnswer}
-use Rattle.lines.specs.Lines.{numbersIn, wakesIn, shownIn, atMost32, outcomeIn, replyIn, lineIn}
+use Rattle.lines.specs.Lines.{wakesIn, shownIn, atMost32, outcomeIn, replyIn, lineIn}
 
 on-bit : (b : Bool) → isOn (bitOf b) ≡ b
 unfolding bitOf pick

@@ -7,7 +7,7 @@ use mathlib.Core.Logic.{⊎-elim}
 use mathlib.Core.Bool.{Bool, true, false}
 use mathlib.Core.List.{List, [], _∷_, map}
 use lib.Dec.{lit<, lit≤, ltb}
-use lib.ListN.{length, getD, replicate, length-replicate, length-map}
+use lib.ListN.{getD, replicate, length-replicate, length-map}
 use borrow.Author.Tests.{lt-ltb, le-ltb}
 use Rattle.scope.specs.declared.State.{State}
 use Rattle.scope.specs.declared.Fresh.{Fresh}

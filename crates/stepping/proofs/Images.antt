@@ -5,12 +5,11 @@ use Prim.Native.Nat.{ℕ, zero, suc, _+_, _*_, _≤_}
 use native.Mathlib.Nat.{suc-mul}
 use native.Mathlib.Omega.{arith}
 use mathlib.Core.Path.{_≡_, refl, sym, ap, _∙_, subst}
-use mathlib.Core.Bool.{Bool, true}
+use mathlib.Core.Bool.{true}
 use mathlib.Core.List.{List, _++_, map}
 use lib.Dec.{ltb}
 use lib.ListN.{length, drop, length-append, length-map}
 use borrow.Author.Tests.{le-ltb}
-use Rattle.scope.specs.declared.State.{State}
 use Rattle.scope.specs.declared.Answer.{Answer}
 use Rattle.scope.specs.Rules.{sound}
 use Rattle.scope.specs.Step.{answered}

@@ -12,9 +12,6 @@ use Rattle.answers.specs.declared.Outcome.{Outcome}
 use Rattle.columns.specs.Fields.{Table, bytesOf}
 use Rattle.image.specs.Image.{each, bytes, table}
 
-abbrev pub answerSize : ℕ
-answerSize = 236
-
 -- the numbers in their order, each of four bytes
 abbrev pub numbersOf : (status v0 v1 v2 v3 : ℕ) → (negative : Bool) → (running woken why : ℕ) → (delivers : Bool) → (length : ℕ) → List ℕ
 numbersOf status v0 v1 v2 v3 negative running woken why delivers length =

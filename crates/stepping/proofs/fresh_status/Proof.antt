@@ -1,6 +1,6 @@
 -- `stepping::fresh_status`: the test of the definition.
 -- Assumes nothing.
-use mathlib.Core.Path.{refl, sym, ap}
+use mathlib.Core.Path.{sym, ap}
 use borrow.Author.Tests.{lt-ltb, le-ltb}
 use Rattle.scope.specs.declared.Fresh.{Fresh}
 use Rattle.scope.specs.Fresh.{fresh}

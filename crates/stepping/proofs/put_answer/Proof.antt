@@ -1,7 +1,7 @@
 -- `stepping::put_answer`: the three columns, put one after the other over as many bytes, are the answer's.
 -- Assumes nothing.
 use mathlib.Core.Path.{refl}
-use Rattle.image.proofs.Calls.{roomed, put-after, rows-after}
+use Rattle.image.proofs.Calls.{put-after}
 use Rattle.stepping.proofs.Laws.{answer-put}
 use borrow.Author.Needs.{needs}
 use Rattle.stepping.proofs.put_answer.Statement.{statement}
