@@ -21,7 +21,7 @@ use Rattle.scope.specs.Views.{runningTask}
 use Rattle.scope.specs.Answers.{answer, plain, badState, wakesWith}
 use Rattle.scope.specs.Waiting.{FOREVER, isTimeOut, noneWoken}
 use Rattle.scope.specs.Ticks.{ticked, tick}
-use Rattle.scope.proofs.Times.{forever-stays, takes-one}
+use Rattle.scope.proofs.Times.{tick-takes-one, tick-leaves-forever}
 use Rattle.laws.proofs.Branches.{both, both-true, second-fails, true-false, true-or-false, picked-yes, picked-no}
 use Rattle.histories.specs.Sound.{Waits, Ready, Sound}
 use Rattle.histories.specs.History.{Event, answerTo, after}
@@ -158,11 +158,6 @@ unfolding badState
 tick-done s x at =
     by-number (λ (a : Answer). a .status ≡ OK → a ≡ tick s) s (refused s) x 0 at (λ d. absurd (omega (arith, d))) (λ d. refl)
 
--- what it leaves of task t's time_out: nothing, or one less
-pub tick-left : (s : State) (t : ℕ) → (getD (tick s .state .line .left) t 0 ≡ getD (ticked (s .line) .left) t 0) ⊎ (getD (tick s .state .line .left) t 0 ≡ 0)
-unfolding tick wakesWith
-tick-left s t = due-zeroed (s .tasks) 32 0 (noneWoken (ticked (s .line))) t
-
 -- arithmetic of a time_out
 runs-on : (n k left n2 k2 left2 : ℕ) → Runs n k left → n2 ≡ n → k2 ≡ k → left2 ≡ left → Runs n2 k2 left2
 runs-on n k left n2 k2 left2 r a b c =
@@ -244,15 +239,10 @@ module _ (p : ℕ) (s : State) (ok : Sound s) (x : Event) (past : List Turn) (to
       by-tick e =
           let b = answer-is y 0 OK e in
           let d : a ≡ tick s = tick-done s x (b .0) (b .1) in
-          let left : (now ≡ getD (ticked (s .line) .left) t 0) ⊎ (now ≡ 0) =
-          subst (λ (v : Answer). (getD (v .state .line .left) t 0 ≡ getD (ticked (s .line) .left) t 0) ⊎ (getD (v .state .line .left) t 0 ≡ 0)) (sym d)
-          (tick-left s t) in
-          ⊎-elim
-          (λ f. runs-less (timeOutOf past me) (ticksSince past me) was _ _ now ran (some-left s ok from was-object t wj) asked
+          let same : now ≡ getD (tick s .state .line .left) t 0 = ap (λ (v : Answer). getD (v .state .line .left) t 0) d in
+          runs-less (timeOutOf past me) (ticksSince past me) was _ _ now ran (some-left s ok from was-object t wj) asked
           (ticks ∙ ap (λ (v : ℕ). v + ticksSince past me) (picked-yes (isAnswer 0 OK y) 1 0 e))
-          (λ g. f ∙ forever-stays (s .line) t g) (λ g. f ∙ takes-one (s .line) t g))
-          (λ f. absurd (left2 f))
-          left
+          (λ g. same ∙ tick-leaves-forever s t g) (λ g. same ∙ tick-takes-one s t g)
 
       by-other : isAnswer 0 OK y ≡ false → Told
       by-other e =

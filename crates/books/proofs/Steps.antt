@@ -16,11 +16,14 @@ use Rattle.scope.specs.declared.Answer.{Answer}
 use Rattle.scope.specs.declared.Waking.{Waking}
 use Rattle.scope.specs.declared.Found.the-variants.{At, Invalid}
 use Rattle.scope.specs.Choice.{pick}
-use Rattle.scope.specs.Statuses.{OK, PENDING}
+use Rattle.scope.specs.Statuses.{OK, PENDING, TIME-OUT}
 use Rattle.scope.specs.Identifiers.{identifier, found}
 use Rattle.scope.specs.Seats.{queueSeats, waitsOn}
 use Rattle.scope.specs.Objects.{objectsEnd, objectsOf}
 use Rattle.scope.specs.Views.{runningTask}
+use Rattle.scope.specs.Answers.{wakesWith}
+use Rattle.scope.specs.Waiting.{noneWoken}
+use Rattle.scope.specs.Ticks.{wakeDue, takesOne, tick}
 use Rattle.scope.specs.Tasks.{taskFound}
 use Rattle.scope.specs.Replies.{Wake, wakesFrom, wakeList}
 use Rattle.laws.proofs.Branches.{both, true-false, true-or-false, eq-or-not, picked-yes, picked-no}
@@ -31,11 +34,12 @@ use Rattle.histories.specs.History.{Event}
 use Rattle.histories.specs.Order.{Arrivals, arrives, WaitsFor}
 use Rattle.histories.proofs.Callers.{has}
 use Rattle.histories.proofs.Moves.{queue-waits}
-use Rattle.histories.proofs.Staying.{Fewer}
+use Rattle.histories.proofs.Staying.{Fewer, fewer-then, due-fewer, ticked-fewer}
+use Rattle.histories.proofs.Turns.{good}
 use Rattle.books.specs.Past.{Turn, isAnswer, isAnswerOf, value, runningIn}
 use Rattle.books.specs.Waiting.{Kind, aSemaphore, aQueue, creation, optionsOf, deletion, waitCall, fifoOf, target, doneTo, priorityIn, wakes, endsWait}
 use Rattle.books.proofs.Granting.{nobody}
-use Rattle.books.proofs.Woken.{wakes-at, at-wakes, Woke}
+use Rattle.books.proofs.Woken.{wakes-at, at-wakes, Woke, none-woke, due-woke, taken-woke}
 use Rattle.books.proofs.Agreeing.{turnOf, Waiters, Options, Agrees, options-of, waiters-of, object-room, kind-room, not-call, not-status, is-answer}
 use Rattle.books.proofs.Agreeing.{not-creates, not-new, is-new, not-of, not-on, not-done, done-other, is-done, waiters-fewer}
 use Rattle.books.proofs.Claiming.{apart-slots, waits-room}
@@ -180,6 +184,18 @@ moves-woke s ok l w why same fewer woke =
           o .3 i h (subst (λ (u : ℕ). In (w .line .seat) (queueSeats i) u) d a)))
           (λ e. e)
           (true-or-false (wakes (wakesFrom (w .woken) 0 (w .wakes) why) (taskId s t)));
+    }
+
+-- a tick
+pub tick-moves : (s : State) → Sound s → Moves s (tick s)
+unfolding tick wakesWith
+tick-moves s ok =
+    let start : Waking = noneWoken (s .line) in
+    record {
+      leave = moves-woke s ok (s .line) (takesOne (wakeDue (s .tasks) 32 0 start)) TIME-OUT refl
+          (fewer-then (s .line) _ _ (due-fewer (s .tasks) 32 0 start (omega arith) (good s ok)) (ticked-fewer _))
+          (taken-woke (s .tasks) (s .line) _
+          (due-woke (s .tasks) (s .line) 32 0 start (omega arith) (omega arith) (none-woke (s .tasks) (s .line) (good s ok))));
     }
 
 -- a turn at which nobody arrives, by its parts

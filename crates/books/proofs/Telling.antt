@@ -29,7 +29,7 @@ use Rattle.scope.specs.Waiting.{noneWoken, wakeNext, wakeAll, waits}
 use Rattle.scope.specs.Semaphores.{semFound, semBorn, withUnits, semDeleteAt}
 use Rattle.scope.specs.Messages.{Store}
 use Rattle.scope.specs.Queues.{withStore, queueFound, firstReceiver, queueBorn, queueDeleteAt}
-use Rattle.scope.specs.Ticks.{ticked, wakeDue, tick}
+use Rattle.scope.specs.Ticks.{tick}
 use Rattle.laws.proofs.Branches.{both-true, not-of-true, true-false, true-or-false, eq-or-not, picked-yes, picked-no}
 use Rattle.tables.proofs.Laws.{found-live, found-identifier, usable-at, usable-free}
 use Rattle.seats.specs.Rule.{In}
@@ -57,7 +57,7 @@ use Rattle.books.proofs.Woken.{ready-others, Left, leaves-left, ready-l
 use Rattle.books.proofs.Agreeing.{turnOf, Waiters, Options, Agrees, waiters-of, object-room, is-answer, not-call, not-of, not-creates, not-done}
 use Rattle.books.proofs.Claiming.{waiters-more, waiters-same, claim-stays, claim-came, claim-new, claim-kept, claim-joined}
 use Rattle.books.proofs.Steps.{Steps, waiter-live, waiter-seen, ends-woken, SameKind, same-tables, otherKind, by-kinds, Spares, spared, Moves, moves-none}
-use Rattle.books.proofs.Steps.{moves-woke, status-steps, call-steps, create-steps, set-steps, delete-steps, born-steps, gone-steps}
+use Rattle.books.proofs.Steps.{moves-woke, tick-moves, status-steps, call-steps, create-steps, set-steps, delete-steps, born-steps, gone-steps}
 use Rattle.books.specs.Told.{roomOf, objectOf, taskId, idOf}
 
 module _ (s : State) (x : Event) where
@@ -121,11 +121,7 @@ module _ (s : State) (ok : Sound s) (x : Event) where
   tick-steps at =
       call-steps s x (tick s) refl refl 0 at (spared 0 refl)
       (record { serial = refl; live = refl; priority = refl }) (same-tables s (tick s) refl refl)
-      (record {
-        leave = moves-woke s ok (ticked l) (wakeDue k 32 0 (noneWoken (ticked l))) TIME-OUT refl
-            (fewer-then l (ticked l) _ (ticked-fewer l) (due-fewer k 32 0 (noneWoken (ticked l)) (omega arith) whole))
-            (due-woke k (ticked l) 32 0 (noneWoken (ticked l)) (omega arith) (omega arith) (none-woke k (ticked l) whole));
-      })
+      (tick-moves s ok)
 
   -- the task calls
   task-create-at : x .call ≡ 1 → (t : ℕ) → t < 32 → getD (k .live) t false ≡ false

@@ -27,7 +27,7 @@ use Rattle.scope.specs.Waiting.{FOREVER, wake, wakeNext, noneWoken}
 use Rattle.scope.specs.Ticks.{ticked, isDue, wakeDue, tick}
 use Rattle.scope.specs.Replies.{wakesFrom, wakeList, replyOf}
 use Rattle.scope.specs.Fresh.{freshState}
-use Rattle.scope.proofs.Times.{forever-stays, takes-one}
+use Rattle.scope.proofs.Times.{tick-takes-one}
 use Rattle.laws.proofs.Branches.{both, both-true, first-fails, second-fails, not-of-true, not-of-false, eq-or-not, picked-yes}
 use Rattle.seats.specs.Rule.{In}
 use Rattle.histories.specs.Sound.{Sound}
@@ -44,12 +44,12 @@ use Rattle.books.specs.Times.{timeOutOf, ticksSince, endsNext, wakesAs}
 use Rattle.books.proofs.Woken.{Left, wake-left, none-woke, due-woke}
 use Rattle.books.specs.Told.{objectOf, taskId}
 use Rattle.books.proofs.Agreeing.{WaiterOf, waiters-of, object-room}
-use Rattle.books.proofs.Steps.{Moves, moves-woke}
+use Rattle.books.proofs.Steps.{tick-moves}
 use Rattle.books.proofs.Told.{fresh-idle, fresh-agrees, history-agrees}
-use Rattle.books.proofs.Clocks.{Runs, Clocked, some-left, tick-left, tick-done, clocked-after}
+use Rattle.books.proofs.Clocks.{Runs, Clocked, some-left, tick-done, clocked-after}
 
--- The tick itself: it passes by who has a time_out left.
-due-left : (l : Line) (t : ℕ) → isDue l t ≡ true → getD (l .left) t 0 ≡ 0
+-- The tick itself: it passes by who has more than one left.
+due-left : (l : Line) (t : ℕ) → isDue l t ≡ true → getD (l .left) t 0 ≡ 1
 unfolding isDue
 due-left l t e = eqb-true _ _ (both-true (waitsOn (getD (l .seat) t 0)) _ e .1)
 
@@ -62,13 +62,13 @@ unfolding wakeNext
 next-others k w t h good = wake-left (w .line) good (getD (k .suspended) t false) (getD (k .priority) t 0) t h
 
 module _ (k : Tasks) (u i : ℕ) (hi : i < objectsEnd) where
-  due-spares : (n t : ℕ) (w : Waking) → n + t ≤ 32 → Good (w .line .seat) → (getD (w .line .left) u 0 ≡ 0 → ⊥)
+  due-spares : (n t : ℕ) (w : Waking) → n + t ≤ 32 → Good (w .line .seat) → (getD (w .line .left) u 0 ≡ 1 → ⊥)
       → In (w .line .seat) (queueSeats i) u → In (wakeDue k n t w .line .seat) (queueSeats i) u
   unfolding wakeDue
   due-spares zero t w h good some at = at
   due-spares (suc n) t w h good some at = go (λ v g m b. due-spares n (suc t) v (omega arith) g m b) (isDue (w .line) t) refl
     where
-      go : ((v : Waking) → Good (v .line .seat) → (getD (v .line .left) u 0 ≡ 0 → ⊥) → In (v .line .seat) (queueSeats i) u
+      go : ((v : Waking) → Good (v .line .seat) → (getD (v .line .left) u 0 ≡ 1 → ⊥) → In (v .line .seat) (queueSeats i) u
           → In (wakeDue k n (suc t) v .line .seat) (queueSeats i) u)
           → (b : Bool) → isDue (w .line) t ≡ b
           → In (elim b as (λ x. Waking) [ true ↦ wakeDue k n (suc t) (wakeNext k w t) | false ↦ wakeDue k n (suc t) w ] .line .seat) (queueSeats i) u
@@ -91,19 +91,9 @@ wakes-as (suc n) k tasks why z = go (eqb (getD tasks k 0) z) (eqb why why) (eq-e
     go false c e r q d = d
 
 module _ (s : State) (ok : Sound s) where
-  tick-moves : Moves s (tick s)
+  tick-spares : (i : ℕ) → i < objectsEnd → (t : ℕ) → WaitsFor s i t → (getD (s .line .left) t 0 ≡ 1 → ⊥) → WaitsFor (tick s .state) i t
   unfolding tick wakesWith
-  tick-moves =
-      record {
-        leave = moves-woke s ok (ticked (s .line)) (wakeDue (s .tasks) 32 0 (noneWoken (ticked (s .line)))) TIME-OUT refl
-            (fewer-then (s .line) (ticked (s .line)) _ (ticked-fewer (s .line))
-            (due-fewer (s .tasks) 32 0 (noneWoken (ticked (s .line))) (omega arith) (good s ok)))
-            (due-woke (s .tasks) (ticked (s .line)) 32 0 (noneWoken (ticked (s .line))) (omega arith) (omega arith) (none-woke (s .tasks) (ticked (s .line)) (good s ok)));
-      }
-
-  tick-spares : (i : ℕ) → i < objectsEnd → (t : ℕ) → WaitsFor s i t → (getD (ticked (s .line) .left) t 0 ≡ 0 → ⊥) → WaitsFor (tick s .state) i t
-  unfolding tick wakesWith
-  tick-spares i h t w some = due-spares (s .tasks) t i h 32 0 (noneWoken (ticked (s .line))) (omega arith) (good s ok) some w
+  tick-spares i h t w more = due-spares (s .tasks) t i h 32 0 (noneWoken (s .line)) (omega arith) (good s ok) more w
 
   as-woken : (z : ℕ) → wakesAs TIME-OUT (wakeList (tick s)) z ≡ wakes (wakeList (tick s)) z
   unfolding tick wakesWith
@@ -116,23 +106,13 @@ module _ (s : State) (ok : Sound s) where
 
     one-woken : left ≡ 1 → wakes (wakeList (tick s)) (taskId s t) ≡ true
     one-woken e =
-        let none : getD (ticked (s .line) .left) t 0 ≡ 0 = takes-one (s .line) t (λ f. omega (arith, e, f)) ∙ omega (arith, e) in
         ⊎-elim
-        (λ b. absurd (some-left (tick s .state) (tick-sound s ok) i h t b (⊎-elim (λ c. c ∙ none) (λ c. c) (tick-left s t))))
+        (λ b. absurd (some-left (tick s .state) (tick-sound s ok) i h t b (tick-takes-one s t (λ f. omega (arith, e, f)) ∙ omega (arith, e))))
         (λ b. b)
-        (tick-moves .leave .went i h t w)
+        (tick-moves s ok .leave .went i h t w)
 
     more-spared : (left ≡ 1 → ⊥) → wakes (wakeList (tick s)) (taskId s t) ≡ false
-    more-spared ne =
-        tick-moves .leave .gone i h t
-        (tick-spares i h t w (λ e. ⊎-elim
-        (λ f. let g = forever-stays (s .line) t f in omega (arith, e, g))
-        (λ f. ne (one left (some-left s ok i h t w) (sym (takes-one (s .line) t f) ∙ e)))
-        (eq-or-not left FOREVER)))
-      where
-        one : (v : ℕ) → (v ≡ 0 → ⊥) → v - 1 ≡ 0 → v ≡ 1
-        one zero some e = absurd (some refl)
-        one (suc v) some e = omega (arith, e)
+    more-spared ne = tick-moves s ok .leave .gone i h t (tick-spares i h t w ne)
 
 -- when the next tick is the last
 ends-yes : (past : List Turn) (z left : ℕ) → Runs (timeOutOf past z) (ticksSince past z) left → left ≡ 1 → endsNext past z ≡ true

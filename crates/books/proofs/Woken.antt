@@ -19,7 +19,7 @@ use Rattle.scope.specs.Identifiers.{identifier}
 use Rattle.scope.specs.Seats.{queueSeats, ringSeats, firstOf, leaves, becomesReady}
 use Rattle.scope.specs.Objects.{objectsEnd}
 use Rattle.scope.specs.Waiting.{wokenSeats, wake, wakeNext, wakeAll, noneWoken}
-use Rattle.scope.specs.Ticks.{isDue, wakeDue}
+use Rattle.scope.specs.Ticks.{isDue, wakeDue, takesOne}
 use Rattle.scope.specs.Replies.{wakesFrom}
 use Rattle.laws.proofs.Branches.{lt-or-le, eq-or-not, true-false, true-or-false, picked-yes, picked-no}
 use Rattle.seats.specs.Rule.{In}
@@ -190,3 +190,7 @@ due-woke k l (suc n) t w h a ok = go (λ v b g. due-woke k l n (suc t) v (omega 
         → Woke k l (elim b as (λ x. Waking) [ true ↦ wakeDue k n (suc t) (wakeNext k w t) | false ↦ wakeDue k n (suc t) w ])
     go rec true = rec (wakeNext k w t) (omega (arith, more-woken k w t)) (next-woke k l w t (omega arith) (omega arith) ok)
     go rec false = rec w (omega arith) ok
+
+-- to take from the time_outs moves nobody
+pub taken-woke : (k : Tasks) (l : Line) (w : Waking) → Woke k l w → Woke k l (takesOne w)
+taken-woke k l w ok = record { size = ok .size; good = ok .good; out = ok .out; left = ok .left }

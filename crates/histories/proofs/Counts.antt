@@ -69,7 +69,7 @@ module _ (l : Line) (k : Tasks) (m : Objects) (ok : LineSound l k m) (i : ℕ) (
       (leaves-others (l .seat) (ringSeats (getD (k .priority) t 0)) t (omega arith) (ready .stands) (queueSeats i) (omega arith)
       (λ e. omega arith) (standing (l .seat) (queueSeats i)) (ok .queues .tasks) (ok .queues .seated (queueSeats i) (omega arith))))
 
--- "timed out": at its slot a tick finds that nothing is left of its time_out
+-- "timed out": at its slot a tick finds the last one of its time_out
 pub timed-out-count : (k : Tasks) (m : Semaphores) (u : Queues) (w : Waking) (i t : ℕ) → LineSound (w .line) k (objects m u) → i < 16 → t < 32 → In (w .line .seat) (queueSeats i) t
     → isDue (w .line) t ≡ true → count (wakeDue k 1 t w .line) m i ≡ plusOne (count (w .line) m i)
 timed-out-count k m u w i t ok hi h at due = waiters.timed-out-gives-back k m w i t (waiter (w .line) k (objects m u) ok i hi t h at) due

@@ -1,7 +1,7 @@
 -- A tick over the paper's lists: those due leave their queues, are on the wake list in ascending slot order, and become ready in that
 -- order unless they are suspended. To wake one does not change whether another is due. By induction on the slots.
 -- Assumes nothing.
-use Prim.Native.Nat.{ℕ, zero, suc, _+_, _*_, _/_, _%_, _≤_, _<_}
+use Prim.Native.Nat.{ℕ, zero, suc, _+_, _-_, _*_, _/_, _%_, _≤_, _<_}
 use native.Mathlib.Omega.{arith}
 use mathlib.Core.Path.{_≡_, refl, sym, subst, ap, _∙_}
 use mathlib.Core.Logic.{⊎-elim}
@@ -21,21 +21,24 @@ use Rattle.scope.specs.Statuses.{TIME-OUT}
 use Rattle.scope.specs.Seats.{ringSeats, firstRing, seatBehind, waitsOn, leaves, becomesReady, queue, readyOrder}
 use Rattle.scope.specs.Objects.{objectsEnd, objectsOf}
 use Rattle.scope.specs.Answers.{wakesWith}
-use Rattle.scope.specs.Waiting.{wokenSeats, wake, wakeNext, noneWoken}
+use Rattle.scope.specs.Waiting.{FOREVER, isTimeOut, wokenSeats, wake, wakeNext, noneWoken}
 use Rattle.scope.specs.Replies.{Wake, wakeList}
 use Rattle.scope.specs.Ticks.{ticked, isDue, wakeDue, tick}
 use Rattle.scope.proofs.Rows.{by-choice}
 use Rattle.scope.proofs.Seats.{ahead-from}
-use Rattle.laws.proofs.Branches.{both-true, not-of-true, not-of-false, true-false, true-or-false, eq-or-not}
+use Rattle.scope.proofs.Times.{forever-stays, takes-one}
+use Rattle.laws.proofs.Branches.{both-true, first-fails, not-of-true, not-of-false, true-false, true-or-false, eq-or-not}
 use Rattle.seats.specs.Rule.{In}
 use Rattle.seats.proofs.Leaving.{leaves-is}
 use Rattle.seats.proofs.Joining.{joins-is}
 use Rattle.seats.proofs.Rule.{stands-in}
 use Rattle.histories.specs.Sound.{TasksSound, Sound}
+use Rattle.histories.proofs.Moves.{on-waits}
 use Rattle.histories.proofs.Staying.{Good}
+use Rattle.histories.proofs.Ticks.{time-out-says}
 use Rattle.histories.proofs.Tests.{waits-says}
 use Rattle.lists.specs.Rules.{readyOf, queueIn}
-use Rattle.lists.specs.Calls.{ListsAfter, allWokenInto, wakeOf, slotsFrom, dueIn, withoutAll}
+use Rattle.lists.specs.Calls.{ListsAfter, allWokenInto, wakeOf, slotsFrom, reaches, dueIn, withoutAll}
 use Rattle.lists.proofs.Plain.{has-head, has-other, keep-yes, keep-no, keep-all, keep-twice}
 use Rattle.lists.proofs.Again.{Own, good-line, own-line}
 use Rattle.lists.proofs.Wakes.{woken, woken-good, woken-own, woken-order, woken-queue, wakesOf, next-wakes, next-line, next-count, next-size}
@@ -88,8 +91,8 @@ due-other k w good t waits u ne =
     by-choice (λ (r : List ℕ). waitsOn (getD r u 0) ≡ waitsOn (getD q u 0)) (getD (k .suspended) t false)
     (λ y. left-waits q (w .line .joined) good t (h .0) (h .1) u ne)
     (λ n. again-waits q (w .line .joined) good t (h .0) (h .1) u ne (getD (k .priority) t 0)) in
-    ap (λ (b : Bool). b && eqb (getD (set (w .line .left) t 0) u 0) 0) seat
-    ∙ ap (λ (x : ℕ). waitsOn (getD q u 0) && eqb x 0) (getD-set-other (w .line .left) t u 0 0 ne)
+    ap (λ (b : Bool). b && eqb (getD (set (w .line .left) t 0) u 0) 1) seat
+    ∙ ap (λ (x : ℕ). waitsOn (getD q u 0) && eqb x 1) (getD-set-other (w .line .left) t u 0 0 ne)
 
 -- a list without each of these, one after another
 all-none : (xs : List ℕ) → withoutAll [] xs ≡ xs
@@ -170,21 +173,68 @@ module _ (k : Tasks) (tasks : TasksSound k) (why : ℕ) (due : ℕ → Bool) whe
       (timed n (suc t) w (omega arith) good own (λ u h. same u (omega arith)) long (omega arith))))
       (true-or-false (due t))
 
-module _ (s : State) (ok : Sound s) where
-  abbrev start : Waking
-  start = noneWoken (ticked (s .line))
+-- two tests that agree of every slot keep the same
+kept-same : (p q : ℕ → Bool) → ((u : ℕ) → u < 32 → p u ≡ q u) → (n t : ℕ) → n + t ≡ 32 → keep p (slotsFrom n t) ≡ keep q (slotsFrom n t)
+kept-same p q same zero t e = refl
+kept-same p q same (suc n) t e =
+    let rest : List ℕ = slotsFrom n (suc t) in
+    let rec : keep p rest ≡ keep q rest = kept-same p q same n (suc t) (omega arith) in
+    let here : p t ≡ q t = same t (omega arith) in
+    ⊎-elim
+    (λ y. keep-yes p t rest (here ∙ y) ∙ ap (λ (l : List ℕ). t ∷ l) rec ∙ sym (keep-yes q t rest y))
+    (λ z. keep-no p t rest (here ∙ z) ∙ rec ∙ sym (keep-no q t rest z))
+    (true-or-false (q t))
 
-  ticks : Timed (s .tasks) TIME-OUT (dueIn s) start (wakeDue (s .tasks) 32 0 start)
+one-left : (x y : ℕ) → y ≡ x - 1 → 1 ≤ x → eqb y 0 ≡ eqb x 1
+one-left x y e some =
+    ⊎-elim
+    (λ a. eq-eqb y 0 (omega arith) ∙ sym (eq-eqb x 1 a))
+    (λ ne. ne-eqb y 0 (λ z. ne (omega arith)) ∙ sym (ne-eqb x 1 ne))
+    (eq-or-not x 1)
+
+module _ (s : State) (ok : Sound s) where
+  abbrev dueNow : List ℕ
+  dueNow = keep (isDue (s .line)) (slotsFrom 32 0)
+
+  abbrev start : Waking
+  start = noneWoken (s .line)
+
+  ticks : Timed (s .tasks) TIME-OUT dueNow start (wakeDue (s .tasks) 32 0 start)
   ticks =
-      timed (s .tasks) (ok .tasks) TIME-OUT (isDue (ticked (s .line))) 32 0 start refl
+      timed (s .tasks) (ok .tasks) TIME-OUT (isDue (s .line)) 32 0 start refl
       (good-line (s .line) (s .tasks) (objectsOf s) (ok .line)) (own-line (s .line) (s .tasks) (objectsOf s) (ok .line))
       (λ u h. refl) (length-replicate {A = ℕ} 32 0) (omega arith)
+
+  -- of one who waits nothing is left after the tick exactly if one was left before
+  time-tells : (t : ℕ) → isTimeOut (getD (s .line .left) t 0) ≡ true → eqb (getD (ticked (s .line) .left) t 0) 0 ≡ eqb (getD (s .line .left) t 0) 1
+  time-tells t e =
+      let now : ℕ = getD (s .line .left) t 0 in
+      let then : ℕ = getD (ticked (s .line) .left) t 0 in
+      ⊎-elim
+      (λ f. let stays : then ≡ FOREVER = forever-stays (s .line) t f in
+      ne-eqb then 0 (λ z. omega (arith, stays, z)) ∙ sym (ne-eqb now 1 (λ z. omega (arith, f, z))))
+      (λ f. one-left now then (takes-one (s .line) t (λ g. omega (arith, f .1, g))) (f .0))
+      (time-out-says (getD (s .line .left) t 0) e)
+
+  reaches-due : (t : ℕ) → t < 32 → reaches s t ≡ isDue (s .line) t
+  unfolding isDue
+  reaches-due t h =
+      let seat : ℕ = getD (s .line .seat) t 0 in
+      ⊎-elim
+      (λ y. ap (λ (b : Bool). waitsOn seat && b) (time-tells t (on-waits (s .line) (s .tasks) (objectsOf s) (ok .line) t h y .time)))
+      (λ z. first-fails _ _ z ∙ sym (first-fails _ _ z))
+      (true-or-false (waitsOn seat))
+
+  due-reaches : dueIn s ≡ dueNow
+  due-reaches = kept-same (reaches s) (isDue (s .line)) reaches-due 32 0 refl
 
   -- "Those reaching 0 are woken with 13 in ascending slot order"
   pub tick-wakes : wakeList (tick s) ≡ map (wakeOf (s .tasks) TIME-OUT) (dueIn s)
   unfolding tick wakesWith
-  tick-wakes = ticks .list
+  tick-wakes = subst (λ (xs : List ℕ). wakeList (tick s) ≡ map (wakeOf (s .tasks) TIME-OUT) xs) (sym due-reaches) (ticks .list)
 
   pub tick-lists : ListsAfter (tick s) (allWokenInto (s .tasks) (dueIn s) (readyOf s)) (λ i. withoutAll (dueIn s) (queueIn s i))
   unfolding tick wakesWith
-  tick-lists = record { ready = ticks .order; waiting = ticks .queues }
+  tick-lists =
+      subst (λ (xs : List ℕ). ListsAfter (tick s) (allWokenInto (s .tasks) xs (readyOf s)) (λ i. withoutAll xs (queueIn s i))) (sym due-reaches)
+      (record { ready = ticks .order; waiting = ticks .queues })

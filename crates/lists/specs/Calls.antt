@@ -2,7 +2,7 @@
 -- Assumes nothing.
 use Prim.Native.Nat.{ℕ, zero, suc, _<_}
 use mathlib.Core.Path.{_≡_}
-use mathlib.Core.Bool.{Bool, false, not}
+use mathlib.Core.Bool.{Bool, false, not, _&&_}
 use mathlib.Core.List.{List, [], _∷_, _++_}
 use lib.ListN.{getD}
 use lib.Dec.{leb, eqb}
@@ -12,9 +12,10 @@ use Rattle.scope.specs.declared.Tasks.{Tasks}
 use Rattle.scope.specs.Choice.{pick}
 use Rattle.scope.specs.Lists.{has, keep, insert}
 use Rattle.scope.specs.Identifiers.{identifier}
+use Rattle.scope.specs.Seats.{waitsOn}
 use Rattle.scope.specs.Objects.{objectsEnd}
 use Rattle.scope.specs.Replies.{Wake}
-use Rattle.scope.specs.Ticks.{ticked, isDue}
+use Rattle.scope.specs.Ticks.{ticked}
 use Rattle.lists.specs.Rules.{readyOf, queueIn}
 
 -- after the answer the ready order and the queues are these
@@ -52,9 +53,13 @@ abbrev pub slotsFrom : ℕ → ℕ → List ℕ
 slotsFrom zero t = []
 slotsFrom (suc n) t = t ∷ slotsFrom n (suc t)
 
--- the tasks whose time_out a tick brings to 0, "in ascending slot order"
+-- "Those reaching 0": the task waits, and once "one from each running time_out" is taken nothing is left of its own
+abbrev pub reaches : State → ℕ → Bool
+reaches s t = waitsOn (getD (s .line .seat) t 0) && eqb (getD (ticked (s .line) .left) t 0) 0
+
+-- "in ascending slot order"
 abbrev pub dueIn : State → List ℕ
-dueIn s = keep (isDue (ticked (s .line))) (slotsFrom 32 0)
+dueIn s = keep (reaches s) (slotsFrom 32 0)
 
 -- a list without each of these
 abbrev pub withoutAll : List ℕ → List ℕ → List ℕ

@@ -16,7 +16,7 @@ use Rattle.scope.specs.declared.Waking.{Waking}
 use Rattle.scope.specs.Identifiers.{identifier, slotOf}
 use Rattle.scope.specs.Waiting.{wakeNext, noneWoken}
 use Rattle.scope.specs.Answers.{wakesWith}
-use Rattle.scope.specs.Ticks.{ticked, isDue, wakeDue, tick}
+use Rattle.scope.specs.Ticks.{isDue, wakeDue, tick}
 use Rattle.scope.proofs.Rows.{branch}
 
 -- the slots of the first n of a wake list ascend, and all lie below slot t
@@ -74,7 +74,7 @@ all k (suc n) t w h p =
 pub woken-in-slot-order : (s : State) (a b : ℕ) → a < b → b < tick s .woken → slotOf (getD (tick s .wakes) a 0) < slotOf (getD (tick s .wakes) b 0)
 unfolding tick wakesWith
 woken-in-slot-order s =
-    all (s .tasks) 32 0 (noneWoken (ticked (s .line))) (omega arith) (record {
+    all (s .tasks) 32 0 (noneWoken (s .line)) (omega arith) (record {
       size = refl;
       few = omega arith;
       below = λ a l. absurd (omega arith);

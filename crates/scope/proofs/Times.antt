@@ -2,7 +2,7 @@
 -- suspended waiter whose time_out reaches 0 leaves its queue, is on the wake list, and stands nowhere until it is resumed.
 -- Assumes nothing.
 use Prim.Native.Nat.{ℕ, zero, suc, _+_, _-_, _<_}
-use mathlib.Core.Path.{_≡_, refl, sym, _∙_}
+use mathlib.Core.Path.{_≡_, refl, sym, ap, _∙_}
 use mathlib.Core.Bool.{Bool, true, false, _&&_}
 use mathlib.Core.List.{List, [], _∷_}
 use lib.ListN.{length, getD, set}
@@ -34,43 +34,47 @@ pub takes-one : (l : Line) (t : ℕ) → (getD (l .left) t 0 ≡ FOREVER → ⊥
 unfolding timeLeft pick
 takes-one l t ne = every-time-out (l .left) t ∙ rw (timeLeft, ne-eqb (getD (l .left) t 0) FOREVER ne)
 
--- to wake those of whom nothing is left changes no time_out
-none-stays-none : (left : List ℕ) (t u : ℕ) → getD left t 0 ≡ 0 → getD (set left t 0) u 0 ≡ getD left u 0
-none-stays-none [] t u e = refl
-none-stays-none (x ∷ left) zero zero e = sym e
-none-stays-none (x ∷ left) zero (suc u) e = refl
-none-stays-none (x ∷ left) (suc t) zero e = refl
-none-stays-none (x ∷ left) (suc t) (suc u) e = none-stays-none left t u e
+-- to wake those with one left, and to take one from each then, leaves what it leaves without waking them
+last-is-taken : (left : List ℕ) (t u : ℕ) → getD left t 0 ≡ 1 → timeLeft (getD (set left t 0) u 0) ≡ timeLeft (getD left u 0)
+unfolding timeLeft pick
+last-is-taken [] t u e = refl
+last-is-taken (x ∷ left) zero zero e = sym (ap timeLeft e)
+last-is-taken (x ∷ left) zero (suc u) e = refl
+last-is-taken (x ∷ left) (suc t) zero e = refl
+last-is-taken (x ∷ left) (suc t) (suc u) e = last-is-taken left t u e
 
-due-has-none : (l : Line) (t : ℕ) → isDue l t ≡ true → getD (l .left) t 0 ≡ 0
+due-has-one : (l : Line) (t : ℕ) → isDue l t ≡ true → getD (l .left) t 0 ≡ 1
 unfolding isDue
-due-has-none l t e = eqb-true (getD (l .left) t 0) 0 (second-holds (waitsOn (getD (l .seat) t 0)) _ e)
+due-has-one l t e = eqb-true (getD (l .left) t 0) 1 (second-holds (waitsOn (getD (l .seat) t 0)) _ e)
   where
     second-holds : (a b : Bool) → (a && b) ≡ true → b ≡ true
     second-holds true b e = e
     second-holds false true e = refl
     second-holds false false e = e
 
-wakes-leave-times : (k : Tasks) (n t : ℕ) (w : Waking) (u : ℕ) → getD (wakeDue k n t w .line .left) u 0 ≡ getD (w .line .left) u 0
+wakes-leave-times : (k : Tasks) (n t : ℕ) (w : Waking) (u : ℕ) → timeLeft (getD (wakeDue k n t w .line .left) u 0) ≡ timeLeft (getD (w .line .left) u 0)
 unfolding wakeDue wakeNext wake
 wakes-leave-times k zero t w u = refl
 wakes-leave-times k (suc n) t w u = go (isDue (w .line) t) refl (λ v. wakes-leave-times k n (suc t) v u)
   where
-    go : (b : Bool) → isDue (w .line) t ≡ b → ((v : Waking) → getD (wakeDue k n (suc t) v .line .left) u 0 ≡ getD (v .line .left) u 0)
-        → getD (elim b as (λ x. Waking) [ true ↦ wakeDue k n (suc t) (wakeNext k w t) | false ↦ wakeDue k n (suc t) w ] .line .left) u 0
-        ≡ getD (w .line .left) u 0
-    go true e rec = rec (wakeNext k w t) ∙ none-stays-none (w .line .left) t u (due-has-none (w .line) t e)
+    go : (b : Bool) → isDue (w .line) t ≡ b
+        → ((v : Waking) → timeLeft (getD (wakeDue k n (suc t) v .line .left) u 0) ≡ timeLeft (getD (v .line .left) u 0))
+        → timeLeft (getD (elim b as (λ x. Waking) [ true ↦ wakeDue k n (suc t) (wakeNext k w t) | false ↦ wakeDue k n (suc t) w ] .line .left) u 0)
+        ≡ timeLeft (getD (w .line .left) u 0)
+    go true e rec = rec (wakeNext k w t) ∙ last-is-taken (w .line .left) t u (due-has-one (w .line) t e)
     go false e rec = rec w
 
--- "A tick takes one from each running time_out": of every task's, suspended or not
+-- "A tick takes one from each running time_out": of every task's, suspended or not, woken or not
+pub tick-times : (s : State) (t : ℕ) → getD (tick s .state .line .left) t 0 ≡ getD (ticked (s .line) .left) t 0
+unfolding tick wakesWith
+tick-times s t = every-time-out _ t ∙ wakes-leave-times (s .tasks) 32 0 _ t ∙ sym (every-time-out (s .line .left) t)
+
 pub tick-takes-one : (s : State) (t : ℕ) → (getD (s .line .left) t 0 ≡ FOREVER → ⊥)
     → getD (tick s .state .line .left) t 0 ≡ getD (s .line .left) t 0 - 1
-unfolding tick wakesWith
-tick-takes-one s t ne = wakes-leave-times (s .tasks) 32 0 _ t ∙ takes-one (s .line) t ne
+tick-takes-one s t ne = tick-times s t ∙ takes-one (s .line) t ne
 
 pub tick-leaves-forever : (s : State) (t : ℕ) → getD (s .line .left) t 0 ≡ FOREVER → getD (tick s .state .line .left) t 0 ≡ FOREVER
-unfolding tick wakesWith
-tick-leaves-forever s t e = wakes-leave-times (s .tasks) 32 0 _ t ∙ forever-stays (s .line) t e
+tick-leaves-forever s t e = tick-times s t ∙ forever-stays (s .line) t e
 
 -- a suspended waiter is due, and the tick comes to its slot
 module _ (k : Tasks) (w : Waking) (t : ℕ) (suspended : getD (k .suspended) t false ≡ true) (due : isDue (w .line) t ≡ true) where

@@ -65,7 +65,7 @@ module _ (l : Line) (i t : ℕ) (waits : Waits l i t) where
   pub woken-gives-back : (m : Semaphores) (suspended : Bool) (priority : ℕ) → count (wake l suspended priority t) m i ≡ plusOne (count l m i)
   woken-gives-back m b p = waiter-less _ _ _ (one-less b p)
 
--- timed out: at its slot a tick finds that nothing is left
+-- timed out: at its slot a tick finds the last one left
 pub timed-out-gives-back : (k : Tasks) (m : Semaphores) (w : Waking) (i t : ℕ) → Waits (w .line) i t → isDue (w .line) t ≡ true
     → count (wakeDue k 1 t w .line) m i ≡ plusOne (count (w .line) m i)
 unfolding wakeDue wakeNext

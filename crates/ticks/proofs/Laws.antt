@@ -3,21 +3,20 @@
 use Prim.Native.Nat.{ℕ, zero, suc, _+_, _-_, _≤_, _<_}
 use native.Mathlib.Omega.{arith}
 use native.Mathlib.Numerals.{add-one}
-use mathlib.Core.Path.{_≡_, refl, sym, ap, _∙_}
-use mathlib.Core.Bool.{Bool, true, false, _&&_}
-use mathlib.Core.List.{List, map}
+use mathlib.Core.Path.{_≡_, refl, _∙_}
+use mathlib.Core.Bool.{Bool, true, false}
+use mathlib.Core.List.{List}
 use lib.ListN.{getD}
-use lib.Dec.{ltb, eqb}
+use lib.Dec.{eqb}
 use Rattle.laws.proofs.Arrays.{Changing, mapping-done}
-use Rattle.laws.proofs.Branches.{picked-yes, picked-no}
+use Rattle.laws.proofs.Branches.{picked-yes, picked-no, second-fails}
+use Rattle.scope.specs.declared.Line.{Line}
 use Rattle.scope.specs.declared.Tasks.{Tasks}
 use Rattle.scope.specs.declared.Waking.{Waking}
-use Rattle.scope.specs.Seats.{firstRing, waitsOn}
-use Rattle.scope.proofs.Seats.{mapped}
+use Rattle.scope.specs.Seats.{waitsOn}
 use Rattle.scope.specs.Choice.{pick}
 use Rattle.scope.specs.Waiting.{wakeNext}
 use Rattle.scope.specs.Ticks.{timeLeft, timesLeft, isDue, wakeDue}
-use Rattle.answers.specs.Columns.{lineOf}
 
 -- a loop that changes each time_out in its place makes `timesLeft`
 pub times-done : (left r : List ℕ) (k : ℕ) → 32 ≤ k → Changing 32 (λ j. timeLeft) left r k → r ≡ timesLeft left
@@ -47,31 +46,10 @@ pub due-done : (k : Tasks) (x w : Waking) (t : ℕ) → Looked k x w t → 32 �
 unfolding wakeDue
 due-done k x w t m h = let d : 32 - t ≡ 0 = omega arith in rw d at (m .2)
 
--- who waits is told by the seats of those who wait, the others' made 0
-abbrev pub waitingSeat : ℕ → ℕ
-waitingSeat x = pick (waitsOn x) x 0
-
-waits-shown : (x : ℕ) → ltb 0 (waitingSeat x) ≡ waitsOn x
-unfolding waitsOn pick
-waits-shown x = go (ltb 0 x) refl (ltb x firstRing)
-  where
-    go : (a : Bool) → ltb 0 x ≡ a → (b : Bool) → ltb 0 (pick (a && b) x 0) ≡ (a && b)
-    go true e true = e
-    go true e false = refl
-    go false e b = refl
-
-nowhere-waits : waitingSeat 0 ≡ 0
-unfolding waitsOn pick
-nowhere-waits = refl
-
-abbrev pub dueAt : List ℕ → List ℕ → ℕ → Bool
-dueAt left w t = ltb 0 (getD w t 0) && eqb (getD left t 0) 0
-
-pub due-told : (seat w left joined rings : List ℕ) (t : ℕ) → w ≡ map waitingSeat seat → isDue (lineOf left seat joined rings) t ≡ dueAt left w t
+-- nobody has one left, so nobody is due
+pub none-last : (l : Line) (t : ℕ) → eqb (getD (l .left) t 0) 1 ≡ false → isDue l t ≡ false
 unfolding isDue
-due-told seat w left joined rings t e =
-    sym (ap (λ (b : Bool). b && eqb (getD left t 0) 0)
-    (ap (λ (l : List ℕ). ltb 0 (getD l t 0)) e ∙ (ap (ltb 0) (mapped waitingSeat nowhere-waits seat t) ∙ waits-shown (getD seat t 0))))
+none-last l t e = second-fails (waitsOn (getD (l .seat) t 0)) _ e
 
 -- nobody is due, so nobody is woken
 pub none-due : (k : Tasks) (w : Waking) (n t : ℕ) → ((j : ℕ) → j < t + n → isDue (w .line) j ≡ false) → w ≡ wakeDue k n t w

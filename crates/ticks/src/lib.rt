@@ -1,9 +1,9 @@
-// The tick: one taken from each running time_out, then those who reached 0 woken in ascending slot order.
+// The tick: those whose last one it takes woken in ascending slot order, then one taken from each running time_out.
 // (scope's specs/Ticks.antt.)
 use answers::Outcome;
 ghost use mathlib.Core.Path.{_≡_};
 ghost use mathlib.Core.Bool.{false, _&&_};
-ghost use mathlib.Core.List.{List, map};
+ghost use lib.ListN.{getD};
 ghost use Prim.Native.Nat.{ℕ, _+_, _<_, _≤_};
 ghost use lib.Dec.{eqb};
 ghost use Rattle.scope.specs.declared.State.{State};
@@ -29,49 +29,25 @@ fn times_left(left: [u32; 32]) -> [u32; 32]
     r
 }
 
-// A task on this seat with this left of its time_out waits, and nothing is left.
+// A task on this seat with this left of its time_out waits, and the tick takes the last one.
 fn is_due(seat: u16, left: u32) -> bool
-    ensures { λ r. ⌜ r ≡ (waitsOn seat && eqb left 0) ⌝ }
+    ensures { λ r. ⌜ r ≡ (waitsOn seat && eqb left 1) ⌝ }
 {
     if seats::waits_on(seat) {
-        return left == 0;
+        return left == 1;
     }
     false
 }
 
-// The seat of a task that waits; 0 of one that does not.
-fn waiting_seat(x: u16) -> u16
-    ensures { λ r. ⌜ r ≡ pick (waitsOn x) x 0 ⌝ }
+// Whether anybody can be due. Most ticks wake nobody, and are told so by the time_outs alone, without a branch for each task and without
+// a look at the seats.
+fn any_last(left: [u32; 32]) -> bool
+    ensures { λ r. ⌜ (r ≡ false → (t : ℕ) → t < 32 → eqb (getD left t 0) 1 ≡ false) ⌝ }
 {
-    if seats::waits_on(x) {
-        return x;
-    }
-    0
-}
-
-fn waiting_seats(q: [u16; 32]) -> [u16; 32]
-    ensures { λ r. ⌜ r ≡ map (λ (x : ℕ). pick (waitsOn x) x 0) q ⌝ }
-{
-    let mut r = q;
-    let mut k: usize = 0;
-    while k < 32 {
-        let x = waiting_seat(r[k]);
-        r[k] = x;
-        k += 1;
-    }
-    r
-}
-
-// Whether anybody is due. Most ticks wake nobody, and are told so without a branch for each task. Who waits is told of all seats
-// first: the compiler takes eight seats at a time there, and four where the time_outs, which are twice as wide, stand beside them.
-fn any_due(seat: [u16; 32], left: [u32; 32]) -> bool
-    ensures { λ r. ⌜ (r ≡ false → (joined rings : List ℕ) (t : ℕ) → t < 32 → isDue (lineOf left seat joined rings) t ≡ false) ⌝ }
-{
-    let waiting = waiting_seats(seat);
     let mut any = false;
     let mut k: usize = 0;
     while k < 32 {
-        any = any | ((0 < waiting[k]) & (left[k] == 0));
+        any = any | (left[k] == 1);
         k += 1;
     }
     any
@@ -133,7 +109,7 @@ fn wake_due(
 {
     let mut woken: usize = 0;
     let mut t: usize = 0;
-    if !any_due(*seat, *left) {
+    if !any_last(*left) {
         return 0;
     }
     while t < 32 {
@@ -170,7 +146,6 @@ pub fn tick(
         (now (priority .entry)) running)) ⌝ }
 {
     *wakes = [0; 32];
-    *left = times_left(*left);
     let woken = wake_due(
         left,
         seat,
@@ -181,5 +156,6 @@ pub fn tick(
         priority,
         wakes,
     );
+    *left = times_left(*left);
     answers::woke(woken, scope::TIME_OUT, seats::runner(seat, rings[0]))
 }

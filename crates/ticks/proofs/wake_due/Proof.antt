@@ -5,10 +5,9 @@ use native.Mathlib.Omega.{arith}
 use mathlib.Core.Path.{_≡_, refl}
 use borrow.Author.Needs.{needs}
 use borrow.Author.Tests.{not-true}
-use denote.Ref.{now}
 use Rattle.answers.specs.Columns.{wakers, wakingOf}
 use Rattle.scope.specs.declared.Tasks.{Tasks}
-use Rattle.ticks.proofs.Laws.{Looked, due-looked, due-done, none-due}
+use Rattle.ticks.proofs.Laws.{Looked, due-looked, due-done, none-due, none-last}
 use Rattle.ticks.proofs.wake_due.Statement.{statement}
 use Rattle.ticks.proofs.wake_due.Tie as tie
 
@@ -19,11 +18,11 @@ Inv-loop left₀ seat₀ joined₀ rings₀ serial suspended priority wakes₀ w
 abbrev μ-loop : tie.MeasureT-loop
 μ-loop left₀ seat₀ joined₀ rings₀ serial suspended priority wakes₀ woken₀ t₀ left seat joined rings wakes woken t = 32 - t
 
-any-due-requires : tie.Need-any-due-requires Inv-loop μ-loop
-any-due-requires c κs = search needs
+any-last-requires : tie.Need-any-last-requires Inv-loop μ-loop
+any-last-requires c κs = search needs
 
 returns : tie.Need-returns Inv-loop μ-loop
-returns c = λ k. none-due _ _ 32 0 (λ j l. c .before .any-due .ensures (not-true _ (c .if1 .taken)) (now (c .before .before .before .before .args .joined)) (now (c .before .before .before .before .args .rings)) j l)
+returns c = λ k. none-due _ _ 32 0 (λ j l. none-last _ j (c .before .any-last .ensures (not-true _ (c .if1 .taken)) j l))
 
 loop-holds : tie.Need-loop-holds Inv-loop μ-loop
 loop-holds c = (search needs, λ k. (omega arith, omega arith, refl))
@@ -49,7 +48,7 @@ wake-due-spec =
     (tie.spec
     Inv-loop
     μ-loop
-    any-due-requires
+    any-last-requires
     returns
     loop-holds
     wake-if-due-requires
