@@ -15,18 +15,29 @@ ghost use Rattle.scope.specs.Ticks.{timesLeft, isDue, wakeDue, tick};
 ghost use Rattle.answers.specs.Outcomes.{answerOf};
 ghost use Rattle.answers.specs.Columns.{lineOf, wakers, wakingOf, lentLine};
 
-// One is taken from each running time_out.
-fn times_left(left: [u32; 32]) -> [u32; 32]
-    ensures { λ r. ⌜ r ≡ timesLeft left ⌝ }
+// The time_outs when one is taken from each that runs, and whether any of them was the last one.
+struct Taken {
+    left: [u32; 32],
+    last: bool,
+}
+
+// Both in one pass without a branch: most ticks wake nobody, and are told so by the time_outs alone.
+fn take_one(left: [u32; 32]) -> Taken
+    ensures { λ r. ⌜ (r .left ≡ timesLeft left) × (r .last ≡ false → (t : ℕ) → t < 32 → eqb (getD left t 0) 1 ≡ false) ⌝ }
 {
     let mut r = left;
+    let mut last = false;
     let mut k: usize = 0;
     while k < 32 {
-        let x = times::time_left(r[k]);
-        r[k] = x;
+        let x = r[k];
+        last = last | (x == 1);
+        r[k] = times::time_left(x);
         k += 1;
     }
-    r
+    Taken {
+        left: r,
+        last: last,
+    }
 }
 
 // A task on this seat with this left of its time_out waits, and the tick takes the last one.
@@ -37,20 +48,6 @@ fn is_due(seat: u16, left: u32) -> bool
         return left == 1;
     }
     false
-}
-
-// Whether anybody can be due. Most ticks wake nobody, and are told so by the time_outs alone, without a branch for each task and without
-// a look at the seats.
-fn any_last(left: [u32; 32]) -> bool
-    ensures { λ r. ⌜ (r ≡ false → (t : ℕ) → t < 32 → eqb (getD left t 0) 1 ≡ false) ⌝ }
-{
-    let mut any = false;
-    let mut k: usize = 0;
-    while k < 32 {
-        any = any | (left[k] == 1);
-        k += 1;
-    }
-    any
 }
 
 // Task `t` is woken if it is due. Answers how many are woken by then.
@@ -109,9 +106,6 @@ fn wake_due(
 {
     let mut woken: usize = 0;
     let mut t: usize = 0;
-    if !any_last(*left) {
-        return 0;
-    }
     while t < 32 {
         woken = wake_if_due(
             left,
@@ -146,6 +140,12 @@ pub fn tick(
         (now (priority .entry)) running)) ⌝ }
 {
     *wakes = [0; 32];
+    let taken = take_one(*left);
+    if !taken.last {
+        let after = taken.left;
+        *left = after;
+        return answers::woke(0, scope::TIME_OUT, seats::runner(seat, rings[0]));
+    }
     let woken = wake_due(
         left,
         seat,
@@ -156,6 +156,8 @@ pub fn tick(
         priority,
         wakes,
     );
-    *left = times_left(*left);
+    let rest = take_one(*left);
+    let after = rest.left;
+    *left = after;
     answers::woke(woken, scope::TIME_OUT, seats::runner(seat, rings[0]))
 }

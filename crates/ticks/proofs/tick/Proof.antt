@@ -1,17 +1,16 @@
--- `ticks::tick`: those who are due first, then the time_outs.
+-- `ticks::tick`: nobody has one left, so nobody is due and one is taken from each; or those who are due are woken first.
 -- Assumes nothing.
 use mathlib.Core.Path.{ap}
 use borrow.Author.Needs.{needs}
+use borrow.Author.Tests.{not-true}
 use Rattle.answers.proofs.Outcomes.{woke-moved}
 use Rattle.scope.specs.Ticks.{takesOne, tick}
+use Rattle.ticks.proofs.Laws.{none-last, none-due}
 use Rattle.ticks.proofs.tick.Statement.{statement}
 use Rattle.ticks.proofs.tick.Tie as tie
 
-wake-due-requires : tie.Need-wake-due-requires
-wake-due-requires c κs = search needs
-
-times-left-requires : tie.Need-times-left-requires
-times-left-requires c κs = search needs
+take-one-requires : tie.Need-take-one-requires
+take-one-requires c κs = search needs
 
 element-copy-out-runner : tie.Need-element-copy-out-runner
 element-copy-out-runner c = search needs
@@ -24,15 +23,39 @@ woke-requires c κs = search needs
 
 returns : tie.Need-returns
 unfolding tick
-returns c = λ s running. woke-moved _ _ _ _ _ _ _ _ _ _ _ _ (c .woke .ensures) (c .before .runner .ensures) (rw (c .before .before .before .before .times-left .ensures) (ap takesOne (c .before .before .before .before .before .before .wake-due .ensures (s .tasks))))
+returns c = λ s running. woke-moved _ _ _ _ _ _ _ _ _ _ _ _ (c .woke .ensures) (c .before .runner .ensures) (rw (c .before .before .before .before .before .before .before .take-one .ensures .0) (ap takesOne (none-due _ _ 32 0 (λ j l. none-last _ j (c .before .before .before .before .before .before .before .take-one .ensures .1 (not-true _ (c .before .before .before .before .before .if1 .taken)) j l)))))
+
+wake-due-requires : tie.Need-wake-due-requires
+wake-due-requires c κs = search needs
+
+take-one-requires-2 : tie.Need-take-one-requires-2
+take-one-requires-2 c κs = search needs
+
+element-copy-out-runner-2 : tie.Need-element-copy-out-runner-2
+element-copy-out-runner-2 c = search needs
+
+runner-requires-2 : tie.Need-runner-requires-2
+runner-requires-2 c κs = search needs
+
+woke-requires-2 : tie.Need-woke-requires-2
+woke-requires-2 c κs = search needs
+
+returns-2 : tie.Need-returns-2
+unfolding tick
+returns-2 c = λ s running. woke-moved _ _ _ _ _ _ _ _ _ _ _ _ (c .woke2 .ensures) (c .before .runner2 .ensures) (rw (c .before .before .before .before .before .take-one2 .ensures .0) (ap takesOne (c .before .before .before .before .before .before .before .wake-due .ensures (s .tasks))))
 
 pub tick-spec : {M : Type 1} → statement M
 tick-spec =
     tie.close
     (tie.spec
-    wake-due-requires
-    times-left-requires
+    take-one-requires
     element-copy-out-runner
     runner-requires
     woke-requires
-    returns)
+    returns
+    wake-due-requires
+    take-one-requires-2
+    element-copy-out-runner-2
+    runner-requires-2
+    woke-requires-2
+    returns-2)

@@ -1,13 +1,12 @@
--- `ticks::wake_due`: nobody is due, or each turn looks at one task more, and wakes it where it is due.
+-- `ticks::wake_due`: each turn looks at one task more, and wakes it where it is due.
 -- Assumes nothing.
 use Prim.Native.Nat.{_-_, _≤_}
 use native.Mathlib.Omega.{arith}
 use mathlib.Core.Path.{_≡_, refl}
 use borrow.Author.Needs.{needs}
-use borrow.Author.Tests.{not-true}
 use Rattle.answers.specs.Columns.{wakers, wakingOf}
 use Rattle.scope.specs.declared.Tasks.{Tasks}
-use Rattle.ticks.proofs.Laws.{Looked, due-looked, due-done, none-due, none-last}
+use Rattle.ticks.proofs.Laws.{Looked, due-looked, due-done}
 use Rattle.ticks.proofs.wake_due.Statement.{statement}
 use Rattle.ticks.proofs.wake_due.Tie as tie
 
@@ -17,12 +16,6 @@ Inv-loop left₀ seat₀ joined₀ rings₀ serial suspended priority wakes₀ w
 
 abbrev μ-loop : tie.MeasureT-loop
 μ-loop left₀ seat₀ joined₀ rings₀ serial suspended priority wakes₀ woken₀ t₀ left seat joined rings wakes woken t = 32 - t
-
-any-last-requires : tie.Need-any-last-requires Inv-loop μ-loop
-any-last-requires c κs = search needs
-
-returns : tie.Need-returns Inv-loop μ-loop
-returns c = λ k. none-due _ _ 32 0 (λ j l. none-last _ j (c .before .any-last .ensures (not-true _ (c .if1 .taken)) j l))
 
 loop-holds : tie.Need-loop-holds Inv-loop μ-loop
 loop-holds c = (search needs, λ k. (omega arith, omega arith, refl))
@@ -39,8 +32,8 @@ loop-less c = search needs
 loop-again : tie.Need-loop-again Inv-loop μ-loop
 loop-again c = (omega (arith, c .wake-if-due .ensures .0, c .before .before .before .before .before .before .before .loop .inv .0), λ k. due-looked _ _ _ _ (c .before .before .before .before .before .before .before .loop .t) (c .before .before .before .before .before .before .before .loop .inv .1 k) (search needs) (c .wake-if-due .ensures .0) (c .wake-if-due .ensures .1 k))
 
-returns-2 : tie.Need-returns-2 Inv-loop μ-loop
-returns-2 c = λ k. due-done _ _ _ (c .before .loop .t) (c .before .loop .inv .1 k) (search needs)
+returns : tie.Need-returns Inv-loop μ-loop
+returns c = λ k. due-done _ _ _ (c .before .loop .t) (c .before .loop .inv .1 k) (search needs)
 
 pub wake-due-spec : {M : Type 1} → statement M
 wake-due-spec =
@@ -48,11 +41,9 @@ wake-due-spec =
     (tie.spec
     Inv-loop
     μ-loop
-    any-last-requires
-    returns
     loop-holds
     wake-if-due-requires
     add-t
     loop-less
     loop-again
-    returns-2)
+    returns)
