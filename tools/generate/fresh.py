@@ -1,16 +1,16 @@
-# Prints the walk of kernel::fresh: a value is stored where the lent state lies.
+# Prints the walk of fresh::fresh: a value is stored where the lent state lies.
 from lent import HEADER, STATE, Lent, callee, outer, contracts, known, closing, units, trues, lawS, u32own, ands
 
-CALL = [('fv', 'kernel', 'fresh_value', True), ('fs', 'kernel', 'fresh_status', True)]
+CALL = [('fv', 'fresh', 'fresh_value', True), ('fs', 'fresh', 'fresh_status', True)]
 
 
 def walk():
     W = Lent(); w = W.w
-    w('''-- `kernel::fresh` meets its contract: a walk of its MIR. The fresh state is stored through the borrow.
+    w('''-- `fresh::fresh` meets its contract: a walk of its MIR. The fresh state is stored through the borrow.
 -- Assumes nothing. Printed by tools/generate/run.
 ''' + HEADER + '''use Rattle.scope.specs.Fresh.{fresh}
 use Rattle.lending.proofs.Lending.{local-in, local-out}
-''' + ''.join(callee(*c) for c in CALL) + outer('kernel', 'fresh') + STATE + '''abbrev stayed : Stays (h.ended .signature .params) (h.ended .kept)
+''' + ''.join(callee(*c) for c in CALL) + outer('fresh', 'fresh') + STATE + '''abbrev stayed : Stays (h.ended .signature .params) (h.ended .kept)
 stayed = (gave-ref (0 ∷ []) tt (plain (λ _. R)), (stay-none (λ _. u32) yes, tt))
 
 ''' + contracts(CALL) + '''module _ {M : Type 1} (𝓤 : URA M) (H : Heap 𝓤) (A : Atoms 𝓤) (W : Given 𝓤 H A) (at-mem : Memory → SProp 𝓤) (run : Routine → Fun 𝓤) (κ : Lft) (q : Share) (b o : ℕ) (γ : GName) (d : State) (p : ℕ) (fits : p < 2 ^ 32) where
@@ -89,4 +89,4 @@ stayed = (gave-ref (0 ∷ []) tt (plain (λ _. R)), (stay-none (λ _. u32) yes, 
 
 
 def files():
-    return {'crates/kernel/proofs/fresh/Proof.antt': walk()}
+    return {'crates/fresh/proofs/fresh/Proof.antt': walk()}

@@ -1,11 +1,13 @@
-# Prints the walks of crate `kernel`: `perform`, which chooses the chapter, `is_sound`, which asks the rules, and `step`, which asks it first.
+# Prints the walks of `performing::perform`, which chooses the chapter, `checking::is_sound`, which asks the rules, and `kernel::step`, which
+# asks it first.
 from lending import NAMED as V, beside
 from lent import HEADER, MESSAGE, Lent, ands, callee, contracts, known
 from table import CALLS, CHAPTERS, home
 from walk import Walk, chain, path, reader_ghost, reader_walk
 
 CRATE = 'kernel'
-BELOW = 'lending'
+PERFORMS = 'performing'
+CHECKS = 'checking'
 # the locals of `is_sound`: of each part what is passed and what takes its answer; and what it is then joined into, and of what
 AT = [(3, 2), (5, 4), (8, 7), (11, 10), (14, 13), (17, 16)]
 ANDS = [None, (6, 2, 4), (9, 6, 7), (12, 9, 10), (15, 12, 13), (0, 15, 16)]
@@ -45,8 +47,8 @@ toks = lambda of: 'fsep (flft κ q) (' + ''.join(f'fsep (flft {V[x][0]} {V[x][1]
 row = lambda x, at: f'ShrSlice (named {at}) κ₃ u8' if x == 'message' else f'MutRef (named {at}) {V[x][0]} {V[x][6]}'
 ghost = lambda of, a, vals: f'(({lifts(of)}, {shares(of)}, tt, {a}, {vals}), tt)'
 
-def outer(f):
-    at = f'Rattle.{CRATE}.proofs.{f}'
+def outer(crate, f):
+    at = f'Rattle.{crate}.proofs.{f}'
     return f'use {at}.Key.{{name as #own}}\nuse {at} as outer\nuse {at}.Statement as stated\nuse {at}.Code as code\n\n'
 
 
@@ -200,7 +202,7 @@ def choice():
     refs = [(n, r) for n in names for r in ['s'] + [x for x in beside(n) if x in MUTS]]
     N = 13 + len(refs)
     W = Lent(); w = W.w
-    w('''-- `kernel::perform` meets its contract: a walk of its MIR. The place of a message shown is blanked, the chapter is chosen by the call, and the state, the wake list and, where it can show a message, that place are passed on to it for good.
+    w('''-- `performing::perform` meets its contract: a walk of its MIR. The place of a message shown is blanked, the chapter is chosen by the call, and the state, the wake list and, where it can show a message, that place are passed on to it for good.
 -- Assumes nothing. Printed by tools/generate/run.
 ''' + HEADER + '''use lib.Dec.{eqb, eqb→eq, ltb→lt, nltb→le}
 use denote.Laws.{Are, Ises}
@@ -213,7 +215,7 @@ use Rattle.answers.proofs.Outcomes.{none-shown}
 use Rattle.answers.proofs.Outcome as O
 use Rattle.answers.proofs.Outcome.Laws as O′
 use Rattle.lending.proofs.Lending.{array-in, array-out}
-''' + ''.join(callee(*c) for c in CALLEES) + outer('perform') + f'''some-call : (m : ℕ) → T (not (eqb m 0)) → 1 ≤ m
+''' + ''.join(callee(*c) for c in CALLEES) + outer(PERFORMS, 'perform') + f'''some-call : (m : ℕ) → T (not (eqb m 0)) → 1 ≤ m
 some-call zero z = absurd z
 some-call (suc m) z = omega arith
 {ONLY if any(len(CALLS[n][2]) == 1 for n in names[1:-1]) else ''}
@@ -336,8 +338,7 @@ def asked():
     PARTS = [('ok', 'orders_kept', 'keeps orderRules d'), ('tr', 'tasks_right', 'tasksRight (d .tasks)'), ('sr', 'sems_right', 'semsRight (d .semaphores)'), ('qr', 'queues_right', 'queuesRight (d .queues)'), ('mr', 'messages_right', 'messagesRight (d .queues)'), ('pk', 'pools_kept', 'poolsKept (d .pools)')]
     N = 18
     W = Walk(); w = W.w
-    def uses(nm, f): return f'use Rattle.{BELOW}.proofs.{f} as {nm}\nuse Rattle.{BELOW}.proofs.{f}.Symbol as {nm}-def\nuse Rattle.{BELOW}.proofs.{f}.Symbol.{{name as #{nm}}}\nuse Rattle.{BELOW}.proofs.{f}.Met as {nm}-thm\n'
-    w(f'''-- `kernel::is_sound` meets its contract: a walk of its MIR. The borrow is opened, the state is lent again to each part of the check, which leaves it as it was, and the borrow is closed.
+    w(f'''-- `checking::is_sound` meets its contract: a walk of its MIR. The borrow is opened, the state is lent again to each part of the check, which leaves it as it was, and the borrow is closed.
 -- Assumes nothing. Printed by tools/generate/run.
 use mathlib.Core.Path.{{_≡_, refl, ap}}
 use Prim.Native.Nat.{{ℕ}}
@@ -379,11 +380,11 @@ use Rattle.scope.specs.Rules.{{keeps, orderRules, tasksRight, semsRight, queues
 use Rattle.rules.specs.Lent.{{poolsKept}}
 use Rattle.scope.proofs.State as S
 use Rattle.lending.proofs.Lending.{{Col, Keys, tokens, lasts, lie, refs, kept, lends, backs}}
-use Rattle.{CRATE}.proofs.Laws.{{sound-parts}}
-{''.join(uses(nm, f) for nm, f, _ in PARTS)}use Rattle.{CRATE}.proofs.is_sound.Key.{{name as #is-sound}}
-use Rattle.{CRATE}.proofs.is_sound as outer
-use Rattle.{CRATE}.proofs.is_sound.Statement as stated
-use Rattle.{CRATE}.proofs.is_sound.Code as code
+use Rattle.{CHECKS}.proofs.Laws.{{sound-parts}}
+{''.join(callee(nm, CHECKS, f, True) for nm, f, _ in PARTS)}use Rattle.{CHECKS}.proofs.is_sound.Key.{{name as #is-sound}}
+use Rattle.{CHECKS}.proofs.is_sound as outer
+use Rattle.{CHECKS}.proofs.is_sound.Statement as stated
+use Rattle.{CHECKS}.proofs.is_sound.Code as code
 
 abbrev R : RattleType
 R = S.the-row
@@ -465,13 +466,13 @@ is-sound-spec 𝓤 H 𝓜 𝓖 𝓡 =
     entered 𝓤 H (tripleOf 𝓤 H (𝓖 .A) outer.signature (outer.spec 𝓤 H (𝓖 .A) (𝓜 .mem) (𝓡 .run)))
     (tables 𝓤 H 𝓜 𝓡 code.env .C) (tables 𝓤 H 𝓜 𝓡 code.env .Λ) #is-sound code.function (code.unfolded 𝓤 H 𝓜 𝓡)
     (is-sound-meets 𝓤 H (𝓖 .A) (givenOf 𝓤 H 𝓜 𝓖) (𝓜 .mem) (𝓡 .run) (tablesOf 𝓤 H 𝓜 (tables 𝓤 H 𝓜 𝓡 code.env))
-''' + '\n'.join(f'    (cited 𝓤 H (G{nm} 𝓤 H (𝓖 .A) (𝓜 .mem) (𝓡 .run)) 𝓜 𝓡 code.env #{nm} {nm}-def.routine code.calls-{BELOW}·{f.replace("_", "-")} ({nm}-thm.met 𝓤 H 𝓜 𝓖 𝓡))' for nm, f, _ in PARTS) + ')\n')
+''' + '\n'.join(f'    (cited 𝓤 H (G{nm} 𝓤 H (𝓖 .A) (𝓜 .mem) (𝓡 .run)) 𝓜 𝓡 code.env #{nm} {nm}-def.routine code.calls-{CHECKS}·{f.replace("_", "-")} ({nm}-thm.met 𝓤 H 𝓜 𝓖 𝓡))' for nm, f, _ in PARTS) + ')\n')
     return ''.join(W.out)
 
 
 # ---- the step with the check in front: a walk that names no column
 def checked():
-    CALLEES = [('so', CRATE, 'is_sound', True), ('pf', CRATE, 'perform', True), ('bs', CRATE, 'bad_state', True)]
+    CALLEES = [('so', CHECKS, 'is_sound', False), ('pf', PERFORMS, 'perform', False), ('bs', CRATE, 'bad_state', True)]
     refs = ['s', 's', 'wakes', 'shown', 'wakes', 'shown']
     N = 13 + len(refs)
     W = Lent(); w = W.w
@@ -492,7 +493,7 @@ use Rattle.answers.proofs.Outcome.Laws as O′
 use Rattle.lending.proofs.Lending.{{Col, Keys, tokens, lasts, lie, refs, kept, lends, backs}}
 use Rattle.{CRATE}.specs.Steps.{{Steps}}
 use Rattle.{CRATE}.proofs.Laws.{{steps-sound, steps-broken}}
-''' + ''.join(callee(*c) for c in CALLEES) + outer('step') + '''true-is : (y : Bool) → T y → y ≡ true
+''' + ''.join(callee(*c) for c in CALLEES) + outer(CRATE, 'step') + '''true-is : (y : Bool) → T y → y ≡ true
 true-is true z = refl
 true-is false z = absurd z
 
@@ -605,5 +606,5 @@ csS o = record { row = R; at = o } ∷ []
 
 
 def files():
-    at = f'crates/{CRATE}/proofs'
-    return {f'{at}/perform/Proof.antt': choice(), f'{at}/is_sound/Proof.antt': asked(), f'{at}/step/Proof.antt': checked()}
+    walks = [(PERFORMS, 'perform', choice), (CHECKS, 'is_sound', asked), (CRATE, 'step', checked)]
+    return {f'crates/{crate}/proofs/{f}/Proof.antt': printed() for crate, f, printed in walks}

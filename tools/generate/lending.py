@@ -20,14 +20,12 @@ def ty(w): return 'List Bool' if w == 0 else 'List ℕ'
 
 # ---- the source
 def source():
-    return '''// The state lent as one thing and only read: each part of the state check, and the question who runs, is lent its columns of it, all at
-// once. What these walks share with the chapters' stands in proofs/. Printed by tools/generate/run, from its table of columns.
+    return '''// The state lent as one thing and only read: the question who runs is lent its column of it. What such walks share, those of the check and
+// of the chapters too, stands in proofs/. Printed by tools/generate/run, from its table of columns.
 use scope::State;
 ghost use mathlib.Core.Path.{_≡_};
-ghost use Rattle.scope.specs.Rules.{keeps, orderRules, tasksRight, semsRight, queuesRight, messagesRight};
 ghost use Rattle.scope.specs.Views.{runningTask};
-ghost use Rattle.rules.specs.Lent.{poolsKept};
-''' + readers.source()
+''' + readers.source(CRATE)
 
 # the function of a chapter's crate that lends the columns
 def lends(n, lent, segs, req):

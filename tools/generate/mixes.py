@@ -3,14 +3,14 @@ from table import NUMS
 from lent import MESSAGE
 from walk import Walk, chain, path, runner_ghost, runner_walk
 
-PERFORM = ('mixes', 'perform', '''use Rattle.scope.specs.Step.{answered}
+PERFORM = ('mixes', 'performing', 'perform', '''use Rattle.scope.specs.Step.{answered}
 use Rattle.answers.specs.Outcomes.{answerShown}
 ''', '(answerShown (z .0) (z .1 .0) (z .1 .1 .0) r ≡ answered d {xs} ys) × (z .0 .running ≡ r .runs)')
-STEP = ('mixes_checked', 'step', '''use Rattle.kernel.specs.Steps.{Steps}
+STEP = ('mixes_checked', 'kernel', 'step', '''use Rattle.kernel.specs.Steps.{Steps}
 ''', 'Steps d {xs} ys (z .0) (z .1 .0) (z .1 .1 .0) r')
 
 
-def walk(CRATE, STEPS, USES, SAID):
+def walk(CRATE, WHERE, STEPS, USES, SAID):
     N = 20
     W = Walk(); w = W.w
     LS = ' '.join(f'l{i}' for i in range(N))
@@ -25,7 +25,7 @@ use Rattle.{crate}.proofs.{f}.Symbol as {nm}-def
 use Rattle.{crate}.proofs.{f}.Symbol.{{name as #{nm}}}
 use Rattle.{crate}.proofs.{f}.Met as {nm}-thm
 '''
-    CALL = [('rd', 'mixing', 'record_at'), ('pf', 'kernel', STEPS), ('ru', 'lending', 'runner'), ('su', 'mixing', 'summed')]
+    CALL = [('rd', 'mixing', 'record_at'), ('pf', WHERE, STEPS), ('ru', 'lending', 'runner'), ('su', 'mixing', 'summed')]
     w(f'''-- `{CRATE}::play` meets its contract, which is that it is safe and ends: a walk of its MIR. The state is a local that is lent to each step as one thing.
 -- Assumes nothing. Printed by tools/generate/run.
 ''' + '''use mathlib.Core.Path.{_≡_, refl, sym, ap, subst}

@@ -3,7 +3,7 @@
 from walk import chain, path
 from lent import HEADER, STATE, TESTS, WAKES, MESSAGE, Lent, callee, outer, contracts, known, closing, units, trues, u32own, u64own, ands
 
-CALL = [('go', 'player', 'goes_on', True), ('rd', 'text', 'read_record', False), ('me', 'text', 'message_at', False), ('pf', 'kernel', 'perform', False), ('ru', 'lending', 'runner', False), ('pu', 'text', 'put_line', False)]
+CALL = [('go', 'player', 'goes_on', True), ('rd', 'text', 'read_record', False), ('me', 'text', 'message_at', False), ('pf', 'performing', 'perform', False), ('ru', 'lending', 'runner', False), ('pu', 'text', 'put_line', False)]
 # the locals, in the order of the MIR
 NAMES = 'res script s p lines wakes shown more number at k rec message o id q test len read sref wref vref mref mslice uref lref lslice wshr'.split()
 TYPES = 'ptTy sl0 refP plTy sl2 wTy mTy num num word word rcTy mTy oTy num plTy tyBool word mTy refS refW refV refM slI refS refB slE refI'.split()
@@ -33,7 +33,7 @@ use Rattle.player.specs.declared.Place.{Place}
 use Rattle.player.specs.declared.Part.{Part}
 use Rattle.player.specs.Place.{Point, Reached, pointAt, reached, Playing, PlayedPart, LinePut}
 use Rattle.player.proofs.Laws.{Going, going-first, going-more, going-done, line-played, record-step, step-few, line-told}
-use Rattle.kernel.proofs.Laws.{runs-so}
+use Rattle.answers.proofs.Outcomes.{runs-so}
 use Rattle.lending.proofs.Slices.{slice-lent, slice-kept, lends-slice, slice-back}
 use Rattle.player.proofs.Relent.{Relent, slice-again, slice-returns}
 use Rattle.scope.specs.Step.{answered}

@@ -1,10 +1,10 @@
-# Prints the readers of crate `lending`: each lends its columns of the state shared, all at once, to a function that only reads them, and
-# the state is back as it was.
+# Prints the readers of the state, `lending::runner` and those of crate `checking`: each lends its columns of the state shared, all at once, to a
+# function that only reads them, and the state is back as it was.
 from table import READERS, TABLES, cols, layout, table
 from walk import Walk, chain, path
 
 AT = layout()
-CRATE = 'lending'
+BELOW = 'lending'
 # what a reader answers: its type, its width, what it is in a proof, its laws
 ANSWERS = {
     'u32': ('ℕ', 'u32', 'uint-lawful 𝓤 H A W w32'),
@@ -12,9 +12,27 @@ ANSWERS = {
 }
 
 # ---- the source
-def source():
+CHECK = '''// The state check: each part is lent its columns of a state that is lent as one thing, all at once, and only reads them. (scope's specs/Rules.antt;
+// the tests themselves are `rules`'.) Printed by tools/generate/run, from its table of columns.
+use scope::State;
+ghost use mathlib.Core.Path.{_≡_};
+ghost use Rattle.scope.specs.Rules.{keeps, orderRules, tasksRight, semsRight, queuesRight, messagesRight, sound};
+ghost use Rattle.rules.specs.Lent.{poolsKept};
+'''
+IS_SOUND = '''
+// Whether no rule is broken. The state is asked where it lies, part by part, and stays as it is.
+pub fn is_sound(s: &mut State) -> bool
+    ensures { λ r. ⌜ (r ≡ sound (now (s .entry))) × (now (s .exit) ≡ now (s .entry)) ⌝ }
+{
+    orders_kept(s) & tasks_right(s) & sems_right(s) & queues_right(s) & messages_right(s) & pools_kept(s)
+}
+'''
+
+def source(home):
     o = ''
     for r in READERS:
+        if r['home'] != home:
+            continue
         o += f'\n// {r["head"]}\npub fn {r["name"]}(s: &mut State) -> {r["type"]}\n    ensures {{ λ r. ⌜ (r ≡ {r["is"].format("now (s .entry)")}) × (now (s .exit) ≡ now (s .entry)) ⌝ }}\n{{\n'
         lent = [f'&s.{table(g)[2]}.{c}' for g, c, _ in cols(r['lent'])]
         if r['running']:
@@ -26,7 +44,8 @@ def source():
     return o
 
 def walk(r):
-    n, segs, callee, crate, running = r['name'], r['lent'], r['callee'], r['crate'], r['running']
+    n, segs, callee, crate, running, CRATE = r['name'], r['lent'], r['callee'], r['crate'], r['running'], r['home']
+    shared = f'Rattle.{BELOW}.proofs' if CRATE != BELOW else f'Rattle.{BELOW}.proofs'
     cl = cols(segs)
     A0 = 3 if running else 2
     N = A0 + len(cl)
@@ -37,7 +56,7 @@ def walk(r):
     W = Walk(); w = W.w
     dcl = ''.join(f'use Rattle.scope.specs.declared.{table(g)[1]}.{{{table(g)[1]}}}\nuse Rattle.scope.proofs.{table(g)[1]} as {g}\n' for g in touched)
     names = ', '.join(['msS', 'Back', 'apart', 'together'] + [p + g for g in touched for p in ['cs', 'Xs', 'held', 'made', 'is', 'Back', 'At', 'apart', 'together']])
-    w(f'''-- `lending::{n}` meets its contract: a walk of its MIR. The borrow is opened, the state is taken apart into its tables and those read into their columns, which are lent shared to `{crate}::{callee}` all at once, come back as they were and are put together again, and the borrow is closed.
+    w(f'''-- `{CRATE}::{n}` meets its contract: a walk of its MIR. The borrow is opened, the state is taken apart into its tables and those read into their columns, which are lent shared to `{crate}::{callee}` all at once, come back as they were and are put together again, and the borrow is closed.
 -- All that the proof knows of `{crate}::{callee}` is that it meets its contract.
 -- Assumes nothing. Printed by tools/generate.
 use mathlib.Core.Path.{{_≡_, refl, sym}}
@@ -80,8 +99,8 @@ use denote.Triple.Walked.{{says, Stays, stay-ref, walkOf, goes-ref, Walks, ends-
 use denote.Signature.{{plain}}
 use Rattle.scope.specs.declared.State.{{State}}
 {dcl}{r["uses"]}use Rattle.scope.proofs.State as S
-use Rattle.{CRATE}.proofs.Lending.{{Col, Keys, With, columns, lfts, wholes, tokens, silent, lie, shared, kept-shared, args, ptrs, chosen, others, chosenXs, othersXs, lends-shared, backs-shared, parted, unparted, number-out, number-in}}
-use Rattle.{CRATE}.proofs.Columns.{{{names}}}
+use {shared}.Lending.{{Col, Keys, With, columns, lfts, wholes, tokens, silent, lie, shared, kept-shared, args, ptrs, chosen, others, chosenXs, othersXs, lends-shared, backs-shared, parted, unparted, number-out, number-in}}
+use {shared}.Columns.{{{names}}}
 use Rattle.{crate}.proofs.{callee} as inner
 use Rattle.{crate}.proofs.{callee}.Symbol as inner-def
 use Rattle.{crate}.proofs.{callee}.Symbol.{{name as #inner}}
@@ -276,4 +295,5 @@ unfolding code.routine tablesOf
 
 
 def files():
-    return {f'crates/{CRATE}/proofs/{r["name"]}/Proof.antt': walk(r) for r in READERS}
+    proofs = {f'crates/{r["home"]}/proofs/{r["name"]}/Proof.antt': walk(r) for r in READERS}
+    return proofs | {'crates/checking/src/lib.rt': CHECK + source('checking') + IS_SOUND}

@@ -4,8 +4,8 @@ from lent import HEADER, STATE, Lent, ands, callee, closing, contracts, known, l
 from walk import chain, path
 
 CRATE = 'stepping'
-FRESH = [('fv', 'kernel', 'fresh_value', False), ('pu', 'writing', 'put', False)]
-CALLS = [('fv', 'kernel', 'fresh_value', False), ('ta', 'taking', 'take', False), ('so', 'kernel', 'is_sound', False), ('pf', 'kernel', 'perform', False), ('ru', 'lending', 'runner', False), ('pu', 'writing', 'put', False), ('to', CRATE, 'keep', True)]
+FRESH = [('fv', 'fresh', 'fresh_value', False), ('pu', 'writing', 'put', False)]
+CALLS = [('fv', 'fresh', 'fresh_value', False), ('ta', 'taking', 'take', False), ('so', 'checking', 'is_sound', False), ('pf', 'performing', 'perform', False), ('ru', 'lending', 'runner', False), ('pu', 'writing', 'put', False), ('to', CRATE, 'keep', True)]
 # the locals in the order of the MIR: the answer, the parameters, the state and what is known of it, and what is passed
 NAMES = 'res image wakes shown message n0 n1 n2 n3 n4 n5 n6 s good o id made took ref0 ishr ref1 ref2 wref href ref3 len ref4 iref'.split()
 TYPES = 'tkTy imTy wRef hRef msTy num num num num num num num stTy tyBool oTy num stTy word refS refJ refS refS refW refH refS num refS refI'.split()
@@ -495,7 +495,7 @@ stayed = (gave-ref (0 ∷ []) tt (plain (λ _. ImageT)), (stay-dropped (plain (�
     return ''.join(W.out)
 
 
-WRITE = [('so', 'kernel', 'is_sound', False), ('pu', 'writing', 'put', False)]
+WRITE = [('so', 'checking', 'is_sound', False), ('pu', 'writing', 'put', False)]
 
 
 def imaged():

@@ -31,35 +31,35 @@ LENT = [
     ('receive', 'lentQueues', [('L', 'mut', None), ('K', 'shr', ['priority']), ('U', 'mut', ['serial', 'live', 'fifo', 'held', 'cells'])]),
 ]
 # The readers: what is lent them is only read, so all of it is lent shared. `said` is what the callee ensures of the state d, `{}` in it
-# the columns lent; `is` is what the reader promises of the state `{}`.
+# the columns lent; `is` is what the reader promises of the state `{}`; `home` is its crate.
 READY = ['started', 'suspended', 'priority']
 QUEUED = ['units', 'live', 'fifo']
 RECEIVED = ['live', 'fifo', 'limits', 'held']
 READERS = [
-    {'name': 'runner', 'head': 'The identifier of the task that runs; 0 for nobody.', 'type': 'u32', 'is': 'runningTask ({})',
+    {'name': 'runner', 'home': 'lending', 'head': 'The identifier of the task that runs; 0 for nobody.', 'type': 'u32', 'is': 'runningTask ({})',
      'crate': 'answers', 'callee': 'running_task', 'lent': [('K', 'shr', ['serial'])], 'running': True,
      'said': 'r ≡ choose (ltb (d .running) 32) (getD (d .tasks .serial) (d .running) 0 * 64 + d .running) 0',
      'unfolding': 'runningTask', 'so': 'said',
      'uses': 'use Rattle.scope.specs.Choice.{pick as choose}\nuse Rattle.scope.specs.Views.{runningTask}\n'},
-    {'name': 'orders_kept', 'head': 'Whether the state keeps the rules of orders and queues.', 'type': 'bool', 'is': 'keeps orderRules ({})',
+    {'name': 'orders_kept', 'home': 'checking', 'head': 'Whether the state keeps the rules of orders and queues.', 'type': 'bool', 'is': 'keeps orderRules ({})',
      'crate': 'rules', 'callee': 'orders_kept', 'lent': [('L', 'shr', None), ('K', 'shr', READY), ('Q', 'shr', QUEUED), ('U', 'shr', RECEIVED)], 'running': True,
      'said': '(s : State) → r ≡ keeps orderRules (lentOrders s {} (d .running))', 'unfolding': '', 'so': 'said d',
      'uses': 'use Rattle.scope.specs.Rules.{keeps, orderRules}\nuse Rattle.rules.specs.Lent.{lentOrders}\n'},
-    {'name': 'tasks_right', 'head': "Whether it keeps the tasks' rule.", 'type': 'bool', 'is': 'tasksRight ({} .tasks)',
+    {'name': 'tasks_right', 'home': 'checking', 'head': "Whether it keeps the tasks' rule.", 'type': 'bool', 'is': 'tasksRight ({} .tasks)',
      'crate': 'rules', 'callee': 'tasks_right', 'lent': [('K', 'shr', None)], 'running': False,
      'said': 'r ≡ tasksRight (d .tasks)', 'unfolding': '', 'so': 'said', 'uses': 'use Rattle.scope.specs.Rules.{tasksRight}\n'},
-    {'name': 'sems_right', 'head': "Whether it keeps the semaphores' rule.", 'type': 'bool', 'is': 'semsRight ({} .semaphores)',
+    {'name': 'sems_right', 'home': 'checking', 'head': "Whether it keeps the semaphores' rule.", 'type': 'bool', 'is': 'semsRight ({} .semaphores)',
      'crate': 'rules', 'callee': 'sems_right', 'lent': [('Q', 'shr', None)], 'running': False,
      'said': 'r ≡ semsRight (d .semaphores)', 'unfolding': '', 'so': 'said', 'uses': 'use Rattle.scope.specs.Rules.{semsRight}\n'},
-    {'name': 'queues_right', 'head': "Whether it keeps the queues' rule.", 'type': 'bool', 'is': 'queuesRight ({} .queues)',
+    {'name': 'queues_right', 'home': 'checking', 'head': "Whether it keeps the queues' rule.", 'type': 'bool', 'is': 'queuesRight ({} .queues)',
      'crate': 'rules', 'callee': 'queues_right', 'lent': [('U', 'shr', ['name', 'serial', 'live', 'fifo', 'limits', 'held'])], 'running': False,
      'said': '(cells : List ℕ) → r ≡ queuesRight (queuesOf {} cells)', 'unfolding': '', 'so': 'said (d .queues .cells)',
      'uses': 'use Rattle.scope.specs.Rules.{queuesRight}\nuse Rattle.answers.specs.Columns.{queuesOf}\n'},
-    {'name': 'messages_right', 'head': 'Whether the messages held are in their one form.', 'type': 'bool', 'is': 'messagesRight ({} .queues)',
+    {'name': 'messages_right', 'home': 'checking', 'head': 'Whether the messages held are in their one form.', 'type': 'bool', 'is': 'messagesRight ({} .queues)',
      'crate': 'messages', 'callee': 'all_in_form', 'lent': [('U', 'shr', ['limits', 'held', 'cells'])], 'running': False,
      'said': 'r ≡ storeRight (storeOf (d .queues)) (d .queues .limits)', 'unfolding': 'messagesRight', 'so': 'said',
      'uses': 'use Rattle.scope.specs.Rules.{messagesRight}\nuse Rattle.scope.specs.Messages.{storeRight}\nuse Rattle.scope.specs.Queues.{storeOf}\n'},
-    {'name': 'pools_kept', 'head': "Whether it keeps the pools' rules.", 'type': 'bool', 'is': 'poolsKept ({} .pools)',
+    {'name': 'pools_kept', 'home': 'checking', 'head': "Whether it keeps the pools' rules.", 'type': 'bool', 'is': 'poolsKept ({} .pools)',
      'crate': 'rules', 'callee': 'pools_kept', 'lent': [('P', 'shr', None)], 'running': False,
      'said': 'r ≡ poolsKept (d .pools)', 'unfolding': '', 'so': 'said', 'uses': 'use Rattle.rules.specs.Lent.{poolsKept}\n'},
 ]

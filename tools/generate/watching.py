@@ -2,7 +2,7 @@
 from walk import chain, path, runner_ghost, runner_walk
 from lent import HEADER, STATE, TESTS, WAKES, MESSAGE, Lent, callee, outer, contracts, known, closing, units, trues, lawS, u32own, u64own, ands
 
-CALL = [('rd', 'text', 'read_record', False), ('me', 'text', 'message_at', False), ('ru', 'lending', 'runner', False), ('pf', 'kernel', 'perform', False), ('ke', 'grid', 'keep', False), ('pc', 'watching', 'put_cells', True)]
+CALL = [('rd', 'text', 'read_record', False), ('me', 'text', 'message_at', False), ('ru', 'lending', 'runner', False), ('pf', 'performing', 'perform', False), ('ke', 'grid', 'keep', False), ('pc', 'watching', 'put_cells', True)]
 # the locals, in the order of the MIR
 NAMES = 'res script first p kept cells s left at g wakes shown rec message caller o test read uref sref wref vref mref mslice wshr done cref cslice'.split()
 TYPES = 'stTy sl0 stTy plTy gTy slC stTy num word gTy wTy mTy rcTy mTy num oTy tyBool mTy refS refS refW refV refM slI refI tyUnit refC slE'.split()

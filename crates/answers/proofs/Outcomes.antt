@@ -1,7 +1,7 @@
 -- What an outcome stands for: the answers of scope's specs/Answers.antt, by the state as the call left it.
 -- Assumes nothing.
 use Prim.Native.Nat.{ℕ}
-use mathlib.Core.Path.{_≡_, ap}
+use mathlib.Core.Path.{_≡_, sym, ap}
 use mathlib.Core.Bool.{Bool, false}
 use mathlib.Core.List.{List}
 use Rattle.scope.specs.declared.State.{State}
@@ -86,6 +86,10 @@ module _ (k : Tasks) (m : Semaphores) (p : Pools) (u : Queues) (running n : ℕ)
       → answerShown (stateOf (w' .line) k m p u running) (w' .wakes) shown o ≡ deliversTo (stateOf l k m p u before) w v message
   unfolding answerShown delivered deliversTo
   delivered-moved l before w w' v message one e f g h = rw (e, f, h, ← one, g)
+
+-- the state with the running task that it has
+pub runs-so : (n : State) (t : ℕ) → n .running ≡ t → nowRuns n t ≡ n
+runs-so n t e = λ i. record { line = n .line; tasks = n .tasks; semaphores = n .semaphores; pools = n .pools; queues = n .queues; running = sym e i }
 
 -- One answer has one outcome: the columns, who runs, the wake list, the message shown and all that an outcome says are told by the answer
 -- they stand for.

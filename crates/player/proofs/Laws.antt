@@ -24,7 +24,6 @@ use Rattle.scope.specs.Listing.{lineOf, linesFrom, listing}
 use Rattle.laws.proofs.Branches.{both-true, picked-no, lt-or-le}
 use Rattle.answers.specs.declared.Outcome.{Outcome}
 use Rattle.answers.specs.Outcomes.{nowRuns, told, answerShown}
-use Rattle.kernel.proofs.Laws.{checked-sound}
 use Rattle.histories.specs.Sound.{Sound}
 use Rattle.histories.proofs.Meaning.{sound-right}
 use Rattle.histories.proofs.Stays.{step-keeps}
@@ -101,7 +100,7 @@ module _ (script : List ℕ) (at : ℕ) (s : State) (ok : Sound s) where
 
   step-is : {r : Answer} → r ≡ answerAt → r ≡ stepAt script at s
   unfolding stepAt
-  step-is e = checked-sound s _ _ _ _ _ _ _ _ (sound-right s ok) e
+  step-is e = e ∙ sym (stepped-sound s _ _ _ _ _ _ _ _ (sound-right s ok))
 
   -- of the numbers and the message as they were read
   pub record-step : (q : Record) (m : List ℕ) {r : Answer} → q ≡ recordAt script at → m ≡ messageAt script at

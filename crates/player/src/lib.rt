@@ -28,7 +28,7 @@ pub fn first_state(script: &[u8]) -> State
     requires { ⌜ isScript (now script) ≡ true ⌝ }
     ensures { λ r. ⌜ r ≡ freshState (firstPriority (now (script .entry))) ⌝ }
 {
-    kernel::fresh_value(text::read_number(script, 8))
+    fresh::fresh_value(text::read_number(script, 8))
 }
 
 // The place before the first record.
@@ -71,7 +71,7 @@ pub fn play_part(script: &[u8], s: &mut State, p: Place, lines: &mut [u8]) -> Pa
     while goes_on(more, k, lines.len()) {
         let r = text::read_record(script, at);
         let message = text::message_at(script, at);
-        let o = kernel::perform(
+        let o = performing::perform(
             s,
             &mut wakes,
             &mut shown,

@@ -20,9 +20,9 @@ use Rattle.scope.specs.Fresh.{fresh}
 use Rattle.laws.proofs.Branches.{first-fails, second-decides, pick-yes, pick-no, picked-yes, picked-no, true-false}
 use Rattle.answers.specs.declared.Outcome.{Outcome}
 use Rattle.answers.specs.Outcomes.{answerShown, nowRuns, told}
-use Rattle.kernel.proofs.Laws.{runs-so, checked-sound}
+use Rattle.answers.proofs.Outcomes.{runs-so}
 use Rattle.histories.specs.Refusals.{Refusal}
-use Rattle.histories.proofs.Refusals.{refusal}
+use Rattle.histories.proofs.Refusals.{stepped-sound, refusal}
 use Rattle.player.proofs.Wakes.{woken-few}
 use Rattle.columns.specs.Columns.{part, putColumn}
 use Rattle.columns.specs.Fields.{bytesOf}
@@ -146,7 +146,7 @@ module _ (call mark x y z u v : ℕ) (m : List ℕ) where
       kept : isImage b ≡ true → 1 < answerOn b .status → b ≡ imageOf (answerOn b .state) ++ drop imageSize b
       kept good far =
           let i = from-image b good in
-          let is = checked-sound (stateFrom b) call mark x y z u v m (i .0) refl in
+          let is = sym (stepped-sound (stateFrom b) call mark x y z u v m (i .0)) in
           let r : Refusal (stateFrom b) (answerOn b) =
           subst (λ (w : Answer). Refusal (stateFrom b) w) (sym is)
           (refusal (stateFrom b) call mark x y z u v m

@@ -56,10 +56,10 @@ fn step_image(
         × ((now (image .exit) ≡ imageOf (answered (stateFrom (now (image .entry))) call mark a b c d e (now (message .entry)) .state))
         × ToldBy (answered (stateFrom (now (image .entry))) call mark a b c d e (now (message .entry))) (now (wakes .exit)) (now (shown .exit)) (r .outcome) (r .running)) ⌝ }
 {
-    let mut s = kernel::fresh_value(0);
+    let mut s = fresh::fresh_value(0);
     taking::take(&mut s, image);
-    let good = kernel::is_sound(&mut s);
-    let o = kernel::perform(&mut s, wakes, shown, message, call, mark, a, b, c, d, e);
+    let good = checking::is_sound(&mut s);
+    let o = performing::perform(&mut s, wakes, shown, message, call, mark, a, b, c, d, e);
     let running = lending::runner(&mut s);
     writing::put(&mut s, image);
     keep(good, running, o)
@@ -210,7 +210,7 @@ fn fresh_image(image: &mut [u8; 9920], priority: u32) -> u32
     requires { ⌜ length (now image) ≡ imageSize ⌝ }
     ensures { λ r. ⌜ (r ≡ 9920) × (now (image .exit) ≡ imageOf (fresh priority .state)) ⌝ }
 {
-    let mut s = kernel::fresh_value(priority);
+    let mut s = fresh::fresh_value(priority);
     writing::put(&mut s, image)
 }
 
@@ -239,7 +239,7 @@ fn image_of(state: State, image: &mut [u8; 9920]) -> bool
     ensures { λ r. ⌜ (r ≡ sound state) × (now (image .exit) ≡ imageOf state) ⌝ }
 {
     let mut s = state;
-    let good = kernel::is_sound(&mut s);
+    let good = checking::is_sound(&mut s);
     writing::put(&mut s, image);
     good
 }

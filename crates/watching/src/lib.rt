@@ -45,7 +45,7 @@ fn play_records(
         let r = text::read_record(script, at);
         let message = text::message_at(script, at);
         let caller = lending::runner(&mut s);
-        let o = kernel::perform(
+        let o = performing::perform(
             &mut s,
             &mut wakes,
             &mut shown,

@@ -58,14 +58,14 @@ use Rattle.answers.proofs.Outcome.Laws as O′
 use Rattle.lending.proofs.Lending.{Col, Keys, tokens, lasts, lie, refs, kept, lends, backs}
 use Rattle.kernel.specs.Steps.{Steps}
 use Rattle.kernel.proofs.Laws.{steps-sound, steps-broken}
-use Rattle.kernel.proofs.is_sound as so
-use Rattle.kernel.proofs.is_sound.Symbol as so-def
-use Rattle.kernel.proofs.is_sound.Symbol.{name as #so}
-use Rattle.kernel.proofs.is_sound.Met as so-thm
-use Rattle.kernel.proofs.perform as pf
-use Rattle.kernel.proofs.perform.Symbol as pf-def
-use Rattle.kernel.proofs.perform.Symbol.{name as #pf}
-use Rattle.kernel.proofs.perform.Met as pf-thm
+use Rattle.checking.proofs.is_sound as so
+use Rattle.checking.proofs.is_sound.Symbol as so-def
+use Rattle.checking.proofs.is_sound.Symbol.{name as #so}
+use Rattle.checking.proofs.is_sound.Met as so-thm
+use Rattle.performing.proofs.perform as pf
+use Rattle.performing.proofs.perform.Symbol as pf-def
+use Rattle.performing.proofs.perform.Symbol.{name as #pf}
+use Rattle.performing.proofs.perform.Met as pf-thm
 use Rattle.kernel.proofs.bad_state as bs
 use Rattle.kernel.proofs.bad_state.Symbol as bs-def
 use Rattle.kernel.proofs.bad_state.Symbol.{name as #bs}
@@ -283,6 +283,6 @@ step-spec 𝓤 H 𝓜 𝓖 𝓡 =
     entered 𝓤 H (tripleOf 𝓤 H (𝓖 .A) outer.signature (outer.spec 𝓤 H (𝓖 .A) (𝓜 .mem) (𝓡 .run)))
     (tables 𝓤 H 𝓜 𝓡 code.env .C) (tables 𝓤 H 𝓜 𝓡 code.env .Λ) #own code.function (code.unfolded 𝓤 H 𝓜 𝓡)
     (step-meets 𝓤 H (𝓖 .A) (givenOf 𝓤 H 𝓜 𝓖) (𝓜 .mem) (𝓡 .run) (tablesOf 𝓤 H 𝓜 (tables 𝓤 H 𝓜 𝓡 code.env))
-    (cited 𝓤 H (Gso 𝓤 H (𝓖 .A) (𝓜 .mem) (𝓡 .run)) 𝓜 𝓡 code.env #so so-def.routine code.calls-kernel·is-sound (so-thm.met 𝓤 H 𝓜 𝓖 𝓡))
-    (cited 𝓤 H (Gpf 𝓤 H (𝓖 .A) (𝓜 .mem) (𝓡 .run)) 𝓜 𝓡 code.env #pf pf-def.routine code.calls-kernel·perform (pf-thm.met 𝓤 H 𝓜 𝓖 𝓡))
+    (cited 𝓤 H (Gso 𝓤 H (𝓖 .A) (𝓜 .mem) (𝓡 .run)) 𝓜 𝓡 code.env #so so-def.routine code.calls-checking·is-sound (so-thm.met 𝓤 H 𝓜 𝓖 𝓡))
+    (cited 𝓤 H (Gpf 𝓤 H (𝓖 .A) (𝓜 .mem) (𝓡 .run)) 𝓜 𝓡 code.env #pf pf-def.routine code.calls-performing·perform (pf-thm.met 𝓤 H 𝓜 𝓖 𝓡))
     (cited 𝓤 H (Gbs 𝓤 H (𝓖 .A) (𝓜 .mem) (𝓡 .run)) 𝓜 𝓡 code.env #bs bs-def.routine code.calls-kernel·bad-state (bs-thm.met 𝓤 H 𝓜 𝓖 𝓡)))

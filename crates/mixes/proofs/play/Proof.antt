@@ -65,10 +65,10 @@ use Rattle.mixing.proofs.record_at as rd
 use Rattle.mixing.proofs.record_at.Symbol as rd-def
 use Rattle.mixing.proofs.record_at.Symbol.{name as #rd}
 use Rattle.mixing.proofs.record_at.Met as rd-thm
-use Rattle.kernel.proofs.perform as pf
-use Rattle.kernel.proofs.perform.Symbol as pf-def
-use Rattle.kernel.proofs.perform.Symbol.{name as #pf}
-use Rattle.kernel.proofs.perform.Met as pf-thm
+use Rattle.performing.proofs.perform as pf
+use Rattle.performing.proofs.perform.Symbol as pf-def
+use Rattle.performing.proofs.perform.Symbol.{name as #pf}
+use Rattle.performing.proofs.perform.Met as pf-thm
 use Rattle.lending.proofs.runner as ru
 use Rattle.lending.proofs.runner.Symbol as ru-def
 use Rattle.lending.proofs.runner.Symbol.{name as #ru}
@@ -467,6 +467,6 @@ play-spec 𝓤 H 𝓜 𝓖 𝓡 =
     (tables 𝓤 H 𝓜 𝓡 code.env .C) (tables 𝓤 H 𝓜 𝓡 code.env .Λ) #play code.function (code.unfolded 𝓤 H 𝓜 𝓡)
     (play-meets 𝓤 H (𝓖 .A) (givenOf 𝓤 H 𝓜 𝓖) (𝓜 .mem) (𝓡 .run) (tablesOf 𝓤 H 𝓜 (tables 𝓤 H 𝓜 𝓡 code.env))
     (cited 𝓤 H (Grd 𝓤 H (𝓖 .A) (𝓜 .mem) (𝓡 .run)) 𝓜 𝓡 code.env #rd rd-def.routine code.calls-mixing·record-at (rd-thm.met 𝓤 H 𝓜 𝓖 𝓡))
-    (cited 𝓤 H (Gpf 𝓤 H (𝓖 .A) (𝓜 .mem) (𝓡 .run)) 𝓜 𝓡 code.env #pf pf-def.routine code.calls-kernel·perform (pf-thm.met 𝓤 H 𝓜 𝓖 𝓡))
+    (cited 𝓤 H (Gpf 𝓤 H (𝓖 .A) (𝓜 .mem) (𝓡 .run)) 𝓜 𝓡 code.env #pf pf-def.routine code.calls-performing·perform (pf-thm.met 𝓤 H 𝓜 𝓖 𝓡))
     (cited 𝓤 H (Gru 𝓤 H (𝓖 .A) (𝓜 .mem) (𝓡 .run)) 𝓜 𝓡 code.env #ru ru-def.routine code.calls-lending·runner (ru-thm.met 𝓤 H 𝓜 𝓖 𝓡))
     (cited 𝓤 H (Gsu 𝓤 H (𝓖 .A) (𝓜 .mem) (𝓡 .run)) 𝓜 𝓡 code.env #su su-def.routine code.calls-mixing·summed (su-thm.met 𝓤 H 𝓜 𝓖 𝓡)))

@@ -57,7 +57,7 @@ use Rattle.player.specs.declared.Place.{Place}
 use Rattle.player.specs.declared.Part.{Part}
 use Rattle.player.specs.Place.{Point, pointAt, reached, Playing, PlayedPart, LinePut}
 use Rattle.player.proofs.Laws.{Going, going-first, going-more, going-done, line-played, record-step, step-few, line-told}
-use Rattle.kernel.proofs.Laws.{runs-so}
+use Rattle.answers.proofs.Outcomes.{runs-so}
 use Rattle.lending.proofs.Slices.{slice-lent, slice-kept, lends-slice, slice-back}
 use Rattle.player.proofs.Relent.{Relent, slice-again, slice-returns}
 use Rattle.scope.specs.Step.{answered}
@@ -89,10 +89,10 @@ use Rattle.text.proofs.message_at as me
 use Rattle.text.proofs.message_at.Symbol as me-def
 use Rattle.text.proofs.message_at.Symbol.{name as #me}
 use Rattle.text.proofs.message_at.Met as me-thm
-use Rattle.kernel.proofs.perform as pf
-use Rattle.kernel.proofs.perform.Symbol as pf-def
-use Rattle.kernel.proofs.perform.Symbol.{name as #pf}
-use Rattle.kernel.proofs.perform.Met as pf-thm
+use Rattle.performing.proofs.perform as pf
+use Rattle.performing.proofs.perform.Symbol as pf-def
+use Rattle.performing.proofs.perform.Symbol.{name as #pf}
+use Rattle.performing.proofs.perform.Met as pf-thm
 use Rattle.lending.proofs.runner as ru
 use Rattle.lending.proofs.runner.Symbol as ru-def
 use Rattle.lending.proofs.runner.Symbol.{name as #ru}
@@ -618,6 +618,6 @@ play-part-spec 𝓤 H 𝓜 𝓖 𝓡 =
     (cited 𝓤 H (Ggo 𝓤 H (𝓖 .A) (𝓜 .mem) (𝓡 .run)) 𝓜 𝓡 code.env #go go-def.routine code.calls-player·goes-on (go-thm.met 𝓤 H 𝓜 𝓖 𝓡))
     (cited 𝓤 H (Grd 𝓤 H (𝓖 .A) (𝓜 .mem) (𝓡 .run)) 𝓜 𝓡 code.env #rd rd-def.routine code.calls-text·read-record (rd-thm.met 𝓤 H 𝓜 𝓖 𝓡))
     (cited 𝓤 H (Gme 𝓤 H (𝓖 .A) (𝓜 .mem) (𝓡 .run)) 𝓜 𝓡 code.env #me me-def.routine code.calls-text·message-at (me-thm.met 𝓤 H 𝓜 𝓖 𝓡))
-    (cited 𝓤 H (Gpf 𝓤 H (𝓖 .A) (𝓜 .mem) (𝓡 .run)) 𝓜 𝓡 code.env #pf pf-def.routine code.calls-kernel·perform (pf-thm.met 𝓤 H 𝓜 𝓖 𝓡))
+    (cited 𝓤 H (Gpf 𝓤 H (𝓖 .A) (𝓜 .mem) (𝓡 .run)) 𝓜 𝓡 code.env #pf pf-def.routine code.calls-performing·perform (pf-thm.met 𝓤 H 𝓜 𝓖 𝓡))
     (cited 𝓤 H (Gru 𝓤 H (𝓖 .A) (𝓜 .mem) (𝓡 .run)) 𝓜 𝓡 code.env #ru ru-def.routine code.calls-lending·runner (ru-thm.met 𝓤 H 𝓜 𝓖 𝓡))
     (cited 𝓤 H (Gpu 𝓤 H (𝓖 .A) (𝓜 .mem) (𝓡 .run)) 𝓜 𝓡 code.env #pu pu-def.routine code.calls-text·put-line (pu-thm.met 𝓤 H 𝓜 𝓖 𝓡)))

@@ -45,10 +45,10 @@ use denote.Triple.Walked.{stay-dropped, goes-dropped}
 use Rattle.image.specs.Image.{imageOf, imageSize}
 use Rattle.lending.proofs.Lending.{Col, Keys, tokens, lasts, lie, refs, kept, lends, backs, local-in, local-out}
 use Rattle.scope.specs.Fresh.{fresh}
-use Rattle.kernel.proofs.fresh_value as fv
-use Rattle.kernel.proofs.fresh_value.Symbol as fv-def
-use Rattle.kernel.proofs.fresh_value.Symbol.{name as #fv}
-use Rattle.kernel.proofs.fresh_value.Met as fv-thm
+use Rattle.fresh.proofs.fresh_value as fv
+use Rattle.fresh.proofs.fresh_value.Symbol as fv-def
+use Rattle.fresh.proofs.fresh_value.Symbol.{name as #fv}
+use Rattle.fresh.proofs.fresh_value.Met as fv-thm
 use Rattle.writing.proofs.put as pu
 use Rattle.writing.proofs.put.Symbol as pu-def
 use Rattle.writing.proofs.put.Symbol.{name as #pu}
@@ -184,5 +184,5 @@ fresh-image-spec 𝓤 H 𝓜 𝓖 𝓡 =
     entered 𝓤 H (tripleOf 𝓤 H (𝓖 .A) h.signature (h.spec 𝓤 H (𝓖 .A) (𝓜 .mem) (𝓡 .run)))
     (tables 𝓤 H 𝓜 𝓡 code.env .C) (tables 𝓤 H 𝓜 𝓡 code.env .Λ) #own code.function (code.unfolded 𝓤 H 𝓜 𝓡)
     (fresh-image-meets 𝓤 H (𝓖 .A) (givenOf 𝓤 H 𝓜 𝓖) (𝓜 .mem) (𝓡 .run) (tablesOf 𝓤 H 𝓜 (tables 𝓤 H 𝓜 𝓡 code.env))
-    (cited 𝓤 H (Gfv 𝓤 H (𝓖 .A) (𝓜 .mem) (𝓡 .run)) 𝓜 𝓡 code.env #fv fv-def.routine code.calls-kernel·fresh-value (fv-thm.met 𝓤 H 𝓜 𝓖 𝓡))
+    (cited 𝓤 H (Gfv 𝓤 H (𝓖 .A) (𝓜 .mem) (𝓡 .run)) 𝓜 𝓡 code.env #fv fv-def.routine code.calls-fresh·fresh-value (fv-thm.met 𝓤 H 𝓜 𝓖 𝓡))
     (cited 𝓤 H (Gpu 𝓤 H (𝓖 .A) (𝓜 .mem) (𝓡 .run)) 𝓜 𝓡 code.env #pu pu-def.routine code.calls-writing·put (pu-thm.met 𝓤 H 𝓜 𝓖 𝓡)))

@@ -46,10 +46,10 @@ use denote.Triple.Walked.{stay-dropped, goes-dropped}
 use Rattle.image.specs.Image.{imageOf, imageSize}
 use Rattle.lending.proofs.Lending.{Col, Keys, tokens, lasts, lie, refs, kept, lends, backs, local-in, local-out}
 use Rattle.scope.specs.Rules.{sound as isSound}
-use Rattle.kernel.proofs.is_sound as so
-use Rattle.kernel.proofs.is_sound.Symbol as so-def
-use Rattle.kernel.proofs.is_sound.Symbol.{name as #so}
-use Rattle.kernel.proofs.is_sound.Met as so-thm
+use Rattle.checking.proofs.is_sound as so
+use Rattle.checking.proofs.is_sound.Symbol as so-def
+use Rattle.checking.proofs.is_sound.Symbol.{name as #so}
+use Rattle.checking.proofs.is_sound.Met as so-thm
 use Rattle.writing.proofs.put as pu
 use Rattle.writing.proofs.put.Symbol as pu-def
 use Rattle.writing.proofs.put.Symbol.{name as #pu}
@@ -187,5 +187,5 @@ image-of-spec 𝓤 H 𝓜 𝓖 𝓡 =
     entered 𝓤 H (tripleOf 𝓤 H (𝓖 .A) h.signature (h.spec 𝓤 H (𝓖 .A) (𝓜 .mem) (𝓡 .run)))
     (tables 𝓤 H 𝓜 𝓡 code.env .C) (tables 𝓤 H 𝓜 𝓡 code.env .Λ) #own code.function (code.unfolded 𝓤 H 𝓜 𝓡)
     (image-of-meets 𝓤 H (𝓖 .A) (givenOf 𝓤 H 𝓜 𝓖) (𝓜 .mem) (𝓡 .run) (tablesOf 𝓤 H 𝓜 (tables 𝓤 H 𝓜 𝓡 code.env))
-    (cited 𝓤 H (Gso 𝓤 H (𝓖 .A) (𝓜 .mem) (𝓡 .run)) 𝓜 𝓡 code.env #so so-def.routine code.calls-kernel·is-sound (so-thm.met 𝓤 H 𝓜 𝓖 𝓡))
+    (cited 𝓤 H (Gso 𝓤 H (𝓖 .A) (𝓜 .mem) (𝓡 .run)) 𝓜 𝓡 code.env #so so-def.routine code.calls-checking·is-sound (so-thm.met 𝓤 H 𝓜 𝓖 𝓡))
     (cited 𝓤 H (Gpu 𝓤 H (𝓖 .A) (𝓜 .mem) (𝓡 .run)) 𝓜 𝓡 code.env #pu pu-def.routine code.calls-writing·put (pu-thm.met 𝓤 H 𝓜 𝓖 𝓡)))

@@ -65,22 +65,22 @@ use Rattle.stepping.specs.declared.Taken.{Taken}
 use Rattle.stepping.proofs.Taken as TK
 use Rattle.stepping.proofs.Taken.Laws as TK′
 use Rattle.stepping.proofs.Laws.{state-is, told-by}
-use Rattle.kernel.proofs.fresh_value as fv
-use Rattle.kernel.proofs.fresh_value.Symbol as fv-def
-use Rattle.kernel.proofs.fresh_value.Symbol.{name as #fv}
-use Rattle.kernel.proofs.fresh_value.Met as fv-thm
+use Rattle.fresh.proofs.fresh_value as fv
+use Rattle.fresh.proofs.fresh_value.Symbol as fv-def
+use Rattle.fresh.proofs.fresh_value.Symbol.{name as #fv}
+use Rattle.fresh.proofs.fresh_value.Met as fv-thm
 use Rattle.taking.proofs.take as ta
 use Rattle.taking.proofs.take.Symbol as ta-def
 use Rattle.taking.proofs.take.Symbol.{name as #ta}
 use Rattle.taking.proofs.take.Met as ta-thm
-use Rattle.kernel.proofs.is_sound as so
-use Rattle.kernel.proofs.is_sound.Symbol as so-def
-use Rattle.kernel.proofs.is_sound.Symbol.{name as #so}
-use Rattle.kernel.proofs.is_sound.Met as so-thm
-use Rattle.kernel.proofs.perform as pf
-use Rattle.kernel.proofs.perform.Symbol as pf-def
-use Rattle.kernel.proofs.perform.Symbol.{name as #pf}
-use Rattle.kernel.proofs.perform.Met as pf-thm
+use Rattle.checking.proofs.is_sound as so
+use Rattle.checking.proofs.is_sound.Symbol as so-def
+use Rattle.checking.proofs.is_sound.Symbol.{name as #so}
+use Rattle.checking.proofs.is_sound.Met as so-thm
+use Rattle.performing.proofs.perform as pf
+use Rattle.performing.proofs.perform.Symbol as pf-def
+use Rattle.performing.proofs.perform.Symbol.{name as #pf}
+use Rattle.performing.proofs.perform.Met as pf-thm
 use Rattle.lending.proofs.runner as ru
 use Rattle.lending.proofs.runner.Symbol as ru-def
 use Rattle.lending.proofs.runner.Symbol.{name as #ru}
@@ -438,10 +438,10 @@ step-image-spec 𝓤 H 𝓜 𝓖 𝓡 =
     entered 𝓤 H (tripleOf 𝓤 H (𝓖 .A) h.signature (h.spec 𝓤 H (𝓖 .A) (𝓜 .mem) (𝓡 .run)))
     (tables 𝓤 H 𝓜 𝓡 code.env .C) (tables 𝓤 H 𝓜 𝓡 code.env .Λ) #own code.function (code.unfolded 𝓤 H 𝓜 𝓡)
     (step-image-meets 𝓤 H (𝓖 .A) (givenOf 𝓤 H 𝓜 𝓖) (𝓜 .mem) (𝓡 .run) (tablesOf 𝓤 H 𝓜 (tables 𝓤 H 𝓜 𝓡 code.env))
-    (cited 𝓤 H (Gfv 𝓤 H (𝓖 .A) (𝓜 .mem) (𝓡 .run)) 𝓜 𝓡 code.env #fv fv-def.routine code.calls-kernel·fresh-value (fv-thm.met 𝓤 H 𝓜 𝓖 𝓡))
+    (cited 𝓤 H (Gfv 𝓤 H (𝓖 .A) (𝓜 .mem) (𝓡 .run)) 𝓜 𝓡 code.env #fv fv-def.routine code.calls-fresh·fresh-value (fv-thm.met 𝓤 H 𝓜 𝓖 𝓡))
     (cited 𝓤 H (Gta 𝓤 H (𝓖 .A) (𝓜 .mem) (𝓡 .run)) 𝓜 𝓡 code.env #ta ta-def.routine code.calls-taking·take (ta-thm.met 𝓤 H 𝓜 𝓖 𝓡))
-    (cited 𝓤 H (Gso 𝓤 H (𝓖 .A) (𝓜 .mem) (𝓡 .run)) 𝓜 𝓡 code.env #so so-def.routine code.calls-kernel·is-sound (so-thm.met 𝓤 H 𝓜 𝓖 𝓡))
-    (cited 𝓤 H (Gpf 𝓤 H (𝓖 .A) (𝓜 .mem) (𝓡 .run)) 𝓜 𝓡 code.env #pf pf-def.routine code.calls-kernel·perform (pf-thm.met 𝓤 H 𝓜 𝓖 𝓡))
+    (cited 𝓤 H (Gso 𝓤 H (𝓖 .A) (𝓜 .mem) (𝓡 .run)) 𝓜 𝓡 code.env #so so-def.routine code.calls-checking·is-sound (so-thm.met 𝓤 H 𝓜 𝓖 𝓡))
+    (cited 𝓤 H (Gpf 𝓤 H (𝓖 .A) (𝓜 .mem) (𝓡 .run)) 𝓜 𝓡 code.env #pf pf-def.routine code.calls-performing·perform (pf-thm.met 𝓤 H 𝓜 𝓖 𝓡))
     (cited 𝓤 H (Gru 𝓤 H (𝓖 .A) (𝓜 .mem) (𝓡 .run)) 𝓜 𝓡 code.env #ru ru-def.routine code.calls-lending·runner (ru-thm.met 𝓤 H 𝓜 𝓖 𝓡))
     (cited 𝓤 H (Gpu 𝓤 H (𝓖 .A) (𝓜 .mem) (𝓡 .run)) 𝓜 𝓡 code.env #pu pu-def.routine code.calls-writing·put (pu-thm.met 𝓤 H 𝓜 𝓖 𝓡))
     (cited 𝓤 H (Gto 𝓤 H (𝓖 .A) (𝓜 .mem) (𝓡 .run)) 𝓜 𝓡 code.env #to to-def.routine code.calls-stepping·keep (to-thm.met 𝓤 H 𝓜 𝓖 𝓡)))

@@ -90,10 +90,10 @@ use Rattle.lending.proofs.runner as ru
 use Rattle.lending.proofs.runner.Symbol as ru-def
 use Rattle.lending.proofs.runner.Symbol.{name as #ru}
 use Rattle.lending.proofs.runner.Met as ru-thm
-use Rattle.kernel.proofs.perform as pf
-use Rattle.kernel.proofs.perform.Symbol as pf-def
-use Rattle.kernel.proofs.perform.Symbol.{name as #pf}
-use Rattle.kernel.proofs.perform.Met as pf-thm
+use Rattle.performing.proofs.perform as pf
+use Rattle.performing.proofs.perform.Symbol as pf-def
+use Rattle.performing.proofs.perform.Symbol.{name as #pf}
+use Rattle.performing.proofs.perform.Met as pf-thm
 use Rattle.grid.proofs.keep as ke
 use Rattle.grid.proofs.keep.Symbol as ke-def
 use Rattle.grid.proofs.keep.Symbol.{name as #ke}
@@ -609,6 +609,6 @@ play-records-spec 𝓤 H 𝓜 𝓖 𝓡 =
     (cited 𝓤 H (Grd 𝓤 H (𝓖 .A) (𝓜 .mem) (𝓡 .run)) 𝓜 𝓡 code.env #rd rd-def.routine code.calls-text·read-record (rd-thm.met 𝓤 H 𝓜 𝓖 𝓡))
     (cited 𝓤 H (Gme 𝓤 H (𝓖 .A) (𝓜 .mem) (𝓡 .run)) 𝓜 𝓡 code.env #me me-def.routine code.calls-text·message-at (me-thm.met 𝓤 H 𝓜 𝓖 𝓡))
     (cited 𝓤 H (Gru 𝓤 H (𝓖 .A) (𝓜 .mem) (𝓡 .run)) 𝓜 𝓡 code.env #ru ru-def.routine code.calls-lending·runner (ru-thm.met 𝓤 H 𝓜 𝓖 𝓡))
-    (cited 𝓤 H (Gpf 𝓤 H (𝓖 .A) (𝓜 .mem) (𝓡 .run)) 𝓜 𝓡 code.env #pf pf-def.routine code.calls-kernel·perform (pf-thm.met 𝓤 H 𝓜 𝓖 𝓡))
+    (cited 𝓤 H (Gpf 𝓤 H (𝓖 .A) (𝓜 .mem) (𝓡 .run)) 𝓜 𝓡 code.env #pf pf-def.routine code.calls-performing·perform (pf-thm.met 𝓤 H 𝓜 𝓖 𝓡))
     (cited 𝓤 H (Gke 𝓤 H (𝓖 .A) (𝓜 .mem) (𝓡 .run)) 𝓜 𝓡 code.env #ke ke-def.routine code.calls-grid·keep (ke-thm.met 𝓤 H 𝓜 𝓖 𝓡))
     (cited 𝓤 H (Gpc 𝓤 H (𝓖 .A) (𝓜 .mem) (𝓡 .run)) 𝓜 𝓡 code.env #pc pc-def.routine code.calls-watching·put-cells (pc-thm.met 𝓤 H 𝓜 𝓖 𝓡)))
