@@ -73,6 +73,7 @@ class Chapter:
         # `_part` has the wake list too: it blanks it
         self.parts = [b for b in BESIDE if b == 'wakes' or b in self.beside]
         self.shows, self.sends = name in SHOWS, name in SENDS
+        self.late = 'wakes' in self.beside
         self.last = name == LAST
         # all that the form of the promise names: what is not lent is any state's
         self.form = cols(next(segs for _, form, segs in LENT if form == lent))
@@ -136,8 +137,8 @@ pub fn caller_refusal(call: u32, mark: u32, running: usize) -> u32
     scope::ILLEGAL_USE
 }
 '''
-CHAPTER = '''// %s, a chapter of the call table. %s
-// `%s_part` has the caller's test in front; `%s` lends the columns of the state, all at once, and what is left in them is the state's.
+CHAPTER = '''// %s, a chapter of the call table. `%s_part` is lent the columns that %s; it tests the caller and %s.
+// `%s` lends the columns of the state, all at once, and what is left in them is the state's.
 // (scope's specs/Step.antt and Calls.antt.) Printed by tools/generate/run: what a call takes is read from its own source.
 use answers::Outcome;
 use chapters::Asked;
@@ -189,40 +190,35 @@ def tasks(ch):
     return f"; {', '.join(lent[:-1])} and {lent[-1]} are the tasks'" if len(lent) > 1 else f"; {lent[0]} is the tasks'" if lent else ''
 
 
-def call_source(ch):
-    o = f"\n// The {CALLS[ch.name][0]}s{tasks(ch)}.\nfn {ch.name}_call(\n{ch.params(ch.beside)}) -> Outcome\n"
-    o += f'    requires {{ ⌜ {ch.requires()} ⌝ }}\n'
-    o += ''.join(f'    requires {{ ⌜ now {b} ≡ {BLANK[b]} ⌝ }}\n' for b in ch.blank if b != 'wakes')
-    o += promise(ch, '(now (wakes .exit))' if 'wakes' in ch.beside else 'noWakes', 'callAt (x .call) .does', LETTERS)
-    o += '\n{\n    let call = x.call;\n    match call {\n'
+# the calls of a chapter of several, chosen by number
+def choice(ch):
+    o = '    let call = x.call;\n    match call {\n'
     for c in ch.calls:
         here = f'        {"_" if c is ch.calls[-1] else c.number} => '
         if 'wakes' in ch.blank and 'wakes' not in c.beside:
             o += here + '{\n            *wakes = [0; 32];\n            ' + called(f'{c.crate}::{c.fn}', c.args, ' ' * 12) + '\n        }\n'
         else:
             o += here + called(f'{c.crate}::{c.fn}', c.args, ' ' * 8) + ',\n'
-    return o + '    }\n}\n'
+    return o + '    }\n'
 
 
 def part_source(ch):
     o = f"\n// {head(ch.name)}{tasks(ch)}.\nfn {ch.name}_part(\n{ch.params(ch.parts)}) -> Outcome\n"
     o += f'    requires {{ ⌜ {asks(ch.name, "x .call")} ⌝ }}\n' + promise(ch, '(now (wakes .exit))', 'answered', NUMS)
     # a call that may wake blanks the list itself
-    late = 'wakes' in ch.beside
-    o += '\n{\n' + '    *wakes = [0; 32];\n' * (not late) + '    let refusal = chapters::caller_refusal(x.call, x.mark, x.running);\n    if refusal != scope::OK {\n'
-    o += '        *wakes = [0; 32];\n' * late + '        return answers::plain(refusal, x.running);\n    }\n'
+    o += '\n{\n' + '    *wakes = [0; 32];\n' * (not ch.late) + '    let refusal = chapters::caller_refusal(x.call, x.mark, x.running);\n    if refusal != scope::OK {\n'
+    o += '        *wakes = [0; 32];\n' * ch.late + '        return answers::plain(refusal, x.running);\n    }\n'
     if ch.one:
         c = ch.calls[0]
         return o + '    ' + called(f'{c.crate}::{c.fn}', c.args, ' ' * 4) + '\n}\n'
-    return o + '    ' + called(f'{ch.name}_call', [c for c, _, _ in ch.columns] + ch.beside + ['x'], ' ' * 4) + '\n}\n'
+    return o + choice(ch) + '}\n'
 
 
 def source(ch):
-    o = ('' if ch.one else call_source(ch)) + part_source(ch) + lends(ch.name, ch.lent, ch.segs, ch.req)
-    what, chosen = f'The {CALLS[ch.name][0]}s', f'`{ch.name}_call` is lent the columns that they read or change, and chooses by number.'
-    if ch.one:
-        what, chosen = head(ch.name), 'It is lent the columns that it reads or changes.'
-    top = CHAPTER % (what, chosen, ch.name, ch.name)
+    o = part_source(ch) + lends(ch.name, ch.lent, ch.segs, ch.req)
+    what = head(ch.name) if ch.one else f'The {CALLS[ch.name][0]}s'
+    does = 'does it' if ch.one else 'chooses by number'
+    top = CHAPTER % (what, ch.name, 'it reads or changes' if ch.one else 'they read or change', does, ch.name)
     said = set(re.findall(r'[^\s(){}.]+', ' '.join(re.findall('⌜(.*?)⌝', o, re.S))))
     for module, names in (GHOST | {'Rattle.answers.specs.Columns': ch.lent}).items():
         named = [n for n in names.split() if n.strip('_') in said]
@@ -235,86 +231,70 @@ def back(n):
     return 'c' + ' .before' * n
 
 
-def call_proof(ch):
-    name, calls = ch.name, ch.calls
+# the needs of the calls of a chapter of several, and what each answer shows: c is then {far} steps behind the choice, and behind that
+# stand the caller's test, that it was passed, and the start
+def choice_proof(ch, bound, asked):
+    calls = ch.calls
     kebab = [c.fn.replace('_', '-') for c in calls]
-    first = CALLS[name][2][0]
-    needs, returns, wanted = '', '', []
-    for k in kebab:
-        needs += f'\n{k}-requires : tie.Need-{k}-requires\n{k}-requires c κs = search needs\n'
-        wanted.append(f'{k}-requires')
+    first = CALLS[ch.name][2][0]
+    needs = {f'{k}-requires c κs': 'search needs' for k in kebab}
     for i, (c, k) in enumerate(zip(calls, kebab)):
         # a list that is blanked here is one step more
         far = c.back + 1 + ('wakes' in ch.blank and 'wakes' not in c.beside)
-        start = back(far + 1 + ch.sends)
-        got = f'c .{k} .ensures (whole ({start}) s)'
+        start = back(far + 3 + ch.sends + (not ch.late))
+        passed = f'({back(far + 2)} .caller-refusal .ensures) ({back(far + 1)} .if1 .left)'
+        got = f'c .{k} .ensures (whole s ({start}))'
         for b, law in (('wakes', 'none-woken _ _'), ('shown', 'none-shown _ _ _')):
             if b in ch.blank and b not in c.beside:
                 known = 'refl' if b == 'wakes' else f'({start} .pre .1)'
                 got = f'{law} {known} ({got})'
-        title = 'returns' + (f'-{i + 1}' if i else '')
-        wanted.append(title)
         if c is not calls[-1]:
             said = f'rw ({back(far)} .match .keys{i + 1}) ({got})'
         else:
-            above = '(omega arith)'
+            above, below = '(omega arith)', '(omega arith)'
             for j in range(i):
                 above = f'(past {first + j} _ {above} ({back(far)} .match .rest{" .0" * (i - 1 - j)} .1))'
-            said = f'let h : {start} .args .x .call ≡ {c.number} = only {c.number} _ {above} (omega arith) in rw h ({got})'
-        returns += f'\n{title} : tie.Need-{title}\n{title} c = λ s{"" if ch.sends else " m"}. {said}\n'
-    return f'''-- `{ch.crate}::{name}_call`: each call of the chapter by its number; the last is what is left when it is none of those before.
--- Assumes nothing. Printed by tools/generate/run.
-use native.Mathlib.Omega.{{arith}}
-use mathlib.Core.Path.{{_≡_, refl}}
-use borrow.Author.Needs.{{needs}}
-use denote.Ref.{{now}}
-use Rattle.answers.proofs.Outcomes.{{none-woken, none-shown}}
-use Rattle.answers.specs.Columns.{{{ch.lent}}}
-use Rattle.chapters.proofs.Laws.{{past, only}}
-use Rattle.{ch.crate}.proofs.{name}_call.Statement.{{statement}}
-use Rattle.{ch.crate}.proofs.{name}_call.Tie as tie
-use Rattle.scope.specs.declared.State.{{State}}
+            if ch.last:
+                below = f'(known-call _ _ _ (sym ({back(far + 2)} .caller-refusal .ensures) ∙ {back(far + 1)} .if1 .left))'
+            said = f'let h : {start} .args .x .call ≡ {c.number} = only {c.number} _ {above} {below} in rw h ({got})'
+        needs[f'returns-{i + 2} c'] = f'λ {bound}. answered-does (whole s ({start})) {asked(start)} {passed} ({said})'
+    return needs
 
--- the state before, out of all the columns lent
-abbrev whole : tie.Start → State → State
-whole c s = {ch.whole()}
-{needs}{returns}
-pub {name}-call-spec : {{M : Type 1}} → statement M
-{name}-call-spec =
-    tie.close
-    (tie.spec
-    {(chr(10) + '    ').join(wanted)})
-'''
+
+# the needs of the one call of a chapter
+def call_proof(ch, bound, asked):
+    k = ch.calls[0].fn.replace('_', '-')
+    far = sum(not shr for _, shr, _ in ch.columns) + sum(b in BLANK for b in ch.beside) + 4
+    start = back(far - ch.late + ch.sends)
+    running = '' if ch.calls[0].runs else f' ({start} .args .x .running)'
+    got = f'rw ({start} .pre) (c .{k} .ensures (whole s ({start})){running})'
+    passed = f'({back(far - 2)} .caller-refusal .ensures) ({back(far - 3)} .if1 .left)'
+    return {f'{k}-requires c κs': 'search needs',
+            'returns-2 c': f'λ {bound}. answered-does (whole s ({start})) {asked(start)} {passed} ({got})'}
 
 
 def part_proof(ch):
     name = ch.name
-    far = sum(not shr for _, shr, _ in ch.columns) + sum(b in BLANK for b in ch.beside) + 4
-    callee = ch.calls[0].fn.replace('_', '-') if ch.one else f'{name}-call'
     # a slice lent is one step more at the start
-    late = 'wakes' in ch.beside
-    first, start = back(4 + ch.sends), back(far - late + ch.sends)
+    first = back(4 + ch.sends)
     bound, m = ('s', lambda at: f'(now ({at} .args .message))') if ch.sends else ('s m', lambda at: 'm')
     asked = lambda at: ' '.join([f'({at} .args .x .{x})' for x in NUMS] + ['_', m(at)])
-    got = f'c .{callee} .ensures (whole s ({start}))' + ('' if ch.sends else ' m')
-    if ch.one:
-        got = f'rw ({start} .pre) (c .{callee} .ensures (whole s ({start}))' + ('' if ch.calls[0].runs else f' ({start} .args .x .running)') + ')'
     refused = 'plain-of _ _ _ _ (c .plain .ensures)'
     if ch.shows:
         refused = f'none-shown _ _ _ ({first} .pre .1) ({refused})'
-    meets = ['search needs']
-    if ch.last:
-        meets = [f'(search needs, known-call _ _ _ (sym ({back(far - 3)} .caller-refusal .ensures) ∙ {back(far - 4)} .if1 .left))']
-    if not ch.one:
-        meets += [f'{back(far - 1)} .pre .1' for b in ch.blank if b == 'shown']
-    return f'''-- `{ch.crate}::{name}_part`: the caller's test first, then the call.
+    refused = f'answered-refused (whole s ({first})) {asked(first)} ({back(2 + ch.late)} .caller-refusal .ensures) ({back(1 + ch.late)} .if1 .taken) ({refused})'
+    needs = {'caller-refusal-requires c κs': 'search needs', 'plain-requires c κs': 'search needs', 'returns c': f'λ {bound}. {refused}'}
+    needs |= (call_proof if ch.one else choice_proof)(ch, bound, asked)
+    titles = [need.split()[0] for need in needs]
+    return f'''-- `{ch.crate}::{name}_part`: the caller's test first, then {'the call' if ch.one else 'each call by its number; the last is what is left when it is none of those before'}.
 -- Assumes nothing. Printed by tools/generate/run.
-use mathlib.Core.Path.{{refl{', sym, _∙_' if ch.last else ''}}}
+use native.Mathlib.Omega.{{arith}}
+use mathlib.Core.Path.{{_≡_, refl, sym, _∙_}}
 use borrow.Author.Needs.{{needs}}
 use denote.Ref.{{now}}
-use Rattle.answers.proofs.Outcomes.{{plain-of, none-shown}}
+use Rattle.answers.proofs.Outcomes.{{plain-of, none-woken, none-shown}}
 use Rattle.answers.specs.Columns.{{{ch.lent}}}
-use Rattle.chapters.proofs.Laws.{{answered-refused, answered-does, known-call}}
+use Rattle.chapters.proofs.Laws.{{answered-refused, answered-does, known-call, past, only}}
 use Rattle.{ch.crate}.proofs.{name}_part.Statement.{{statement}}
 use Rattle.{ch.crate}.proofs.{name}_part.Tie as tie
 use Rattle.scope.specs.declared.State.{{State}}
@@ -322,24 +302,12 @@ use Rattle.scope.specs.declared.State.{{State}}
 -- the state before, out of the columns lent and a state's
 abbrev whole : State → tie.Start → State
 whole s c = {ch.whole()}
-
-caller-refusal-requires : tie.Need-caller-refusal-requires
-caller-refusal-requires c κs = search needs
-
-plain-requires : tie.Need-plain-requires
-plain-requires c κs = search needs
-
-returns : tie.Need-returns
-returns c = λ {bound}. answered-refused (whole s ({first})) {asked(first)} ({back(2 + late)} .caller-refusal .ensures) ({back(1 + late)} .if1 .taken) ({refused})
-
-{callee}-requires : tie.Need-{callee}-requires
-{callee}-requires c κs = {meets[0] if len(meets) == 1 else '(' + ', '.join(meets) + ')'}
-
-returns-2 : tie.Need-returns-2
-returns-2 c = λ {bound}. answered-does (whole s ({start})) {asked(start)} ({back(far - 2)} .caller-refusal .ensures) ({back(far - 3)} .if1 .left) ({got})
-
+''' + ''.join(f'\n{need.split()[0]} : tie.Need-{need.split()[0]}\n{need} = {shown}\n' for need, shown in needs.items()) + f'''
 pub {name}-part-spec : {{M : Type 1}} → statement M
-{name}-part-spec = tie.close (tie.spec caller-refusal-requires plain-requires returns {callee}-requires returns-2)
+{name}-part-spec =
+    tie.close
+    (tie.spec
+    {(chr(10) + '    ').join(titles)})
 '''
 
 
@@ -349,6 +317,4 @@ def files():
         at = f'crates/{ch.crate}'
         r[f'{at}/src/lib.rt'] = source(ch)
         r[f'{at}/proofs/{ch.name}_part/Proof.antt'] = part_proof(ch)
-        if not ch.one:
-            r[f'{at}/proofs/{ch.name}_call/Proof.antt'] = call_proof(ch)
     return r

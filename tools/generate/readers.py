@@ -24,7 +24,12 @@ IS_SOUND = '''
 pub fn is_sound(s: &mut State) -> bool
     ensures { λ r. ⌜ (r ≡ sound (now (s .entry))) × (now (s .exit) ≡ now (s .entry)) ⌝ }
 {
-    orders_kept(s) & tasks_right(s) & sems_right(s) & queues_right(s) & messages_right(s) & pools_kept(s)
+    orders_kept(s)
+        & tasks_right(s)
+        & sems_right(s)
+        & queues_right(s)
+        & messages_right(s)
+        & pools_kept(s)
 }
 '''
 

@@ -1,5 +1,5 @@
-// The pool calls, a chapter of the call table. `pool_call` is lent the columns that they read or change, and chooses by number.
-// `pool_part` has the caller's test in front; `pool` lends the columns of the state, all at once, and what is left in them is the state's.
+// The pool calls, a chapter of the call table. `pool_part` is lent the columns that they read or change; it tests the caller and chooses by number.
+// `pool` lends the columns of the state, all at once, and what is left in them is the state's.
 // (scope's specs/Step.antt and Calls.antt.) Printed by tools/generate/run: what a call takes is read from its own source.
 use answers::Outcome;
 use chapters::Asked;
@@ -7,15 +7,13 @@ use scope::State;
 ghost use mathlib.Core.Path.{_≡_};
 ghost use Prim.Native.Nat.{ℕ, _<_, _≤_};
 ghost use mathlib.Core.List.{List};
-ghost use Rattle.scope.specs.Calls.{callAt};
 ghost use Rattle.scope.specs.Step.{answered};
 ghost use Rattle.scope.specs.declared.State.{State};
-ghost use Rattle.scope.specs.Answers.{noWakes};
 ghost use Rattle.answers.specs.Outcomes.{answerOf};
 ghost use Rattle.answers.specs.Columns.{lentPools};
 
-// The pool calls.
-fn pool_call(
+// A pool call.
+fn pool_part(
     out: &mut [u64; 8],
     name: &mut [u32; 8],
     address: &mut [u32; 8],
@@ -25,14 +23,21 @@ fn pool_call(
     live: &mut [bool; 8],
     forced: &mut [bool; 8],
     place: &mut [u8; 512],
+    wakes: &mut [u32; 32],
     x: Asked,
 ) -> Outcome
     requires { ⌜ (14 ≤ x .call) × (x .call < 20) ⌝ }
     ensures { λ r. ⌜ ((s : State) (m : List ℕ) → answerOf (lentPools s (now (out .exit)) (now (name .exit)) (now (address .exit)) (now (length .exit))
-        (now (size .exit)) (now (serial .exit)) (now (live .exit)) (now (forced .exit)) (now (place .exit)) (x .running)) noWakes r
-        ≡ callAt (x .call) .does (lentPools s (now (out .entry)) (now (name .entry)) (now (address .entry)) (now (length .entry)) (now (size .entry))
-        (now (serial .entry)) (now (live .entry)) (now (forced .entry)) (now (place .entry)) (x .running)) (x .a) (x .b) (x .c) (x .d) (x .e) m) ⌝ }
+        (now (size .exit)) (now (serial .exit)) (now (live .exit)) (now (forced .exit)) (now (place .exit)) (x .running)) (now (wakes .exit)) r
+        ≡ answered (lentPools s (now (out .entry)) (now (name .entry)) (now (address .entry)) (now (length .entry)) (now (size .entry))
+        (now (serial .entry)) (now (live .entry)) (now (forced .entry)) (now (place .entry)) (x .running)) (x .call) (x .mark) (x .a) (x .b) (x .c)
+        (x .d) (x .e) m) ⌝ }
 {
+    *wakes = [0; 32];
+    let refusal = chapters::caller_refusal(x.call, x.mark, x.running);
+    if refusal != scope::OK {
+        return answers::plain(refusal, x.running);
+    }
     let call = x.call;
     match call {
         14 => pools::pool_create(
@@ -91,46 +96,6 @@ fn pool_call(
         ),
         _ => pools::pool_info(out, length, size, serial, live, forced, x.running, x.a),
     }
-}
-
-// A pool call.
-fn pool_part(
-    out: &mut [u64; 8],
-    name: &mut [u32; 8],
-    address: &mut [u32; 8],
-    length: &mut [u32; 8],
-    size: &mut [u32; 8],
-    serial: &mut [u16; 8],
-    live: &mut [bool; 8],
-    forced: &mut [bool; 8],
-    place: &mut [u8; 512],
-    wakes: &mut [u32; 32],
-    x: Asked,
-) -> Outcome
-    requires { ⌜ (14 ≤ x .call) × (x .call < 20) ⌝ }
-    ensures { λ r. ⌜ ((s : State) (m : List ℕ) → answerOf (lentPools s (now (out .exit)) (now (name .exit)) (now (address .exit)) (now (length .exit))
-        (now (size .exit)) (now (serial .exit)) (now (live .exit)) (now (forced .exit)) (now (place .exit)) (x .running)) (now (wakes .exit)) r
-        ≡ answered (lentPools s (now (out .entry)) (now (name .entry)) (now (address .entry)) (now (length .entry)) (now (size .entry))
-        (now (serial .entry)) (now (live .entry)) (now (forced .entry)) (now (place .entry)) (x .running)) (x .call) (x .mark) (x .a) (x .b) (x .c)
-        (x .d) (x .e) m) ⌝ }
-{
-    *wakes = [0; 32];
-    let refusal = chapters::caller_refusal(x.call, x.mark, x.running);
-    if refusal != scope::OK {
-        return answers::plain(refusal, x.running);
-    }
-    pool_call(
-        out,
-        name,
-        address,
-        length,
-        size,
-        serial,
-        live,
-        forced,
-        place,
-        x,
-    )
 }
 
 // A pool call, on a state lent as one thing.

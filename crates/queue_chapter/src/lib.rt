@@ -1,5 +1,5 @@
-// The queue calls, a chapter of the call table. `queue_call` is lent the columns that they read or change, and chooses by number.
-// `queue_part` has the caller's test in front; `queue` lends the columns of the state, all at once, and what is left in them is the state's.
+// The queue calls, a chapter of the call table. `queue_part` is lent the columns that they read or change; it tests the caller and chooses by number.
+// `queue` lends the columns of the state, all at once, and what is left in them is the state's.
 // (scope's specs/Step.antt and Calls.antt.) Printed by tools/generate/run: what a call takes is read from its own source.
 use answers::Outcome;
 use chapters::Asked;
@@ -7,14 +7,13 @@ use scope::State;
 ghost use mathlib.Core.Path.{_≡_};
 ghost use Prim.Native.Nat.{ℕ, _<_, _≤_};
 ghost use mathlib.Core.List.{List};
-ghost use Rattle.scope.specs.Calls.{callAt};
 ghost use Rattle.scope.specs.Step.{answered};
 ghost use Rattle.scope.specs.declared.State.{State};
 ghost use Rattle.answers.specs.Outcomes.{answerOf};
 ghost use Rattle.answers.specs.Columns.{lentQueues};
 
-// The queue calls; waker, suspended and priority are the tasks'.
-fn queue_call(
+// A queue call; waker, suspended and priority are the tasks'.
+fn queue_part(
     left: &mut [u32; 32],
     seat: &mut [u16; 32],
     joined: &mut [u8; 32],
@@ -36,10 +35,15 @@ fn queue_call(
     ensures { λ r. ⌜ ((s : State) (m : List ℕ) → answerOf (lentQueues s (now (left .exit)) (now (seat .exit)) (now (joined .exit)) (now (rings .exit))
         (now (waker .entry)) (now (suspended .entry)) (now (priority .entry)) (now (name .exit)) (now (serial .exit)) (now (live .exit))
         (now (fifo .exit)) (now (limits .exit)) (now (held .exit)) (now (cells .exit)) (x .running)) (now (wakes .exit)) r
-        ≡ callAt (x .call) .does (lentQueues s (now (left .entry)) (now (seat .entry)) (now (joined .entry)) (now (rings .entry)) (now (waker .entry))
+        ≡ answered (lentQueues s (now (left .entry)) (now (seat .entry)) (now (joined .entry)) (now (rings .entry)) (now (waker .entry))
         (now (suspended .entry)) (now (priority .entry)) (now (name .entry)) (now (serial .entry)) (now (live .entry)) (now (fifo .entry))
-        (now (limits .entry)) (now (held .entry)) (now (cells .entry)) (x .running)) (x .a) (x .b) (x .c) (x .d) (x .e) m) ⌝ }
+        (now (limits .entry)) (now (held .entry)) (now (cells .entry)) (x .running)) (x .call) (x .mark) (x .a) (x .b) (x .c) (x .d) (x .e) m) ⌝ }
 {
+    let refusal = chapters::caller_refusal(x.call, x.mark, x.running);
+    if refusal != scope::OK {
+        *wakes = [0; 32];
+        return answers::plain(refusal, x.running);
+    }
     let call = x.call;
     match call {
         20 => {
@@ -80,58 +84,6 @@ fn queue_call(
             queues::queue_ident(name, serial, live, x.running, x.a)
         }
     }
-}
-
-// A queue call; waker, suspended and priority are the tasks'.
-fn queue_part(
-    left: &mut [u32; 32],
-    seat: &mut [u16; 32],
-    joined: &mut [u8; 32],
-    rings: &mut [u16; 1],
-    waker: &[u16; 32],
-    suspended: &[bool; 32],
-    priority: &[u8; 32],
-    name: &mut [u32; 8],
-    serial: &mut [u16; 8],
-    live: &mut [bool; 8],
-    fifo: &mut [bool; 8],
-    limits: &mut [u8; 16],
-    held: &mut [u8; 8],
-    cells: &mut [u8; 8320],
-    wakes: &mut [u32; 32],
-    x: Asked,
-) -> Outcome
-    requires { ⌜ (20 ≤ x .call) × (x .call < 23) ⌝ }
-    ensures { λ r. ⌜ ((s : State) (m : List ℕ) → answerOf (lentQueues s (now (left .exit)) (now (seat .exit)) (now (joined .exit)) (now (rings .exit))
-        (now (waker .entry)) (now (suspended .entry)) (now (priority .entry)) (now (name .exit)) (now (serial .exit)) (now (live .exit))
-        (now (fifo .exit)) (now (limits .exit)) (now (held .exit)) (now (cells .exit)) (x .running)) (now (wakes .exit)) r
-        ≡ answered (lentQueues s (now (left .entry)) (now (seat .entry)) (now (joined .entry)) (now (rings .entry)) (now (waker .entry))
-        (now (suspended .entry)) (now (priority .entry)) (now (name .entry)) (now (serial .entry)) (now (live .entry)) (now (fifo .entry))
-        (now (limits .entry)) (now (held .entry)) (now (cells .entry)) (x .running)) (x .call) (x .mark) (x .a) (x .b) (x .c) (x .d) (x .e) m) ⌝ }
-{
-    let refusal = chapters::caller_refusal(x.call, x.mark, x.running);
-    if refusal != scope::OK {
-        *wakes = [0; 32];
-        return answers::plain(refusal, x.running);
-    }
-    queue_call(
-        left,
-        seat,
-        joined,
-        rings,
-        waker,
-        suspended,
-        priority,
-        name,
-        serial,
-        live,
-        fifo,
-        limits,
-        held,
-        cells,
-        wakes,
-        x,
-    )
 }
 
 // A queue call, on a state lent as one thing.

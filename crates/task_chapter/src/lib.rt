@@ -1,5 +1,5 @@
-// The task calls, a chapter of the call table. `task_call` is lent the columns that they read or change, and chooses by number.
-// `task_part` has the caller's test in front; `task` lends the columns of the state, all at once, and what is left in them is the state's.
+// The task calls, a chapter of the call table. `task_part` is lent the columns that they read or change; it tests the caller and chooses by number.
+// `task` lends the columns of the state, all at once, and what is left in them is the state's.
 // (scope's specs/Step.antt and Calls.antt.) Printed by tools/generate/run: what a call takes is read from its own source.
 use answers::Outcome;
 use chapters::Asked;
@@ -7,15 +7,13 @@ use scope::State;
 ghost use mathlib.Core.Path.{_≡_};
 ghost use Prim.Native.Nat.{ℕ, _<_, _≤_};
 ghost use mathlib.Core.List.{List};
-ghost use Rattle.scope.specs.Calls.{callAt};
 ghost use Rattle.scope.specs.Step.{answered};
 ghost use Rattle.scope.specs.declared.State.{State};
-ghost use Rattle.scope.specs.Answers.{noWakes};
 ghost use Rattle.answers.specs.Outcomes.{answerOf};
 ghost use Rattle.answers.specs.Columns.{lentTasks};
 
-// The task calls.
-fn task_call(
+// A task call.
+fn task_part(
     left: &mut [u32; 32],
     seat: &mut [u16; 32],
     joined: &mut [u8; 32],
@@ -26,16 +24,22 @@ fn task_call(
     started: &mut [bool; 32],
     suspended: &mut [bool; 32],
     priority: &mut [u8; 32],
+    wakes: &mut [u32; 32],
     x: Asked,
 ) -> Outcome
     requires { ⌜ (1 ≤ x .call) × (x .call < 8) ⌝ }
     ensures { λ r. ⌜ ((s : State) (m : List ℕ) → answerOf (lentTasks s (now (left .exit)) (now (seat .exit)) (now (joined .exit)) (now (rings .exit))
         (now (name .exit)) (now (serial .exit)) (now (live .exit)) (now (started .exit)) (now (suspended .exit)) (now (priority .exit)) (x .running))
-        noWakes r
-        ≡ callAt (x .call) .does (lentTasks s (now (left .entry)) (now (seat .entry)) (now (joined .entry)) (now (rings .entry)) (now (name .entry))
-        (now (serial .entry)) (now (live .entry)) (now (started .entry)) (now (suspended .entry)) (now (priority .entry)) (x .running)) (x .a) (x .b)
-        (x .c) (x .d) (x .e) m) ⌝ }
+        (now (wakes .exit)) r
+        ≡ answered (lentTasks s (now (left .entry)) (now (seat .entry)) (now (joined .entry)) (now (rings .entry)) (now (name .entry))
+        (now (serial .entry)) (now (live .entry)) (now (started .entry)) (now (suspended .entry)) (now (priority .entry)) (x .running)) (x .call)
+        (x .mark) (x .a) (x .b) (x .c) (x .d) (x .e) m) ⌝ }
 {
+    *wakes = [0; 32];
+    let refusal = chapters::caller_refusal(x.call, x.mark, x.running);
+    if refusal != scope::OK {
+        return answers::plain(refusal, x.running);
+    }
     let call = x.call;
     match call {
         1 => tasks::task_create(
@@ -111,49 +115,6 @@ fn task_call(
             x.b,
         ),
     }
-}
-
-// A task call.
-fn task_part(
-    left: &mut [u32; 32],
-    seat: &mut [u16; 32],
-    joined: &mut [u8; 32],
-    rings: &mut [u16; 1],
-    name: &mut [u32; 32],
-    serial: &mut [u16; 32],
-    live: &mut [bool; 32],
-    started: &mut [bool; 32],
-    suspended: &mut [bool; 32],
-    priority: &mut [u8; 32],
-    wakes: &mut [u32; 32],
-    x: Asked,
-) -> Outcome
-    requires { ⌜ (1 ≤ x .call) × (x .call < 8) ⌝ }
-    ensures { λ r. ⌜ ((s : State) (m : List ℕ) → answerOf (lentTasks s (now (left .exit)) (now (seat .exit)) (now (joined .exit)) (now (rings .exit))
-        (now (name .exit)) (now (serial .exit)) (now (live .exit)) (now (started .exit)) (now (suspended .exit)) (now (priority .exit)) (x .running))
-        (now (wakes .exit)) r
-        ≡ answered (lentTasks s (now (left .entry)) (now (seat .entry)) (now (joined .entry)) (now (rings .entry)) (now (name .entry))
-        (now (serial .entry)) (now (live .entry)) (now (started .entry)) (now (suspended .entry)) (now (priority .entry)) (x .running)) (x .call)
-        (x .mark) (x .a) (x .b) (x .c) (x .d) (x .e) m) ⌝ }
-{
-    *wakes = [0; 32];
-    let refusal = chapters::caller_refusal(x.call, x.mark, x.running);
-    if refusal != scope::OK {
-        return answers::plain(refusal, x.running);
-    }
-    task_call(
-        left,
-        seat,
-        joined,
-        rings,
-        name,
-        serial,
-        live,
-        started,
-        suspended,
-        priority,
-        x,
-    )
 }
 
 // A task call, on a state lent as one thing.

@@ -1,5 +1,5 @@
-// The tick, a chapter of the call table. It is lent the columns that it reads or changes.
-// `tick_part` has the caller's test in front; `tick` lends the columns of the state, all at once, and what is left in them is the state's.
+// The tick, a chapter of the call table. `tick_part` is lent the columns that it reads or changes; it tests the caller and does it.
+// `tick` lends the columns of the state, all at once, and what is left in them is the state's.
 // (scope's specs/Step.antt and Calls.antt.) Printed by tools/generate/run: what a call takes is read from its own source.
 use answers::Outcome;
 use chapters::Asked;

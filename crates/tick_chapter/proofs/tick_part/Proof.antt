@@ -1,5 +1,6 @@
 -- `tick_chapter::tick_part`: the caller's test first, then the call.
 -- Assumes nothing. Printed by tools/generate/run.
+use mathlib.Core.Path.{_≡_, _∙_}
 use borrow.Author.Needs.{needs}
 use denote.Ref.{now}
 use Rattle.answers.proofs.Outcomes.{plain-of}
@@ -29,4 +30,11 @@ returns-2 : tie.Need-returns-2
 returns-2 c = λ s m. answered-does (whole s (c .before .before .before .before .before .before .before .before)) (c .before .before .before .before .before .before .before .before .args .x .call) (c .before .before .before .before .before .before .before .before .args .x .mark) (c .before .before .before .before .before .before .before .before .args .x .a) (c .before .before .before .before .before .before .before .before .args .x .b) (c .before .before .before .before .before .before .before .before .args .x .c) (c .before .before .before .before .before .before .before .before .args .x .d) (c .before .before .before .before .before .before .before .before .args .x .e) _ m (c .before .before .before .before .before .before .before .caller-refusal .ensures) (c .before .before .before .before .before .before .if1 .left) (rw (c .before .before .before .before .before .before .before .before .pre) (c .tick .ensures (whole s (c .before .before .before .before .before .before .before .before)) (c .before .before .before .before .before .before .before .before .args .x .running)))
 
 pub tick-part-spec : {M : Type 1} → statement M
-tick-part-spec = tie.close (tie.spec caller-refusal-requires plain-requires returns tick-requires returns-2)
+tick-part-spec =
+    tie.close
+    (tie.spec
+    caller-refusal-requires
+    plain-requires
+    returns
+    tick-requires
+    returns-2)
