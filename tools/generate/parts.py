@@ -1,5 +1,5 @@
 # Prints the walks of those who play a whole script part by part and keep its state: listings::play_parts, which counts the parts and copies
-# them, and shown::write_listing, which writes them. The state is a local, lent to each part as one thing; the room for a part is lent on to
+# them, and play::write_listing, which writes them. The state is a local, lent to each part as one thing; the room for a part is lent on to
 # be written and then to be read.
 from walk import chain
 from lent import HEADER, STATE, TESTS, Lent, callee, outer, contracts, known, closing, units, trues, lawS, u32own, u64own, ands
@@ -20,10 +20,10 @@ LISTED = Shape('listings', 'play_parts',
                'res script part out puts s p n r made test sref pref pslice oref oslice qref qslice',
                'word sl0 sl1 sl2 tyBool stTy plTy word ptTy stTy tyBool refS refB slE refB slE refC slC',
                PLAYED + [('ap', 'listings', 'add_part', True)], True)
-WRITTEN = Shape('shown', 'write_listing',
+WRITTEN = Shape('play', 'write_listing',
                 'res script part s p n r made test sref pref pslice qref qslice',
                 'tyBool sl0 sl1 stTy plTy tyBool ptTy stTy tyBool refS refB slE refC slC',
-                PLAYED + [('go', 'shown', 'goes_on', True), ('ap', 'shown', 'write_part', True)], False)
+                PLAYED + [('go', 'play', 'goes_on', True), ('ap', 'play', 'write_part', True)], False)
 
 
 def about(s):

@@ -5,6 +5,7 @@ import glob
 import os
 import platform
 import resource
+import shlex
 import shutil
 import signal
 import stat
@@ -12,7 +13,7 @@ import subprocess
 import time
 from concurrent.futures import ThreadPoolExecutor
 
-from tests.bench import ROOT, read, stored
+from tests.bench import ROOT, STORED, read, stored
 
 # Stands in for `rt`: notes each call, "proves" three crates, builds a player.
 RT = """#!/bin/sh
@@ -340,6 +341,22 @@ def test_real_player(bench):
                         "descriptor\n"))):
         bench.equal("the proved player: ./play " + words, play(words),
                     expected)
+
+
+def test_real_listings(bench):
+    """Every stored script: what the proved player writes is what the second
+    program wrote."""
+    play = real(bench)
+    if not play:
+        return
+    scripts = sorted(glob.glob(os.path.join(STORED, "*", "*.script")))
+    with ThreadPoolExecutor(2) as pool:
+        wrote = list(pool.map(play, map(shlex.quote, scripts)))
+    bench.check("scripts are stored", len(scripts) > 100)
+    for path, (status, listing, _) in zip(scripts, wrote):
+        expected = read(path[:-len("script")] + "listing")
+        bench.equal("the proved player: " + path, (status, listing),
+                    (0, expected))
 
 
 def test_real_start(bench):

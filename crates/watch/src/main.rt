@@ -87,10 +87,10 @@ fn write_image(s: State) -> bool {
 }
 
 fn watch_input(wants_image: bool) -> bool {
-    let mut script = shown::script_room();
-    let got = shown::read_input(STDIN_FILENO, &mut script);
+    let mut script = inputs::script_room();
+    let got = inputs::read_input(STDIN_FILENO, &mut script);
     if !got.well {
-        return shown::complain(b"standard input", b": cannot be read");
+        return inputs::complain(b"standard input", b": cannot be read");
     }
     let n = got.length;
     if !text::is_script(&script[..n]) {

@@ -74,18 +74,18 @@ use Rattle.player.proofs.play_part as pp
 use Rattle.player.proofs.play_part.Symbol as pp-def
 use Rattle.player.proofs.play_part.Symbol.{name as #pp}
 use Rattle.player.proofs.play_part.Met as pp-thm
-use Rattle.shown.proofs.goes_on as go
-use Rattle.shown.proofs.goes_on.Symbol as go-def
-use Rattle.shown.proofs.goes_on.Symbol.{name as #go}
-use Rattle.shown.proofs.goes_on.Met as go-thm
-use Rattle.shown.proofs.write_part as ap
-use Rattle.shown.proofs.write_part.Symbol as ap-def
-use Rattle.shown.proofs.write_part.Symbol.{name as #ap}
-use Rattle.shown.proofs.write_part.Met as ap-thm
-use Rattle.shown.proofs.write_listing.Key.{name as #own}
-use Rattle.shown.proofs.write_listing as h
-use Rattle.shown.proofs.write_listing.Statement as stated
-use Rattle.shown.proofs.write_listing.Code as code
+use Rattle.play.proofs.goes_on as go
+use Rattle.play.proofs.goes_on.Symbol as go-def
+use Rattle.play.proofs.goes_on.Symbol.{name as #go}
+use Rattle.play.proofs.goes_on.Met as go-thm
+use Rattle.play.proofs.write_part as ap
+use Rattle.play.proofs.write_part.Symbol as ap-def
+use Rattle.play.proofs.write_part.Symbol.{name as #ap}
+use Rattle.play.proofs.write_part.Met as ap-thm
+use Rattle.play.proofs.write_listing.Key.{name as #own}
+use Rattle.play.proofs.write_listing as h
+use Rattle.play.proofs.write_listing.Statement as stated
+use Rattle.play.proofs.write_listing.Code as code
 
 abbrev R : RattleType
 R = S.the-row
@@ -434,5 +434,5 @@ write-listing-spec 𝓤 H 𝓜 𝓖 𝓡 =
     (cited 𝓤 H (Gfi 𝓤 H (𝓖 .A) (𝓜 .mem) (𝓡 .run)) 𝓜 𝓡 code.env #fi fi-def.routine code.calls-player·first-state (fi-thm.met 𝓤 H 𝓜 𝓖 𝓡))
     (cited 𝓤 H (Gbe 𝓤 H (𝓖 .A) (𝓜 .mem) (𝓡 .run)) 𝓜 𝓡 code.env #be be-def.routine code.calls-player·begin (be-thm.met 𝓤 H 𝓜 𝓖 𝓡))
     (cited 𝓤 H (Gpp 𝓤 H (𝓖 .A) (𝓜 .mem) (𝓡 .run)) 𝓜 𝓡 code.env #pp pp-def.routine code.calls-player·play-part (pp-thm.met 𝓤 H 𝓜 𝓖 𝓡))
-    (cited 𝓤 H (Ggo 𝓤 H (𝓖 .A) (𝓜 .mem) (𝓡 .run)) 𝓜 𝓡 code.env #go go-def.routine code.calls-shown·goes-on (go-thm.met 𝓤 H 𝓜 𝓖 𝓡))
-    (cited 𝓤 H (Gap 𝓤 H (𝓖 .A) (𝓜 .mem) (𝓡 .run)) 𝓜 𝓡 code.env #ap ap-def.routine code.calls-shown·write-part (ap-thm.met 𝓤 H 𝓜 𝓖 𝓡)))
+    (cited 𝓤 H (Ggo 𝓤 H (𝓖 .A) (𝓜 .mem) (𝓡 .run)) 𝓜 𝓡 code.env #go go-def.routine code.calls-play·goes-on (go-thm.met 𝓤 H 𝓜 𝓖 𝓡))
+    (cited 𝓤 H (Gap 𝓤 H (𝓖 .A) (𝓜 .mem) (𝓡 .run)) 𝓜 𝓡 code.env #ap ap-def.routine code.calls-play·write-part (ap-thm.met 𝓤 H 𝓜 𝓖 𝓡)))
