@@ -251,7 +251,7 @@ def choice_proof(ch, bound, asked):
         if c is not calls[-1]:
             said = f'rw ({back(far)} .match .keys{i + 1}) ({got})'
         else:
-            above, below = '(omega arith)', '(omega arith)'
+            above = below = f'(omega (arith, {start} .pre{" .0" * ch.shows}))'
             for j in range(i):
                 above = f'(past {first + j} _ {above} ({back(far)} .match .rest{" .0" * (i - 1 - j)} .1))'
             if ch.last:

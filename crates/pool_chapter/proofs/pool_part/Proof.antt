@@ -58,7 +58,7 @@ returns-6 : tie.Need-returns-6
 returns-6 c = λ s m. answered-does (whole s (c .before .before .before .before .before .before .before .before .before .before .before .before)) (c .before .before .before .before .before .before .before .before .before .before .before .before .args .x .call) (c .before .before .before .before .before .before .before .before .before .before .before .before .args .x .mark) (c .before .before .before .before .before .before .before .before .before .before .before .before .args .x .a) (c .before .before .before .before .before .before .before .before .before .before .before .before .args .x .b) (c .before .before .before .before .before .before .before .before .before .before .before .before .args .x .c) (c .before .before .before .before .before .before .before .before .before .before .before .before .args .x .d) (c .before .before .before .before .before .before .before .before .before .before .before .before .args .x .e) _ m (c .before .before .before .before .before .before .before .before .before .before .caller-refusal .ensures) (c .before .before .before .before .before .before .before .before .before .if1 .left) (rw (c .before .before .before .before .before .before .before .before .match .keys5) (c .pool-ret-buff .ensures (whole s (c .before .before .before .before .before .before .before .before .before .before .before .before))))
 
 returns-7 : tie.Need-returns-7
-returns-7 c = λ s m. answered-does (whole s (c .before .before .before .before .before .before .before .before .before .before .before)) (c .before .before .before .before .before .before .before .before .before .before .before .args .x .call) (c .before .before .before .before .before .before .before .before .before .before .before .args .x .mark) (c .before .before .before .before .before .before .before .before .before .before .before .args .x .a) (c .before .before .before .before .before .before .before .before .before .before .before .args .x .b) (c .before .before .before .before .before .before .before .before .before .before .before .args .x .c) (c .before .before .before .before .before .before .before .before .before .before .before .args .x .d) (c .before .before .before .before .before .before .before .before .before .before .before .args .x .e) _ m (c .before .before .before .before .before .before .before .before .before .caller-refusal .ensures) (c .before .before .before .before .before .before .before .before .if1 .left) (let h : c .before .before .before .before .before .before .before .before .before .before .before .args .x .call ≡ 19 = only 19 _ (past 18 _ (past 17 _ (past 16 _ (past 15 _ (past 14 _ (omega arith) (c .before .before .before .before .before .before .before .match .rest .0 .0 .0 .0 .1)) (c .before .before .before .before .before .before .before .match .rest .0 .0 .0 .1)) (c .before .before .before .before .before .before .before .match .rest .0 .0 .1)) (c .before .before .before .before .before .before .before .match .rest .0 .1)) (c .before .before .before .before .before .before .before .match .rest .1)) (omega arith) in rw h (c .pool-info .ensures (whole s (c .before .before .before .before .before .before .before .before .before .before .before))))
+returns-7 c = λ s m. answered-does (whole s (c .before .before .before .before .before .before .before .before .before .before .before)) (c .before .before .before .before .before .before .before .before .before .before .before .args .x .call) (c .before .before .before .before .before .before .before .before .before .before .before .args .x .mark) (c .before .before .before .before .before .before .before .before .before .before .before .args .x .a) (c .before .before .before .before .before .before .before .before .before .before .before .args .x .b) (c .before .before .before .before .before .before .before .before .before .before .before .args .x .c) (c .before .before .before .before .before .before .before .before .before .before .before .args .x .d) (c .before .before .before .before .before .before .before .before .before .before .before .args .x .e) _ m (c .before .before .before .before .before .before .before .before .before .caller-refusal .ensures) (c .before .before .before .before .before .before .before .before .if1 .left) (let h : c .before .before .before .before .before .before .before .before .before .before .before .args .x .call ≡ 19 = only 19 _ (past 18 _ (past 17 _ (past 16 _ (past 15 _ (past 14 _ (omega (arith, c .before .before .before .before .before .before .before .before .before .before .before .pre)) (c .before .before .before .before .before .before .before .match .rest .0 .0 .0 .0 .1)) (c .before .before .before .before .before .before .before .match .rest .0 .0 .0 .1)) (c .before .before .before .before .before .before .before .match .rest .0 .0 .1)) (c .before .before .before .before .before .before .before .match .rest .0 .1)) (c .before .before .before .before .before .before .before .match .rest .1)) (omega (arith, c .before .before .before .before .before .before .before .before .before .before .before .pre)) in rw h (c .pool-info .ensures (whole s (c .before .before .before .before .before .before .before .before .before .before .before))))
 
 pub pool-part-spec : {M : Type 1} → statement M
 pool-part-spec =

@@ -40,7 +40,7 @@ returns-3 : tie.Need-returns-3
 returns-3 c = λ s m. answered-does (whole s (c .before .before .before .before .before .before .before .before .before .before .before .before .before .before .before .before)) (c .before .before .before .before .before .before .before .before .before .before .before .before .before .before .before .before .args .x .call) (c .before .before .before .before .before .before .before .before .before .before .before .before .before .before .before .before .args .x .mark) (c .before .before .before .before .before .before .before .before .before .before .before .before .before .before .before .before .args .x .a) (c .before .before .before .before .before .before .before .before .before .before .before .before .before .before .before .before .args .x .b) (c .before .before .before .before .before .before .before .before .before .before .before .before .before .before .before .before .args .x .c) (c .before .before .before .before .before .before .before .before .before .before .before .before .before .before .before .before .args .x .d) (c .before .before .before .before .before .before .before .before .before .before .before .before .before .before .before .before .args .x .e) _ m (c .before .before .before .before .before .before .before .before .before .before .before .before .before .before .before .caller-refusal .ensures) (c .before .before .before .before .before .before .before .before .before .before .before .before .before .before .if1 .left) (rw (c .before .before .before .before .before .before .before .before .before .before .before .before .before .match .keys2) (c .queue-delete .ensures (whole s (c .before .before .before .before .before .before .before .before .before .before .before .before .before .before .before .before))))
 
 returns-4 : tie.Need-returns-4
-returns-4 c = λ s m. answered-does (whole s (c .before .before .before .before .before .before .before .before)) (c .before .before .before .before .before .before .before .before .args .x .call) (c .before .before .before .before .before .before .before .before .args .x .mark) (c .before .before .before .before .before .before .before .before .args .x .a) (c .before .before .before .before .before .before .before .before .args .x .b) (c .before .before .before .before .before .before .before .before .args .x .c) (c .before .before .before .before .before .before .before .before .args .x .d) (c .before .before .before .before .before .before .before .before .args .x .e) _ m (c .before .before .before .before .before .before .before .caller-refusal .ensures) (c .before .before .before .before .before .before .if1 .left) (let h : c .before .before .before .before .before .before .before .before .args .x .call ≡ 22 = only 22 _ (past 21 _ (past 20 _ (omega arith) (c .before .before .before .before .before .match .rest .0 .1)) (c .before .before .before .before .before .match .rest .1)) (omega arith) in rw h (none-woken _ _ refl (c .queue-ident .ensures (whole s (c .before .before .before .before .before .before .before .before)))))
+returns-4 c = λ s m. answered-does (whole s (c .before .before .before .before .before .before .before .before)) (c .before .before .before .before .before .before .before .before .args .x .call) (c .before .before .before .before .before .before .before .before .args .x .mark) (c .before .before .before .before .before .before .before .before .args .x .a) (c .before .before .before .before .before .before .before .before .args .x .b) (c .before .before .before .before .before .before .before .before .args .x .c) (c .before .before .before .before .before .before .before .before .args .x .d) (c .before .before .before .before .before .before .before .before .args .x .e) _ m (c .before .before .before .before .before .before .before .caller-refusal .ensures) (c .before .before .before .before .before .before .if1 .left) (let h : c .before .before .before .before .before .before .before .before .args .x .call ≡ 22 = only 22 _ (past 21 _ (past 20 _ (omega (arith, c .before .before .before .before .before .before .before .before .pre)) (c .before .before .before .before .before .match .rest .0 .1)) (c .before .before .before .before .before .match .rest .1)) (omega (arith, c .before .before .before .before .before .before .before .before .pre)) in rw h (none-woken _ _ refl (c .queue-ident .ensures (whole s (c .before .before .before .before .before .before .before .before)))))
 
 pub queue-part-spec : {M : Type 1} → statement M
 queue-part-spec =

@@ -34,7 +34,7 @@ returns-2 : tie.Need-returns-2
 returns-2 c = λ s m. answered-does (whole s (c .before .before .before .before .before .before .before .before .before .before .before .before .before .before .before)) (c .before .before .before .before .before .before .before .before .before .before .before .before .before .before .before .args .x .call) (c .before .before .before .before .before .before .before .before .before .before .before .before .before .before .before .args .x .mark) (c .before .before .before .before .before .before .before .before .before .before .before .before .before .before .before .args .x .a) (c .before .before .before .before .before .before .before .before .before .before .before .before .before .before .before .args .x .b) (c .before .before .before .before .before .before .before .before .before .before .before .before .before .before .before .args .x .c) (c .before .before .before .before .before .before .before .before .before .before .before .before .before .before .before .args .x .d) (c .before .before .before .before .before .before .before .before .before .before .before .before .before .before .before .args .x .e) _ m (c .before .before .before .before .before .before .before .before .before .before .before .before .before .caller-refusal .ensures) (c .before .before .before .before .before .before .before .before .before .before .before .before .if1 .left) (rw (c .before .before .before .before .before .before .before .before .before .before .before .match .keys1) (c .queue-receive .ensures (whole s (c .before .before .before .before .before .before .before .before .before .before .before .before .before .before .before))))
 
 returns-3 : tie.Need-returns-3
-returns-3 c = λ s m. answered-does (whole s (c .before .before .before .before .before .before .before .before .before .before)) (c .before .before .before .before .before .before .before .before .before .before .args .x .call) (c .before .before .before .before .before .before .before .before .before .before .args .x .mark) (c .before .before .before .before .before .before .before .before .before .before .args .x .a) (c .before .before .before .before .before .before .before .before .before .before .args .x .b) (c .before .before .before .before .before .before .before .before .before .before .args .x .c) (c .before .before .before .before .before .before .before .before .before .before .args .x .d) (c .before .before .before .before .before .before .before .before .before .before .args .x .e) _ m (c .before .before .before .before .before .before .before .before .caller-refusal .ensures) (c .before .before .before .before .before .before .before .if1 .left) (let h : c .before .before .before .before .before .before .before .before .before .before .args .x .call ≡ 26 = only 26 _ (past 25 _ (omega arith) (c .before .before .before .before .before .before .match .rest .1)) (known-call _ _ _ (sym (c .before .before .before .before .before .before .before .before .caller-refusal .ensures) ∙ c .before .before .before .before .before .before .before .if1 .left)) in rw h (none-shown _ _ _ (c .before .before .before .before .before .before .before .before .before .before .pre .1) (c .queue-info .ensures (whole s (c .before .before .before .before .before .before .before .before .before .before)))))
+returns-3 c = λ s m. answered-does (whole s (c .before .before .before .before .before .before .before .before .before .before)) (c .before .before .before .before .before .before .before .before .before .before .args .x .call) (c .before .before .before .before .before .before .before .before .before .before .args .x .mark) (c .before .before .before .before .before .before .before .before .before .before .args .x .a) (c .before .before .before .before .before .before .before .before .before .before .args .x .b) (c .before .before .before .before .before .before .before .before .before .before .args .x .c) (c .before .before .before .before .before .before .before .before .before .before .args .x .d) (c .before .before .before .before .before .before .before .before .before .before .args .x .e) _ m (c .before .before .before .before .before .before .before .before .caller-refusal .ensures) (c .before .before .before .before .before .before .before .if1 .left) (let h : c .before .before .before .before .before .before .before .before .before .before .args .x .call ≡ 26 = only 26 _ (past 25 _ (omega (arith, c .before .before .before .before .before .before .before .before .before .before .pre .0)) (c .before .before .before .before .before .before .match .rest .1)) (known-call _ _ _ (sym (c .before .before .before .before .before .before .before .before .caller-refusal .ensures) ∙ c .before .before .before .before .before .before .before .if1 .left)) in rw h (none-shown _ _ _ (c .before .before .before .before .before .before .before .before .before .before .pre .1) (c .queue-info .ensures (whole s (c .before .before .before .before .before .before .before .before .before .before)))))
 
 pub receive-part-spec : {M : Type 1} → statement M
 receive-part-spec =

@@ -58,7 +58,7 @@ returns-6 : tie.Need-returns-6
 returns-6 c = λ s m. answered-does (whole s (c .before .before .before .before .before .before .before .before .before .before .before .before)) (c .before .before .before .before .before .before .before .before .before .before .before .before .args .x .call) (c .before .before .before .before .before .before .before .before .before .before .before .before .args .x .mark) (c .before .before .before .before .before .before .before .before .before .before .before .before .args .x .a) (c .before .before .before .before .before .before .before .before .before .before .before .before .args .x .b) (c .before .before .before .before .before .before .before .before .before .before .before .before .args .x .c) (c .before .before .before .before .before .before .before .before .before .before .before .before .args .x .d) (c .before .before .before .before .before .before .before .before .before .before .before .before .args .x .e) _ m (c .before .before .before .before .before .before .before .before .before .before .before .caller-refusal .ensures) (c .before .before .before .before .before .before .before .before .before .before .if1 .left) (rw (c .before .before .before .before .before .before .before .before .before .match .keys5) (c .sem-release .ensures (whole s (c .before .before .before .before .before .before .before .before .before .before .before .before))))
 
 returns-7 : tie.Need-returns-7
-returns-7 c = λ s m. answered-does (whole s (c .before .before .before .before .before .before .before .before .before .before)) (c .before .before .before .before .before .before .before .before .before .before .args .x .call) (c .before .before .before .before .before .before .before .before .before .before .args .x .mark) (c .before .before .before .before .before .before .before .before .before .before .args .x .a) (c .before .before .before .before .before .before .before .before .before .before .args .x .b) (c .before .before .before .before .before .before .before .before .before .before .args .x .c) (c .before .before .before .before .before .before .before .before .before .before .args .x .d) (c .before .before .before .before .before .before .before .before .before .before .args .x .e) _ m (c .before .before .before .before .before .before .before .before .before .caller-refusal .ensures) (c .before .before .before .before .before .before .before .before .if1 .left) (let h : c .before .before .before .before .before .before .before .before .before .before .args .x .call ≡ 13 = only 13 _ (past 12 _ (past 11 _ (past 10 _ (past 9 _ (past 8 _ (omega arith) (c .before .before .before .before .before .before .before .match .rest .0 .0 .0 .0 .1)) (c .before .before .before .before .before .before .before .match .rest .0 .0 .0 .1)) (c .before .before .before .before .before .before .before .match .rest .0 .0 .1)) (c .before .before .before .before .before .before .before .match .rest .0 .1)) (c .before .before .before .before .before .before .before .match .rest .1)) (omega arith) in rw h (none-woken _ _ refl (c .sem-info .ensures (whole s (c .before .before .before .before .before .before .before .before .before .before)))))
+returns-7 c = λ s m. answered-does (whole s (c .before .before .before .before .before .before .before .before .before .before)) (c .before .before .before .before .before .before .before .before .before .before .args .x .call) (c .before .before .before .before .before .before .before .before .before .before .args .x .mark) (c .before .before .before .before .before .before .before .before .before .before .args .x .a) (c .before .before .before .before .before .before .before .before .before .before .args .x .b) (c .before .before .before .before .before .before .before .before .before .before .args .x .c) (c .before .before .before .before .before .before .before .before .before .before .args .x .d) (c .before .before .before .before .before .before .before .before .before .before .args .x .e) _ m (c .before .before .before .before .before .before .before .before .before .caller-refusal .ensures) (c .before .before .before .before .before .before .before .before .if1 .left) (let h : c .before .before .before .before .before .before .before .before .before .before .args .x .call ≡ 13 = only 13 _ (past 12 _ (past 11 _ (past 10 _ (past 9 _ (past 8 _ (omega (arith, c .before .before .before .before .before .before .before .before .before .before .pre)) (c .before .before .before .before .before .before .before .match .rest .0 .0 .0 .0 .1)) (c .before .before .before .before .before .before .before .match .rest .0 .0 .0 .1)) (c .before .before .before .before .before .before .before .match .rest .0 .0 .1)) (c .before .before .before .before .before .before .before .match .rest .0 .1)) (c .before .before .before .before .before .before .before .match .rest .1)) (omega (arith, c .before .before .before .before .before .before .before .before .before .before .pre)) in rw h (none-woken _ _ refl (c .sem-info .ensures (whole s (c .before .before .before .before .before .before .before .before .before .before)))))
 
 pub sem-part-spec : {M : Type 1} → statement M
 sem-part-spec =

@@ -64,7 +64,7 @@ returns-7 : tie.Need-returns-7
 returns-7 c = λ s m. answered-does (whole s (c .before .before .before .before .before .before .before .before .before .before .before .before .before)) (c .before .before .before .before .before .before .before .before .before .before .before .before .before .args .x .call) (c .before .before .before .before .before .before .before .before .before .before .before .before .before .args .x .mark) (c .before .before .before .before .before .before .before .before .before .before .before .before .before .args .x .a) (c .before .before .before .before .before .before .before .before .before .before .before .before .before .args .x .b) (c .before .before .before .before .before .before .before .before .before .before .before .before .before .args .x .c) (c .before .before .before .before .before .before .before .before .before .before .before .before .before .args .x .d) (c .before .before .before .before .before .before .before .before .before .before .before .before .before .args .x .e) _ m (c .before .before .before .before .before .before .before .before .before .before .before .caller-refusal .ensures) (c .before .before .before .before .before .before .before .before .before .before .if1 .left) (rw (c .before .before .before .before .before .before .before .before .before .match .keys6) (c .task-resume .ensures (whole s (c .before .before .before .before .before .before .before .before .before .before .before .before .before))))
 
 returns-8 : tie.Need-returns-8
-returns-8 c = λ s m. answered-does (whole s (c .before .before .before .before .before .before .before .before .before .before .before .before .before)) (c .before .before .before .before .before .before .before .before .before .before .before .before .before .args .x .call) (c .before .before .before .before .before .before .before .before .before .before .before .before .before .args .x .mark) (c .before .before .before .before .before .before .before .before .before .before .before .before .before .args .x .a) (c .before .before .before .before .before .before .before .before .before .before .before .before .before .args .x .b) (c .before .before .before .before .before .before .before .before .before .before .before .before .before .args .x .c) (c .before .before .before .before .before .before .before .before .before .before .before .before .before .args .x .d) (c .before .before .before .before .before .before .before .before .before .before .before .before .before .args .x .e) _ m (c .before .before .before .before .before .before .before .before .before .before .before .caller-refusal .ensures) (c .before .before .before .before .before .before .before .before .before .before .if1 .left) (let h : c .before .before .before .before .before .before .before .before .before .before .before .before .before .args .x .call ≡ 7 = only 7 _ (past 6 _ (past 5 _ (past 4 _ (past 3 _ (past 2 _ (past 1 _ (omega arith) (c .before .before .before .before .before .before .before .before .before .match .rest .0 .0 .0 .0 .0 .1)) (c .before .before .before .before .before .before .before .before .before .match .rest .0 .0 .0 .0 .1)) (c .before .before .before .before .before .before .before .before .before .match .rest .0 .0 .0 .1)) (c .before .before .before .before .before .before .before .before .before .match .rest .0 .0 .1)) (c .before .before .before .before .before .before .before .before .before .match .rest .0 .1)) (c .before .before .before .before .before .before .before .before .before .match .rest .1)) (omega arith) in rw h (c .task-set-priority .ensures (whole s (c .before .before .before .before .before .before .before .before .before .before .before .before .before))))
+returns-8 c = λ s m. answered-does (whole s (c .before .before .before .before .before .before .before .before .before .before .before .before .before)) (c .before .before .before .before .before .before .before .before .before .before .before .before .before .args .x .call) (c .before .before .before .before .before .before .before .before .before .before .before .before .before .args .x .mark) (c .before .before .before .before .before .before .before .before .before .before .before .before .before .args .x .a) (c .before .before .before .before .before .before .before .before .before .before .before .before .before .args .x .b) (c .before .before .before .before .before .before .before .before .before .before .before .before .before .args .x .c) (c .before .before .before .before .before .before .before .before .before .before .before .before .before .args .x .d) (c .before .before .before .before .before .before .before .before .before .before .before .before .before .args .x .e) _ m (c .before .before .before .before .before .before .before .before .before .before .before .caller-refusal .ensures) (c .before .before .before .before .before .before .before .before .before .before .if1 .left) (let h : c .before .before .before .before .before .before .before .before .before .before .before .before .before .args .x .call ≡ 7 = only 7 _ (past 6 _ (past 5 _ (past 4 _ (past 3 _ (past 2 _ (past 1 _ (omega (arith, c .before .before .before .before .before .before .before .before .before .before .before .before .before .pre)) (c .before .before .before .before .before .before .before .before .before .match .rest .0 .0 .0 .0 .0 .1)) (c .before .before .before .before .before .before .before .before .before .match .rest .0 .0 .0 .0 .1)) (c .before .before .before .before .before .before .before .before .before .match .rest .0 .0 .0 .1)) (c .before .before .before .before .before .before .before .before .before .match .rest .0 .0 .1)) (c .before .before .before .before .before .before .before .before .before .match .rest .0 .1)) (c .before .before .before .before .before .before .before .before .before .match .rest .1)) (omega (arith, c .before .before .before .before .before .before .before .before .before .before .before .before .before .pre)) in rw h (c .task-set-priority .ensures (whole s (c .before .before .before .before .before .before .before .before .before .before .before .before .before))))
 
 pub task-part-spec : {M : Type 1} → statement M
 task-part-spec =
