@@ -34,3 +34,4 @@ pub mod Never
 pub mod Scripts
 pub mod Counts
 pub mod Lives
+pub mod Wakes

@@ -1,4 +1,3 @@
-pub mod Wakes
 pub mod Laws
 pub mod Relent
 pub mod One

@@ -1,11 +1,11 @@
 -- What the code does with an image, piece by piece, is the definitions' step: the front of the bytes is an image where all of them are, the
 -- answer's columns make its bytes, and a refused step has the given state back, so that its image need not be written.
 -- Assumes nothing.
-use Prim.Native.Nat.{ℕ, _≤_, _<_, _*_, _+_}
+use Prim.Native.Nat.{ℕ, _≤_, _<_, _+_}
 use native.Mathlib.Omega.{arith}
 use mathlib.Core.Path.{_≡_, refl, sym, ap, _∙_, subst}
 use mathlib.Core.Bool.{Bool, true, false, _&&_}
-use mathlib.Core.List.{List, [], _∷_, _++_, append-nil}
+use mathlib.Core.List.{List, [], _++_, append-nil}
 use lib.Dec.{ltb, leb}
 use lib.ListN.{length, take, drop, length-take, take-append-drop, drop-of-length-le}
 use lib.Seq.{sets, take-all}
@@ -13,17 +13,14 @@ use borrow.Author.Tests.{le-leb, lt-leb, lt-ltb, le-ltb}
 use Rattle.scope.specs.declared.State.{State}
 use Rattle.scope.specs.declared.Answer.{Answer}
 use Rattle.scope.specs.Statuses.{OK, BAD-STATE}
-use Rattle.scope.specs.Views.{runningTask}
 use Rattle.scope.specs.Rules.{sound}
 use Rattle.scope.specs.Step.{answered}
 use Rattle.scope.specs.Fresh.{fresh}
 use Rattle.laws.proofs.Branches.{first-fails, second-decides, pick-yes, pick-no, picked-yes, picked-no, true-false}
 use Rattle.answers.specs.declared.Outcome.{Outcome}
-use Rattle.answers.specs.Outcomes.{answerShown, nowRuns, told}
-use Rattle.answers.proofs.Outcomes.{runs-so}
 use Rattle.histories.specs.Refusals.{Refusal}
 use Rattle.histories.proofs.Refusals.{stepped-sound, refusal}
-use Rattle.player.proofs.Wakes.{woken-few}
+use Rattle.histories.proofs.Wakes.{woken-few}
 use Rattle.columns.specs.Columns.{part, putColumn}
 use Rattle.columns.specs.Fields.{bytesOf}
 use Rattle.columns.proofs.Bytes.{part-is}
@@ -34,8 +31,9 @@ use Rattle.image.specs.Reading.{NO-ROOM, Wrote, puts, stateFrom, sameBytes, isI
 use Rattle.image.proofs.Image.{from-image}
 use Rattle.image.proofs.Front.{state-front}
 use Rattle.images.proofs.Laws.{copied}
+use Rattle.imaging.specs.Told.{ToldBy}
 use Rattle.stepping.specs.Answers.{numbersBy, answerTables, answerBytes, bytesOfAnswer}
-use Rattle.stepping.specs.Steps.{ToldBy, StepsTo, Stepped, badAnswer, badImage, answersOn, stepsOn, freshes, writes}
+use Rattle.stepping.specs.Steps.{StepsTo, Stepped, badAnswer, badImage, answersOn, stepsOn, freshes, writes}
 
 -- ---- the answer's bytes
 
@@ -54,19 +52,6 @@ answer-put numbers wakes shown a0 a1 a2 a3 h e1 e2 e3 =
     ∙ append-nil (bytesOf ts)
 
 -- ---- what `perform` leaves
-
-module _ (s : State) (wakes shown : List ℕ) (o : Outcome) {a : Answer} (is : answerShown s wakes shown o ≡ a) (runs : s .running ≡ o .runs) where
-  pub state-is : s ≡ a .state
-  unfolding answerShown
-  state-is = sym (runs-so s (o .runs) runs) ∙ ap (λ (x : Answer). x .state) is
-
-  pub told-by : {n : ℕ} → n ≡ runningTask s → ToldBy a wakes shown o n
-  unfolding answerShown
-  told-by {n} e =
-      (λ i. told (sym state-is i) wakes shown o n)
-      ∙ (λ i. told (sym (runs-so s (o .runs) runs) i) wakes shown o (e i))
-      ∙ (λ i. told (nowRuns s (o .runs)) wakes shown o (runningTask (sym (runs-so s (o .runs) runs) i)))
-      ∙ is
 
 -- ---- the front of the bytes
 

@@ -16,18 +16,12 @@ use Rattle.scope.specs.Answers.{noWakes, noMessage}
 use Rattle.scope.specs.Fresh.{fresh}
 use Rattle.scope.specs.Rules.{sound}
 use Rattle.scope.specs.Step.{answered}
-use Rattle.answers.specs.declared.Outcome.{Outcome}
-use Rattle.answers.specs.Outcomes.{told}
 use Rattle.image.specs.Image.{imageOf, imageSize}
 use Rattle.image.specs.Reading.{NO-ROOM, Wrote, puts, stateFrom, isImage}
 use Rattle.stepping.specs.Answers.{numbersOf, answerBytes, bytesOfAnswer}
 
 abbrev pub BAD-IMAGE : ℕ
 BAD-IMAGE = 32
-
--- an answer, told by an outcome, the wake list, the message shown and the running task
-abbrev pub ToldBy : Answer → List ℕ → List ℕ → Outcome → ℕ → Type 0
-ToldBy a wakes shown o running = told (a .state) wakes shown o running ≡ a
 
 -- what a step leaves in the image's bytes and in the answer's, and its status
 pub record Stepped : Type 0 where

@@ -6,64 +6,15 @@ ghost use mathlib.Core.Path.{_≡_};
 ghost use Prim.Native.Nat.{_≤_};
 ghost use lib.ListN.{length, take};
 ghost use lib.Seq.{sets};
-ghost use Rattle.scope.specs.Rules.{sound};
-ghost use Rattle.scope.specs.Step.{answered};
 ghost use Rattle.scope.specs.Fresh.{fresh};
 ghost use Rattle.columns.specs.Columns.{part};
-ghost use Rattle.image.specs.Image.{imageOf, imageSize};
-ghost use Rattle.image.specs.Reading.{stateFrom};
+ghost use Rattle.image.specs.Image.{imageSize};
 ghost use Rattle.stepping.specs.Answers.{answerBytes, numbersBy};
-ghost use Rattle.stepping.specs.Steps.{ToldBy, StepsTo, badAnswer, stepsOn, freshes, writes};
+ghost use Rattle.stepping.specs.Steps.{StepsTo, badAnswer, stepsOn, freshes, writes};
 
 const NO_ROOM: u32 = 31;
 
 const BAD_IMAGE: u32 = 32;
-
-// What a step makes of an image: whether its state keeps the rules, the running task after the step, and the outcome.
-struct Taken {
-    good: bool,
-    running: u32,
-    outcome: Outcome,
-}
-
-fn keep(good: bool, running: u32, outcome: Outcome) -> Taken
-    ensures { λ r. ⌜ r ≡ (record { good = good; running = running; outcome = outcome }) ⌝ }
-{
-    Taken {
-        good,
-        running,
-        outcome,
-    }
-}
-
-// The step of the state that stands in an image's bytes, which then are the image of the state after it. The state is kept here, and lent as
-// one thing.
-fn step_image(
-    image: &mut [u8; 9920],
-    wakes: &mut [u32; 32],
-    shown: &mut [u8; 64],
-    message: &[u8],
-    call: u32,
-    mark: u32,
-    a: u32,
-    b: u32,
-    c: u32,
-    d: u32,
-    e: u32,
-) -> Taken
-    requires { ⌜ length (now image) ≡ imageSize ⌝ }
-    ensures { λ r. ⌜ (r .good ≡ sound (stateFrom (now (image .entry))))
-        × ((now (image .exit) ≡ imageOf (answered (stateFrom (now (image .entry))) call mark a b c d e (now (message .entry)) .state))
-        × ToldBy (answered (stateFrom (now (image .entry))) call mark a b c d e (now (message .entry))) (now (wakes .exit)) (now (shown .exit)) (r .outcome) (r .running)) ⌝ }
-{
-    let mut s = fresh::fresh_value(0);
-    taking::take(&mut s, image);
-    let good = checking::is_sound(&mut s);
-    let o = performing::perform(&mut s, wakes, shown, message, call, mark, a, b, c, d, e);
-    let running = lending::runner(&mut s);
-    writing::put(&mut s, image);
-    keep(good, running, o)
-}
 
 // The numbers of an answer, in their order.
 fn numbers_of(o: Outcome, running: u32) -> [u32; 11]
@@ -126,7 +77,7 @@ fn step_own(
     let mut wakes = [0u32; 32];
     let mut shown = [0u8; 64];
     let written = images::is_written(image);
-    let t = step_image(
+    let t = imaging::step_image(
         image,
         &mut wakes,
         &mut shown,
@@ -205,15 +156,6 @@ fn fresh_status(priority: u32) -> u32
     scope::OK
 }
 
-// The image of the fresh state, over bytes of our own.
-fn fresh_image(image: &mut [u8; 9920], priority: u32) -> u32
-    requires { ⌜ length (now image) ≡ imageSize ⌝ }
-    ensures { λ r. ⌜ (r ≡ 9920) × (now (image .exit) ≡ imageOf (fresh priority .state)) ⌝ }
-{
-    let mut s = fresh::fresh_value(priority);
-    writing::put(&mut s, image)
-}
-
 fn blank() -> [u8; 9920]
     ensures { λ r. ⌜ length r ≡ imageSize ⌝ }
 {
@@ -228,20 +170,9 @@ pub fn fresh(priority: u32, image: &mut [u8]) -> u32
         return NO_ROOM;
     }
     let mut own = blank();
-    fresh_image(&mut own, priority);
+    imaging::fresh_image(&mut own, priority);
     put_front(image, &own);
     fresh_status(priority)
-}
-
-// A state's image over bytes of our own, and whether the state keeps the rules.
-fn image_of(state: State, image: &mut [u8; 9920]) -> bool
-    requires { ⌜ length (now image) ≡ imageSize ⌝ }
-    ensures { λ r. ⌜ (r ≡ sound state) × (now (image .exit) ≡ imageOf state) ⌝ }
-{
-    let mut s = state;
-    let good = checking::is_sound(&mut s);
-    writing::put(&mut s, image);
-    good
 }
 
 // A state's image at the start of the slice. "A bad state is not written: 26, before 31."
@@ -249,7 +180,7 @@ pub fn write(s: State, out: &mut [u8]) -> u32
     ensures { λ r. ⌜ (record { bytes = now (out .exit); status = r }) ≡ writes s (now (out .entry)) ⌝ }
 {
     let mut own = blank();
-    let good = image_of(s, &mut own);
+    let good = imaging::image_of(s, &mut own);
     if good {
         if out.len() < 9920 {
             return NO_ROOM;

@@ -1,9 +1,9 @@
-# Prints the walks of crate `stepping`'s functions that keep a state as a local and lend it as one thing: step_image, to the check, to the step,
+# Prints the walks of crate `imaging`, which keep a state as a local and lend it as one thing: step_image, to the check, to the step,
 # to who asks who runs and to who writes it; fresh_image, to who writes it. What they are lent is passed on for good.
 from lent import HEADER, STATE, Lent, ands, callee, closing, contracts, known, lawS, outer, trues, units
 from walk import chain, path
 
-CRATE = 'stepping'
+CRATE = 'imaging'
 FRESH = [('fv', 'fresh', 'fresh_value', False), ('pu', 'writing', 'put', False)]
 CALLS = [('fv', 'fresh', 'fresh_value', False), ('ta', 'taking', 'take', False), ('so', 'checking', 'is_sound', False), ('pf', 'performing', 'perform', False), ('ru', 'lending', 'runner', False), ('pu', 'writing', 'put', False), ('to', CRATE, 'keep', True)]
 # the locals in the order of the MIR: the answer, the parameters, the state and what is known of it, and what is passed
@@ -51,7 +51,7 @@ csS = record { row = R; at = 0 } ∷ []
 
 
 def before(w):
-    w(f'''-- `stepping::step_image` meets its contract: a walk of its MIR. The state that stands in the image is a local, which is lent to the check, to the step, to who asks who runs, and to who writes it.
+    w(f'''-- `imaging::step_image` meets its contract: a walk of its MIR. The state that stands in the image is a local, which is lent to the check, to the step, to who asks who runs, and to who writes it.
 -- Assumes nothing. Printed by tools/generate/run.
 {HEADER}{USES}use Rattle.answers.specs.declared.Outcome.{{Outcome}}
 use Rattle.answers.specs.Outcomes.{{answerShown}}
@@ -63,7 +63,7 @@ use Rattle.scope.specs.Rules.{{sound as isSound}}
 use Rattle.scope.specs.Step.{{answered}}
 use Rattle.scope.specs.Views.{{runningTask}}
 use Rattle.image.specs.Reading.{{stateFrom}}
-use Rattle.{CRATE}.specs.Steps.{{ToldBy}}
+use Rattle.{CRATE}.specs.Told.{{ToldBy}}
 use Rattle.{CRATE}.specs.declared.Taken.{{Taken}}
 use Rattle.{CRATE}.proofs.Taken as TK
 use Rattle.{CRATE}.proofs.Taken.Laws as TK′
@@ -419,7 +419,7 @@ def freshened():
     W = Lent(); w = W.w
     ghost = '(((κ, tt), (q, tt), tt, a, vals), tt)'
     out = '‵ P₁ ∷ ‵ (endI xs) ∷ ‵ (u32 .own r (v ∷ [])) ∷ []'
-    w(f'''-- `stepping::fresh_image` meets its contract: a walk of its MIR. The fresh state is a local, which is lent to who writes it.
+    w(f'''-- `imaging::fresh_image` meets its contract: a walk of its MIR. The fresh state is a local, which is lent to who writes it.
 -- Assumes nothing. Printed by tools/generate/run.
 {HEADER}{USES}use Rattle.scope.specs.Fresh.{{fresh}}
 {''.join(callee(*c) for c in FRESH)}{outer(CRATE, 'fresh_image')}{STATE}{IMAGE}abbrev stayed : Stays (h.ended .signature .params) (h.ended .kept)
@@ -505,7 +505,7 @@ def imaged():
     W = Lent(); w = W.w
     ghost = '(((κ, tt), (q, tt), tt, a, vals), tt)'
     out = '‵ P₁ ∷ ‵ (endI xs) ∷ []'
-    w(f'''-- `stepping::image_of` meets its contract: a walk of its MIR. The state is copied to a local, which is lent to the check and to who writes it.
+    w(f'''-- `imaging::image_of` meets its contract: a walk of its MIR. The state is copied to a local, which is lent to the check and to who writes it.
 -- Assumes nothing. Printed by tools/generate/run.
 {HEADER}{USES}use Rattle.scope.specs.Rules.{{sound as isSound}}
 {''.join(callee(*c) for c in WRITE)}{outer(CRATE, 'image_of')}{STATE}{IMAGE}abbrev stayed : Stays (h.ended .signature .params) (h.ended .kept)

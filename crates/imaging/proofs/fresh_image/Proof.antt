@@ -1,4 +1,4 @@
--- `stepping::fresh_image` meets its contract: a walk of its MIR. The fresh state is a local, which is lent to who writes it.
+-- `imaging::fresh_image` meets its contract: a walk of its MIR. The fresh state is a local, which is lent to who writes it.
 -- Assumes nothing. Printed by tools/generate/run.
 use mathlib.Core.Path.{_≡_, refl, _∙_, ap, subst}
 use Prim.Native.Nat.{ℕ, _<_, _≤_, _^_, _+_, _-_, _*_}
@@ -53,10 +53,10 @@ use Rattle.writing.proofs.put as pu
 use Rattle.writing.proofs.put.Symbol as pu-def
 use Rattle.writing.proofs.put.Symbol.{name as #pu}
 use Rattle.writing.proofs.put.Met as pu-thm
-use Rattle.stepping.proofs.fresh_image.Key.{name as #own}
-use Rattle.stepping.proofs.fresh_image as h
-use Rattle.stepping.proofs.fresh_image.Statement as stated
-use Rattle.stepping.proofs.fresh_image.Code as code
+use Rattle.imaging.proofs.fresh_image.Key.{name as #own}
+use Rattle.imaging.proofs.fresh_image as h
+use Rattle.imaging.proofs.fresh_image.Statement as stated
+use Rattle.imaging.proofs.fresh_image.Code as code
 
 abbrev R : RattleType
 R = S.the-row

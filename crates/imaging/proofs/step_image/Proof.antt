@@ -1,4 +1,4 @@
--- `stepping::step_image` meets its contract: a walk of its MIR. The state that stands in the image is a local, which is lent to the check, to the step, to who asks who runs, and to who writes it.
+-- `imaging::step_image` meets its contract: a walk of its MIR. The state that stands in the image is a local, which is lent to the check, to the step, to who asks who runs, and to who writes it.
 -- Assumes nothing. Printed by tools/generate/run.
 use mathlib.Core.Path.{_≡_, refl, sym, _∙_, ap, subst}
 use Prim.Native.Nat.{ℕ, _<_, _≤_, _^_, _+_, _-_, _*_}
@@ -60,11 +60,11 @@ use Rattle.scope.specs.Rules.{sound as isSound}
 use Rattle.scope.specs.Step.{answered}
 use Rattle.scope.specs.Views.{runningTask}
 use Rattle.image.specs.Reading.{stateFrom}
-use Rattle.stepping.specs.Steps.{ToldBy}
-use Rattle.stepping.specs.declared.Taken.{Taken}
-use Rattle.stepping.proofs.Taken as TK
-use Rattle.stepping.proofs.Taken.Laws as TK′
-use Rattle.stepping.proofs.Laws.{state-is, told-by}
+use Rattle.imaging.specs.Told.{ToldBy}
+use Rattle.imaging.specs.declared.Taken.{Taken}
+use Rattle.imaging.proofs.Taken as TK
+use Rattle.imaging.proofs.Taken.Laws as TK′
+use Rattle.imaging.proofs.Laws.{state-is, told-by}
 use Rattle.fresh.proofs.fresh_value as fv
 use Rattle.fresh.proofs.fresh_value.Symbol as fv-def
 use Rattle.fresh.proofs.fresh_value.Symbol.{name as #fv}
@@ -89,14 +89,14 @@ use Rattle.writing.proofs.put as pu
 use Rattle.writing.proofs.put.Symbol as pu-def
 use Rattle.writing.proofs.put.Symbol.{name as #pu}
 use Rattle.writing.proofs.put.Met as pu-thm
-use Rattle.stepping.proofs.keep as to
-use Rattle.stepping.proofs.keep.Symbol as to-def
-use Rattle.stepping.proofs.keep.Symbol.{name as #to}
-use Rattle.stepping.proofs.keep.Met as to-thm
-use Rattle.stepping.proofs.step_image.Key.{name as #own}
-use Rattle.stepping.proofs.step_image as h
-use Rattle.stepping.proofs.step_image.Statement as stated
-use Rattle.stepping.proofs.step_image.Code as code
+use Rattle.imaging.proofs.keep as to
+use Rattle.imaging.proofs.keep.Symbol as to-def
+use Rattle.imaging.proofs.keep.Symbol.{name as #to}
+use Rattle.imaging.proofs.keep.Met as to-thm
+use Rattle.imaging.proofs.step_image.Key.{name as #own}
+use Rattle.imaging.proofs.step_image as h
+use Rattle.imaging.proofs.step_image.Statement as stated
+use Rattle.imaging.proofs.step_image.Code as code
 
 abbrev R : RattleType
 R = S.the-row
@@ -444,4 +444,4 @@ step-image-spec 𝓤 H 𝓜 𝓖 𝓡 =
     (cited 𝓤 H (Gpf 𝓤 H (𝓖 .A) (𝓜 .mem) (𝓡 .run)) 𝓜 𝓡 code.env #pf pf-def.routine code.calls-performing·perform (pf-thm.met 𝓤 H 𝓜 𝓖 𝓡))
     (cited 𝓤 H (Gru 𝓤 H (𝓖 .A) (𝓜 .mem) (𝓡 .run)) 𝓜 𝓡 code.env #ru ru-def.routine code.calls-lending·runner (ru-thm.met 𝓤 H 𝓜 𝓖 𝓡))
     (cited 𝓤 H (Gpu 𝓤 H (𝓖 .A) (𝓜 .mem) (𝓡 .run)) 𝓜 𝓡 code.env #pu pu-def.routine code.calls-writing·put (pu-thm.met 𝓤 H 𝓜 𝓖 𝓡))
-    (cited 𝓤 H (Gto 𝓤 H (𝓖 .A) (𝓜 .mem) (𝓡 .run)) 𝓜 𝓡 code.env #to to-def.routine code.calls-stepping·keep (to-thm.met 𝓤 H 𝓜 𝓖 𝓡)))
+    (cited 𝓤 H (Gto 𝓤 H (𝓖 .A) (𝓜 .mem) (𝓡 .run)) 𝓜 𝓡 code.env #to to-def.routine code.calls-imaging·keep (to-thm.met 𝓤 H 𝓜 𝓖 𝓡)))

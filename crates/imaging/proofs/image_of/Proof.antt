@@ -1,4 +1,4 @@
--- `stepping::image_of` meets its contract: a walk of its MIR. The state is copied to a local, which is lent to the check and to who writes it.
+-- `imaging::image_of` meets its contract: a walk of its MIR. The state is copied to a local, which is lent to the check and to who writes it.
 -- Assumes nothing. Printed by tools/generate/run.
 use mathlib.Core.Path.{_≡_, refl, _∙_, ap}
 use Prim.Native.Nat.{ℕ, _<_, _≤_, _^_, _+_, _-_, _*_}
@@ -54,10 +54,10 @@ use Rattle.writing.proofs.put as pu
 use Rattle.writing.proofs.put.Symbol as pu-def
 use Rattle.writing.proofs.put.Symbol.{name as #pu}
 use Rattle.writing.proofs.put.Met as pu-thm
-use Rattle.stepping.proofs.image_of.Key.{name as #own}
-use Rattle.stepping.proofs.image_of as h
-use Rattle.stepping.proofs.image_of.Statement as stated
-use Rattle.stepping.proofs.image_of.Code as code
+use Rattle.imaging.proofs.image_of.Key.{name as #own}
+use Rattle.imaging.proofs.image_of as h
+use Rattle.imaging.proofs.image_of.Statement as stated
+use Rattle.imaging.proofs.image_of.Code as code
 
 abbrev R : RattleType
 R = S.the-row
