@@ -7,8 +7,9 @@ TYPES = [('u8', 1), ('u16', 2), ('u32', 4), ('u64', 8), ('bool', 1)]
 # those whose columns are compared
 COMPARED = [('u8', 1), ('u32', 4)]
 FLAG = 'bool'
-IS = 'Rattle.columns.specs'
-BY = 'Rattle.columns.proofs'
+IS = 'Rattle.fields.specs'
+BY = 'Rattle.fields.proofs'
+OWN = 'Rattle.columns.proofs'
 SEARCH = 'search needs'
 
 
@@ -37,8 +38,8 @@ use borrow.Author.Needs.{{needs}}
 use {IS}.Numbers.{{bit, isOn}}
 use {IS}.Columns.{{takeColumn}}
 use {BY}.Loops.{{{uses}}}
-{tests}use {BY}.{name}.Statement.{{statement}}
-use {BY}.{name}.Tie as tie
+{tests}use {OWN}.{name}.Statement.{{statement}}
+use {OWN}.{name}.Tie as tie
 
 abbrev Inv-loop : tie.InvT-loop
 Inv-loop {args} = {inv}

@@ -135,8 +135,8 @@ def source():
 ghost use mathlib.Core.Path.{{_≡_}};
 ghost use mathlib.Core.List.{{[], _∷_}};
 ghost use lib.ListN.{{length}};
-ghost use Rattle.columns.specs.Columns.{{part}};
-ghost use Rattle.columns.specs.Fields.{{putFields}};
+ghost use Rattle.fields.specs.Columns.{{part}};
+ghost use Rattle.fields.specs.Fields.{{putFields}};
 ghost use Rattle.image.specs.Image.{{each, bytes, headerNumbers, {names}}};
 ghost use Rattle.image.specs.Reading.{{{taken}, sameBytes}};
 ghost use Rattle.image.specs.Tests.{{headerRight, flagsRight}};

@@ -1,12 +1,12 @@
-// Columns of an image, put and taken: little-endian, a slot's numbers every `stride` bytes. (specs/Columns.antt.)
+// Columns of an image, put and taken: little-endian, a slot's numbers every `stride` bytes. (fields' specs/Columns.antt.)
 ghost use mathlib.Core.Path.{_≡_};
 ghost use mathlib.Core.List.{map};
 ghost use Prim.Native.Nat.{_+_, _*_, _^_, _≤_, _<_};
 ghost use lib.ListN.{length};
 ghost use lib.Seq.{sets};
-ghost use Rattle.columns.specs.Numbers.{le, number, bit, isOn};
-ghost use Rattle.columns.specs.Columns.{part, putColumn, takeColumn, Room};
-ghost use Rattle.columns.specs.Tests.{isFlag, onlyFlags, Tells};
+ghost use Rattle.fields.specs.Numbers.{le, number, bit, isOn};
+ghost use Rattle.fields.specs.Columns.{part, putColumn, takeColumn, Room};
+ghost use Rattle.fields.specs.Tests.{isFlag, onlyFlags, Tells};
 
 // The `w` low bytes of a number, at `at`: one function for every width, which the compiler turns into one store.
 fn put(s: &mut [u8], at: usize, w: usize, x: u64)

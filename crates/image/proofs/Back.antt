@@ -18,9 +18,9 @@ use Rattle.scope.specs.declared.Queues.{Queues}
 use Rattle.scope.specs.Seats.{ringMask, maskOf, runnerOf}
 use Rattle.scope.specs.Rules.{sound, keeps, orderRules, tableRules, ringsRight, runningRight}
 use Rattle.laws.proofs.Branches.{both-true}
-use Rattle.columns.specs.Numbers.{bit, isOn}
-use Rattle.columns.specs.Fields.{AllFine, TablesRead, bytesOf}
-use Rattle.columns.proofs.Tables.{size-is, read-back}
+use Rattle.fields.specs.Numbers.{bit, isOn}
+use Rattle.fields.specs.Fields.{AllFine, TablesRead, bytesOf}
+use Rattle.fields.proofs.Tables.{size-is, read-back}
 use Rattle.image.specs.Image.{Fits, header, headerNumbers, tables, imageOf, imageSize}
 use Rattle.image.specs.Reading.{lineFrom, tasksFrom, semsFrom, poolsFrom, queuesFrom, stateWith, stateFrom}
 use Rattle.image.proofs.Order.{order-bytes, order-length}

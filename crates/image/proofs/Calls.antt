@@ -4,8 +4,8 @@ use mathlib.Core.Path.{_≡_, ap, _∙_}
 use mathlib.Core.Bool.{Bool, _&&_}
 use mathlib.Core.List.{List, map}
 use Prim.Native.Nat.{ℕ, _+_, _*_, _≤_}
-use Rattle.columns.specs.Numbers.{isOn}
-use Rattle.columns.specs.Columns.{putColumn, takeColumn, Room}
+use Rattle.fields.specs.Numbers.{isOn}
+use Rattle.fields.specs.Columns.{putColumn, takeColumn, Room}
 
 -- a column's room, from its place and the sizes of the arrays
 pub roomed : (w S n at size : ℕ) {m k : ℕ} → m ≡ n → k ≡ size → at + n * S + w ≤ size + S → Room w S m at k

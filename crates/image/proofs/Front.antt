@@ -9,8 +9,8 @@ use lib.Dec.{lit≤}
 use lib.ListN.{take, getD}
 use lib.Seq.{getD-take}
 use Rattle.scope.specs.Seats.{ringMask}
-use Rattle.columns.specs.Numbers.{isOn, number, numbers}
-use Rattle.columns.specs.Columns.{takeColumn}
+use Rattle.fields.specs.Numbers.{isOn, number, numbers}
+use Rattle.fields.specs.Columns.{takeColumn}
 use Rattle.image.specs.Image.{imageSize}
 use Rattle.image.specs.Reading.{ofTask, ofSem, ofPool, ofQueue, stateWith, stateFrom}
 

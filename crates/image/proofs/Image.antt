@@ -12,8 +12,8 @@ use borrow.Author.Tests.{le-leb, eq-eqb, eqb-true}
 use Rattle.scope.specs.declared.State.{State}
 use Rattle.scope.specs.Rules.{sound}
 use Rattle.laws.proofs.Branches.{both, both-true, true-false}
-use Rattle.columns.specs.Fields.{bytesOf, putTables}
-use Rattle.columns.proofs.Tables.{written}
+use Rattle.fields.specs.Fields.{bytesOf, putTables}
+use Rattle.fields.proofs.Tables.{written}
 use Rattle.image.specs.Image.{Fits, tables, imageOf, imageSize}
 use Rattle.image.specs.Reading.{stateFrom, sameBytes, isImage}
 use Rattle.image.proofs.Back.{image-length, state-back}

@@ -10,7 +10,7 @@ use lib.ListN.{length, take, getD, replicate}
 use borrow.Author.Tests.{lt-ltb, le-ltb}
 use Rattle.scope.specs.Seats.{onSeat, tasksFrom, ringSeats, readyBelow, readyOrder}
 use Rattle.laws.proofs.Branches.{lt-or-le}
-use Rattle.columns.proofs.Bytes.{Bytes, bytes-none, bytes-append}
+use Rattle.fields.proofs.Bytes.{Bytes, bytes-none, bytes-append}
 use Rattle.orders.specs.Places.{placesOf, orderPlaces}
 use Rattle.orders.proofs.Placing.{places-length}
 

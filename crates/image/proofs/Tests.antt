@@ -8,14 +8,14 @@ use Prim.Native.Nat.{ℕ, _≤_}
 use native.Mathlib.Omega.{arith}
 use lib.ListN.{length}
 use lib.Seq.{take-all}
-use Rattle.columns.specs.Numbers.{bit, isOn}
-use Rattle.columns.specs.Columns.{part, takeColumn}
-use Rattle.columns.specs.Fields.{Fine, TablesRead}
-use Rattle.columns.specs.Tests.{onlyFlags, Tells}
-use Rattle.columns.proofs.Bytes.{Bytes}
-use Rattle.columns.proofs.Tables.{read-back}
-use Rattle.columns.proofs.Testing.{tells-both, tells-one, flags-tell, one-row}
-use Rattle.columns.proofs.Again.{read-written, number-fits, flag-fits}
+use Rattle.fields.specs.Numbers.{bit, isOn}
+use Rattle.fields.specs.Columns.{part, takeColumn}
+use Rattle.fields.specs.Fields.{Fine, TablesRead}
+use Rattle.fields.specs.Tests.{onlyFlags, Tells}
+use Rattle.fields.proofs.Bytes.{Bytes}
+use Rattle.fields.proofs.Tables.{read-back}
+use Rattle.fields.proofs.Testing.{tells-both, tells-one, flags-tell, one-row}
+use Rattle.fields.proofs.Again.{read-written, number-fits, flag-fits}
 use Rattle.orders.specs.Places.{orderPlaces}
 use Rattle.image.specs.Image.{Fits, taskFields, semFields, poolFields, queueFields, headerNumbers, tables, imageOf, imageSize}
 use Rattle.image.specs.Reading.{ofTask, lineFrom, tasksFrom, semsFrom, poolsFrom, queuesFrom, stateFrom, sameBytes}

@@ -13,8 +13,8 @@ use Rattle.scope.specs.declared.Semaphores.{Semaphores}
 use Rattle.scope.specs.declared.Pools.{Pools}
 use Rattle.scope.specs.declared.Queues.{Queues}
 use Rattle.orders.specs.Places.{orderPlaces}
-use Rattle.columns.specs.Numbers.{bit}
-use Rattle.columns.specs.Fields.{Field, Table, strideOf, sizeOf, bytesOf, AllFine}
+use Rattle.fields.specs.Numbers.{bit}
+use Rattle.fields.specs.Fields.{Field, Table, strideOf, sizeOf, bytesOf, AllFine}
 
 -- a number of w bytes a slot; a yes or no a slot, as a byte; n bytes a slot
 abbrev pub each : ℕ → List ℕ → Field

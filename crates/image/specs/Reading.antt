@@ -16,8 +16,8 @@ use Rattle.scope.specs.Choice.{pick}
 use Rattle.scope.specs.Statuses.{OK}
 use Rattle.scope.specs.Seats.{ringMask, maskOf, runnerOf}
 use Rattle.scope.specs.Rules.{sound}
-use Rattle.columns.specs.Numbers.{isOn}
-use Rattle.columns.specs.Columns.{takeColumn}
+use Rattle.fields.specs.Numbers.{isOn}
+use Rattle.fields.specs.Columns.{takeColumn}
 use Rattle.image.specs.Image.{imageOf, imageSize}
 
 abbrev pub NO-ROOM : ℕ

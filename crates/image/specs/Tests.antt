@@ -4,8 +4,8 @@
 use Prim.Native.Nat.{ℕ}
 use mathlib.Core.Bool.{Bool, _&&_}
 use mathlib.Core.List.{List}
-use Rattle.columns.specs.Columns.{part, takeColumn}
-use Rattle.columns.specs.Tests.{onlyFlags}
+use Rattle.fields.specs.Columns.{part, takeColumn}
+use Rattle.fields.specs.Tests.{onlyFlags}
 use Rattle.orders.specs.Places.{orderPlaces}
 use Rattle.image.specs.Image.{headerNumbers}
 use Rattle.image.specs.Reading.{ofTask, ofSem, ofPool, ofQueue, sameBytes}

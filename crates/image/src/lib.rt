@@ -3,8 +3,8 @@
 ghost use mathlib.Core.Path.{_≡_};
 ghost use mathlib.Core.List.{[], _∷_};
 ghost use lib.ListN.{length};
-ghost use Rattle.columns.specs.Columns.{part};
-ghost use Rattle.columns.specs.Fields.{putFields};
+ghost use Rattle.fields.specs.Columns.{part};
+ghost use Rattle.fields.specs.Fields.{putFields};
 ghost use Rattle.image.specs.Image.{each, bytes, headerNumbers, taskColumns, semColumns, poolColumns, queueColumns};
 ghost use Rattle.image.specs.Reading.{TasksTaken, SemaphoresTaken, PoolsTaken, QueuesTaken, sameBytes};
 ghost use Rattle.image.specs.Tests.{headerRight, flagsRight};

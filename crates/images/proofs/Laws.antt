@@ -7,10 +7,10 @@ use mathlib.Core.List.{List, [], _∷_, _++_}
 use lib.ListN.{length, drop}
 use lib.Seq.{sets}
 use Rattle.scope.specs.declared.State.{State}
-use Rattle.columns.specs.Fields.{putFields}
-use Rattle.columns.specs.Columns.{part}
-use Rattle.columns.proofs.Stores.{front}
-use Rattle.columns.proofs.Bytes.{part-all}
+use Rattle.fields.specs.Fields.{putFields}
+use Rattle.fields.specs.Columns.{part}
+use Rattle.fields.proofs.Stores.{front}
+use Rattle.fields.proofs.Bytes.{part-all}
 use Rattle.orders.specs.Places.{orderPlaces}
 use Rattle.image.specs.Image.{each, bytes, headerNumbers, taskFields, semFields, poolFields, queueFields, imageOf, imageSize}
 use Rattle.image.proofs.Back.{image-length}

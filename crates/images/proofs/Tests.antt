@@ -5,8 +5,8 @@ use mathlib.Core.Bool.{Bool, _&&_}
 use mathlib.Core.List.{List}
 use Prim.Native.Nat.{ℕ}
 use lib.ListN.{length}
-use Rattle.columns.specs.Columns.{part, takeColumn}
-use Rattle.columns.proofs.Bytes.{Bytes}
+use Rattle.fields.specs.Columns.{part, takeColumn}
+use Rattle.fields.proofs.Bytes.{Bytes}
 use Rattle.orders.specs.Places.{orderPlaces}
 use Rattle.image.specs.Image.{imageOf, imageSize}
 use Rattle.image.specs.Reading.{stateFrom, sameBytes}

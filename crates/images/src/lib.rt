@@ -7,7 +7,7 @@ use scope::State;
 use scope::Tasks;
 ghost use mathlib.Core.Path.{_≡_};
 ghost use lib.ListN.{length};
-ghost use Rattle.columns.specs.Fields.{putFields};
+ghost use Rattle.fields.specs.Fields.{putFields};
 ghost use Rattle.image.specs.Image.{taskFields, semFields, poolFields, queueFields, imageOf};
 ghost use Rattle.image.specs.Reading.{stateFrom, sameBytes};
 

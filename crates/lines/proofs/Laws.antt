@@ -15,9 +15,9 @@ use Rattle.laws.proofs.Branches.{pick-yes, pick-no, lt-or-le}
 use mathlib.Core.Logic.{⊎-elim}
 use Rattle.answers.specs.declared.Outcome.{Outcome}
 use Rattle.text.specs.Lines.{replyBy}
-use Rattle.columns.specs.Columns.{part}
-use Rattle.columns.proofs.Bytes.{part-is}
-use Rattle.columns.proofs.Stores.{front}
+use Rattle.fields.specs.Columns.{part}
+use Rattle.fields.proofs.Bytes.{part-is}
+use Rattle.fields.proofs.Stores.{front}
 use Rattle.image.specs.Reading.{NO-ROOM}
 use Rattle.lines.specs.Lines.{numbersIn, wakesIn, shownIn, atMost32, outcomeIn, replyIn, lineIn, Told, tells}
 

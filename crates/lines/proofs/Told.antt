@@ -16,9 +16,9 @@ use Rattle.scope.specs.Replies.{replyOf}
 use Rattle.scope.specs.Listing.{lineOf}
 use Rattle.laws.proofs.Branches.{picked-no}
 use Rattle.text.specs.Lines.{replyBy}
-use Rattle.columns.specs.Numbers.{isOn}
-use Rattle.columns.specs.Fields.{Table, AllFine, TablesRead, bytesOf, sizeOf}
-use Rattle.columns.proofs.Tables.{size-is, read-back}
+use Rattle.fields.specs.Numbers.{isOn}
+use Rattle.fields.specs.Fields.{Table, AllFine, TablesRead, bytesOf, sizeOf}
+use Rattle.fields.proofs.Tables.{size-is, read-back}
 use Rattle.stepping.specs.Answers.{numbersOf, answerTables, answerBytes, bytesOfAnswer}
 use Rattle.lines.specs.Lines.{wakesIn, shownIn, atMost32, outcomeIn, replyIn, lineIn}
 

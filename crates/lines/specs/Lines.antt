@@ -11,8 +11,8 @@ use Rattle.scope.specs.Replies.{Reply}
 use Rattle.scope.specs.Listing.{lineOf}
 use Rattle.answers.specs.declared.Outcome.{Outcome}
 use Rattle.text.specs.Lines.{replyBy}
-use Rattle.columns.specs.Numbers.{isOn}
-use Rattle.columns.specs.Columns.{takeColumn}
+use Rattle.fields.specs.Numbers.{isOn}
+use Rattle.fields.specs.Columns.{takeColumn}
 use Rattle.image.specs.Reading.{NO-ROOM}
 
 -- What stands in the bytes, whatever they are: any number but 0 is a yes, and no more are woken than there are places.

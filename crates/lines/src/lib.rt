@@ -5,8 +5,8 @@ ghost use Prim.Native.Nat.{_≤_};
 ghost use lib.ListN.{length, take};
 ghost use lib.Seq.{sets};
 ghost use Rattle.scope.specs.Listing.{listing};
-ghost use Rattle.columns.specs.Numbers.{isOn};
-ghost use Rattle.columns.specs.Columns.{part};
+ghost use Rattle.fields.specs.Numbers.{isOn};
+ghost use Rattle.fields.specs.Columns.{part};
 ghost use Rattle.lines.specs.Lines.{atMost32, outcomeIn, lineIn, tells};
 
 const NO_ROOM: u32 = 31;

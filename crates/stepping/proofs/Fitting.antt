@@ -15,8 +15,8 @@ use Rattle.scope.specs.Seats.{ringSeats}
 use Rattle.scope.specs.Fresh.{freshTasks, freshLine, noSemaphores, noPools, noQueues, freshState, fresh}
 use Rattle.scope.specs.Tasks.{lastPriority}
 use Rattle.laws.proofs.Branches.{picked-yes, picked-no, lt-or-le}
-use Rattle.columns.specs.Numbers.{bit}
-use Rattle.columns.specs.Fields.{Fine}
+use Rattle.fields.specs.Numbers.{bit}
+use Rattle.fields.specs.Fields.{Fine}
 use Rattle.image.specs.Image.{Fits, taskFields, semFields, poolFields, queueFields}
 
 zeros-fit : (n k : ℕ) {m : ℕ} → 0 < m → getD (replicate n 0) k 0 < m

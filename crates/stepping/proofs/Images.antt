@@ -19,9 +19,9 @@ use Rattle.histories.specs.Sound.{Sized}
 use Rattle.histories.proofs.Meaning.{sound-says, sound-right}
 use Rattle.histories.proofs.Stays.{sound-stays}
 use Rattle.histories.proofs.Fresh.{fresh-always}
-use Rattle.columns.specs.Numbers.{isOn, numbers}
-use Rattle.columns.specs.Columns.{takeColumn}
-use Rattle.columns.proofs.Bytes.{length-numbers}
+use Rattle.fields.specs.Numbers.{isOn, numbers}
+use Rattle.fields.specs.Columns.{takeColumn}
+use Rattle.fields.proofs.Bytes.{length-numbers}
 use Rattle.image.specs.Image.{Fits, imageOf, imageSize}
 use Rattle.image.specs.Reading.{Wrote, stateFrom, isImage}
 use Rattle.image.proofs.Image.{accepted, from-image}

@@ -21,11 +21,11 @@ use Rattle.answers.specs.declared.Outcome.{Outcome}
 use Rattle.histories.specs.Refusals.{Refusal}
 use Rattle.histories.proofs.Refusals.{stepped-sound, refusal}
 use Rattle.histories.proofs.Wakes.{woken-few}
-use Rattle.columns.specs.Columns.{part, putColumn}
-use Rattle.columns.specs.Fields.{bytesOf}
-use Rattle.columns.proofs.Bytes.{part-is}
-use Rattle.columns.proofs.Stores.{whole}
-use Rattle.columns.proofs.Tables.{written}
+use Rattle.fields.specs.Columns.{part, putColumn}
+use Rattle.fields.specs.Fields.{bytesOf}
+use Rattle.fields.proofs.Bytes.{part-is}
+use Rattle.fields.proofs.Stores.{whole}
+use Rattle.fields.proofs.Tables.{written}
 use Rattle.image.specs.Image.{imageOf, imageSize}
 use Rattle.image.specs.Reading.{NO-ROOM, Wrote, puts, stateFrom, sameBytes, isImage}
 use Rattle.image.proofs.Image.{from-image}

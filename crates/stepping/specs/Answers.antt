@@ -9,7 +9,7 @@ use lib.ListN.{getD}
 use Rattle.scope.specs.declared.Answer.{Answer}
 use Rattle.scope.specs.Answers.{bitOf}
 use Rattle.answers.specs.declared.Outcome.{Outcome}
-use Rattle.columns.specs.Fields.{Table, bytesOf}
+use Rattle.fields.specs.Fields.{Table, bytesOf}
 use Rattle.image.specs.Image.{each, bytes, table}
 
 -- the numbers in their order, each of four bytes

@@ -7,7 +7,7 @@ ghost use Prim.Native.Nat.{_≤_};
 ghost use lib.ListN.{length, take};
 ghost use lib.Seq.{sets};
 ghost use Rattle.scope.specs.Fresh.{fresh};
-ghost use Rattle.columns.specs.Columns.{part};
+ghost use Rattle.fields.specs.Columns.{part};
 ghost use Rattle.image.specs.Image.{imageSize};
 ghost use Rattle.stepping.specs.Answers.{answerBytes, numbersBy};
 ghost use Rattle.stepping.specs.Steps.{StepsTo, badAnswer, stepsOn, freshes, writes};

@@ -4,7 +4,7 @@ use Prim.Native.Nat.{ℕ}
 use mathlib.Core.Bool.{Bool}
 use mathlib.Core.List.{List, [], _∷_}
 use Rattle.scope.specs.declared.State.{State}
-use Rattle.columns.specs.Fields.{putFields}
+use Rattle.fields.specs.Fields.{putFields}
 use Rattle.orders.specs.Places.{orderPlaces}
 use Rattle.image.specs.Image.{each, bytes, headerNumbers, taskColumns, semColumns, poolColumns, queueColumns}
 

@@ -6,8 +6,8 @@ use mathlib.Core.Path.{_∙_}
 use denote.Ref.{now}
 use lib.ListN.{length}
 use borrow.Author.Needs.{needs}
-use Rattle.columns.proofs.Loops.{room}
-use Rattle.columns.proofs.Testing.{Comparing, comparing-start, comparing-more, comparing-done}
+use Rattle.fields.proofs.Loops.{room}
+use Rattle.fields.proofs.Testing.{Comparing, comparing-start, comparing-more, comparing-done}
 use Rattle.columns.proofs.are_u32s.Statement.{statement}
 use Rattle.columns.proofs.are_u32s.Tie as tie
 

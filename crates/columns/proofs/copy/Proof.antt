@@ -4,7 +4,7 @@ use Prim.Native.Nat.{_-_}
 use mathlib.Core.Path.{refl}
 use denote.Ref.{now}
 use borrow.Author.Needs.{needs}
-use Rattle.columns.proofs.Loops.{Copying, copying-start, copying-more, copying-done}
+use Rattle.fields.proofs.Loops.{Copying, copying-start, copying-more, copying-done}
 use Rattle.columns.proofs.copy.Statement.{statement}
 use Rattle.columns.proofs.copy.Tie as tie
 

@@ -5,8 +5,8 @@ use native.Mathlib.Omega.{arith}
 use denote.Ref.{now}
 use lib.ListN.{length}
 use borrow.Author.Needs.{needs}
-use Rattle.columns.proofs.Loops.{room}
-use Rattle.columns.proofs.Testing.{Looking, looking-start, looking-more, looking-done}
+use Rattle.fields.proofs.Loops.{room}
+use Rattle.fields.proofs.Testing.{Looking, looking-start, looking-more, looking-done}
 use Rattle.columns.proofs.flags_only.Statement.{statement}
 use Rattle.columns.proofs.flags_only.Tie as tie
 

@@ -3,7 +3,7 @@
 use native.Mathlib.Omega.{arith}
 use denote.Ref.{now}
 use borrow.Author.Needs.{needs}
-use Rattle.columns.proofs.Loops.{Reading, reading-start, reading-room, reading-more, reading-done}
+use Rattle.fields.proofs.Loops.{Reading, reading-start, reading-room, reading-more, reading-done}
 use Rattle.columns.proofs.get.Statement.{statement}
 use Rattle.columns.proofs.get.Tie as tie
 

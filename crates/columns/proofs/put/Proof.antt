@@ -4,7 +4,7 @@ use Prim.Native.Nat.{_-_}
 use mathlib.Core.Path.{refl}
 use denote.Ref.{now}
 use borrow.Author.Needs.{needs}
-use Rattle.columns.proofs.Loops.{Writing, writing-start, writing-more, writing-done}
+use Rattle.fields.proofs.Loops.{Writing, writing-start, writing-more, writing-done}
 use Rattle.columns.proofs.put.Statement.{statement}
 use Rattle.columns.proofs.put.Tie as tie
 

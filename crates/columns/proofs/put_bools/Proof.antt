@@ -7,8 +7,8 @@ use mathlib.Core.List.{map}
 use denote.Ref.{now}
 use lib.ListN.{length}
 use borrow.Author.Needs.{needs}
-use Rattle.columns.specs.Numbers.{bit}
-use Rattle.columns.proofs.Loops.{Putting, putting-start, putting-flag, putting-done, room}
+use Rattle.fields.specs.Numbers.{bit}
+use Rattle.fields.proofs.Loops.{Putting, putting-start, putting-flag, putting-done, room}
 use Rattle.columns.proofs.put_bools.Statement.{statement}
 use Rattle.columns.proofs.put_bools.Tie as tie
 

@@ -5,7 +5,7 @@ use native.Mathlib.Omega.{arith}
 use denote.Ref.{now}
 use lib.ListN.{length}
 use borrow.Author.Needs.{needs}
-use Rattle.columns.proofs.Loops.{Putting, putting-start, putting-row, putting-done, room, below}
+use Rattle.fields.proofs.Loops.{Putting, putting-start, putting-row, putting-done, room, below}
 use Rattle.columns.proofs.put_rows.Statement.{statement}
 use Rattle.columns.proofs.put_rows.Tie as tie
 

@@ -6,7 +6,7 @@ use mathlib.Core.Path.{_∙_}
 use denote.Ref.{now}
 use lib.ListN.{length}
 use borrow.Author.Needs.{needs}
-use Rattle.columns.proofs.Loops.{Putting, putting-start, putting-one, putting-done, room}
+use Rattle.fields.proofs.Loops.{Putting, putting-start, putting-one, putting-done, room}
 use Rattle.columns.proofs.put_u8s.Statement.{statement}
 use Rattle.columns.proofs.put_u8s.Tie as tie
 

@@ -7,9 +7,9 @@ use mathlib.Core.List.{map}
 use denote.Ref.{now}
 use lib.ListN.{length}
 use borrow.Author.Needs.{needs}
-use Rattle.columns.specs.Numbers.{isOn}
-use Rattle.columns.specs.Columns.{takeColumn}
-use Rattle.columns.proofs.Loops.{Taking, flags-none, taking-flag, taken-flags, room}
+use Rattle.fields.specs.Numbers.{isOn}
+use Rattle.fields.specs.Columns.{takeColumn}
+use Rattle.fields.proofs.Loops.{Taking, flags-none, taking-flag, taken-flags, room}
 use Rattle.columns.proofs.take_bools.Statement.{statement}
 use Rattle.columns.proofs.take_bools.Tie as tie
 

@@ -5,8 +5,8 @@ use native.Mathlib.Omega.{arith}
 use denote.Ref.{now}
 use lib.ListN.{length}
 use borrow.Author.Needs.{needs}
-use Rattle.columns.specs.Columns.{takeColumn}
-use Rattle.columns.proofs.Loops.{Taking, rows-none, taking-row, taken-rows, room, below}
+use Rattle.fields.specs.Columns.{takeColumn}
+use Rattle.fields.proofs.Loops.{Taking, rows-none, taking-row, taken-rows, room, below}
 use Rattle.columns.proofs.take_rows.Statement.{statement}
 use Rattle.columns.proofs.take_rows.Tie as tie
 

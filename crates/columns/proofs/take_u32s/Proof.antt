@@ -6,8 +6,8 @@ use mathlib.Core.Path.{refl, _∙_}
 use denote.Ref.{now}
 use lib.ListN.{length}
 use borrow.Author.Needs.{needs}
-use Rattle.columns.specs.Columns.{takeColumn}
-use Rattle.columns.proofs.Loops.{Taking, taking-none, taking-one, taken-ones, room}
+use Rattle.fields.specs.Columns.{takeColumn}
+use Rattle.fields.proofs.Loops.{Taking, taking-none, taking-one, taken-ones, room}
 use Rattle.columns.proofs.take_u32s.Statement.{statement}
 use Rattle.columns.proofs.take_u32s.Tie as tie
 

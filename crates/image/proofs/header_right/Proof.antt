@@ -2,8 +2,8 @@
 -- Assumes nothing.
 use denote.Ref.{now}
 use borrow.Author.Needs.{needs}
-use Rattle.columns.specs.Columns.{takeColumn}
-use Rattle.columns.proofs.Testing.{tells-one}
+use Rattle.fields.specs.Columns.{takeColumn}
+use Rattle.fields.proofs.Testing.{tells-one}
 use Rattle.image.specs.Image.{headerNumbers}
 use Rattle.image.specs.Tests.{headerRight}
 use Rattle.image.proofs.Tests.{same-tells}

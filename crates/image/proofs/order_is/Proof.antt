@@ -6,8 +6,8 @@ use Prim.Native.Nat.{ℕ}
 use lib.ListN.{length}
 use denote.Ref.{now}
 use borrow.Author.Needs.{needs}
-use Rattle.columns.specs.Columns.{takeColumn, part}
-use Rattle.columns.proofs.Testing.{tells-one, side-by-side}
+use Rattle.fields.specs.Columns.{takeColumn, part}
+use Rattle.fields.proofs.Testing.{tells-one, side-by-side}
 use Rattle.image.specs.Reading.{sameBytes}
 use Rattle.image.proofs.Tests.{same-tells}
 use Rattle.image.proofs.order_is.Statement.{statement}

@@ -10,11 +10,11 @@ use lib.Dec.{eqb}
 use lib.ListN.{length, take, getD}
 use lib.Seq.{take-suc, take-length, take-at, getD-at, length-take-le}
 use borrow.Author.Tests.{eq-eqb, eqb-true, leb-true}
-use Rattle.columns.specs.Numbers.{number, numbers, bit, isOn}
-use Rattle.columns.specs.Columns.{part, takeColumn}
-use Rattle.columns.specs.Tests.{isFlag, onlyFlags, Tells}
-use Rattle.columns.proofs.Bytes.{part-add, numbers-bytes}
-use Rattle.columns.proofs.Loops.{one-more, length-ones}
+use Rattle.fields.specs.Numbers.{number, numbers, bit, isOn}
+use Rattle.fields.specs.Columns.{part, takeColumn}
+use Rattle.fields.specs.Tests.{isFlag, onlyFlags, Tells}
+use Rattle.fields.proofs.Bytes.{part-add, numbers-bytes}
+use Rattle.fields.proofs.Loops.{one-more, length-ones}
 
 -- ---- tests joined, and two tests of one thing
 

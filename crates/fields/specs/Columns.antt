@@ -4,7 +4,7 @@ use mathlib.Core.List.{List, [], _∷_, _++_}
 use Prim.Native.Nat.{ℕ, zero, suc, _+_, _*_, _≤_}
 use lib.ListN.{getD}
 use lib.Seq.{sets}
-use Rattle.columns.specs.Numbers.{les, numbers}
+use Rattle.fields.specs.Numbers.{les, numbers}
 
 -- n numbers of a list from place k on (0 past its end)
 unfoldable pub part : ℕ → ℕ → List ℕ → List ℕ

@@ -8,8 +8,8 @@ use native.Mathlib.Omega.{arith}
 use lib.Dec.{lit<}
 use lib.ListN.{length, take, drop, getD, length-append}
 use lib.Seq.{drop-cons, append-snoc, getD-append-seam, take-length}
-use Rattle.columns.specs.Numbers.{le, les, number, numbers}
-use Rattle.columns.specs.Columns.{part}
+use Rattle.fields.specs.Numbers.{le, les, number, numbers}
+use Rattle.fields.specs.Columns.{part}
 
 pub length-le : (w x : ℕ) → length (le w x) ≡ w
 unfolding le

@@ -10,10 +10,10 @@ use native.Mathlib.Numerals.{add-one}
 use lib.Dec.{lit<}
 use lib.ListN.{length, getD, set, length-set, length-map, length-append, List·getD-map}
 use lib.Seq.{sets, length-sets}
-use Rattle.columns.specs.Numbers.{le, les, number, numbers, bit, isOn}
-use Rattle.columns.specs.Columns.{part, putColumn, takeColumn, Room}
-use Rattle.columns.proofs.Stores.{grown, whole}
-use Rattle.columns.proofs.Bytes.{Bytes, length-part, length-numbers, part-add, les-bytes, numbers-bytes, one-put, one-taken}
+use Rattle.fields.specs.Numbers.{le, les, number, numbers, bit, isOn}
+use Rattle.fields.specs.Columns.{part, putColumn, takeColumn, Room}
+use Rattle.fields.proofs.Stores.{grown, whole}
+use Rattle.fields.proofs.Bytes.{Bytes, length-part, length-numbers, part-add, les-bytes, numbers-bytes, one-put, one-taken}
 
 -- ---- the bytes of a number: k of them are written, `rest` is what is left of it
 

@@ -8,11 +8,11 @@ use native.Mathlib.Nat.{suc-mul, eq-zero-or-pos}
 use native.Mathlib.Omega.{arith}
 use lib.ListN.{length, take, drop, getD, length-append, take-append-drop}
 use lib.Seq.{sets}
-use Rattle.columns.specs.Numbers.{les, numbers}
-use Rattle.columns.specs.Columns.{part, putColumn, takeColumn}
-use Rattle.columns.specs.Fields.{Field, Table, Fine, AllFine, strideOf, sizeOf, recordOf, recordsOf, bytesOf, putFields, putTables, FieldsRead, TablesRead}
-use Rattle.columns.proofs.Stores.{sets-sets, sets-append, front}
-use Rattle.columns.proofs.Bytes.{Bytes, Holds, length-row, part-add, part-all, holds-left, holds-right, holds-seam, numbers-back, bytes-none, bytes-append, bytes-les}
+use Rattle.fields.specs.Numbers.{les, numbers}
+use Rattle.fields.specs.Columns.{part, putColumn, takeColumn}
+use Rattle.fields.specs.Fields.{Field, Table, Fine, AllFine, strideOf, sizeOf, recordOf, recordsOf, bytesOf, putFields, putTables, FieldsRead, TablesRead}
+use Rattle.fields.proofs.Stores.{sets-sets, sets-append, front}
+use Rattle.fields.proofs.Bytes.{Bytes, Holds, length-row, part-add, part-all, holds-left, holds-right, holds-seam, numbers-back, bytes-none, bytes-append, bytes-les}
 
 -- ---- how long records and images are
 

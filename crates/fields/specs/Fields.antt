@@ -4,8 +4,8 @@ use mathlib.Core.Path.{_≡_}
 use mathlib.Core.List.{List, [], _∷_, _++_}
 use Prim.Native.Nat.{ℕ, zero, suc, _+_, _*_, _^_, _<_}
 use lib.ListN.{length, getD}
-use Rattle.columns.specs.Numbers.{les}
-use Rattle.columns.specs.Columns.{part, putColumn, takeColumn}
+use Rattle.fields.specs.Numbers.{les}
+use Rattle.fields.specs.Columns.{part, putColumn, takeColumn}
 
 -- A field has `many` numbers in a record, each of `width` bytes; its column has those of every slot.
 pub record Field : Type 0 where

@@ -10,12 +10,12 @@ use native.Mathlib.Omega.{arith}
 use lib.Dec.{lit<}
 use lib.ListN.{length, take, getD, length-append, length-map, List·getD-append}
 use lib.Seq.{drop-at, take-length}
-use Rattle.columns.specs.Numbers.{le, les, number, numbers, bit, isOn}
-use Rattle.columns.specs.Columns.{part, takeColumn}
-use Rattle.columns.specs.Fields.{Field, Table, strideOf, sizeOf, recordOf, recordsOf, bytesOf, FieldsRead, TablesRead}
-use Rattle.columns.proofs.Bytes.{Under, Bytes, Holds, under-append, length-le, length-numbers, length-row, part-is, part-all}
-use Rattle.columns.proofs.Loops.{below, length-column}
-use Rattle.columns.proofs.Tables.{length-records, size-is}
+use Rattle.fields.specs.Numbers.{le, les, number, numbers, bit, isOn}
+use Rattle.fields.specs.Columns.{part, takeColumn}
+use Rattle.fields.specs.Fields.{Field, Table, strideOf, sizeOf, recordOf, recordsOf, bytesOf, FieldsRead, TablesRead}
+use Rattle.fields.proofs.Bytes.{Under, Bytes, Holds, under-append, length-le, length-numbers, length-row, part-is, part-all}
+use Rattle.fields.proofs.Loops.{below, length-column}
+use Rattle.fields.proofs.Tables.{length-records, size-is}
 
 -- ---- bytes that stand in a list
 
