@@ -34,6 +34,7 @@ use Rattle.text.specs.Lines.{longestLine, replyBy}
 use Rattle.text.proofs.Laws.{line-length}
 use Rattle.player.specs.declared.Place.{Place}
 use Rattle.player.specs.Place.{Point, Reached, pointAt, toCome, next, after, linesTo, Playing, Begun, LinePut, Played, PlayedPart}
+use Rattle.histories.proofs.Refusals.{stepped-sound}
 use Rattle.histories.proofs.Wakes.{woken-few}
 
 -- what the test of a script says
