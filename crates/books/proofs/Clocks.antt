@@ -18,9 +18,9 @@ use Rattle.scope.specs.Identifiers.{identifier}
 use Rattle.scope.specs.Lists.{has}
 use Rattle.scope.specs.Objects.{objectsEnd, objectsOf}
 use Rattle.scope.specs.Views.{runningTask}
-use Rattle.scope.specs.Answers.{answer, plain, badState, wakesWith}
-use Rattle.scope.specs.Waiting.{FOREVER, isTimeOut, noneWoken}
-use Rattle.scope.specs.Ticks.{ticked, tick}
+use Rattle.scope.specs.Answers.{answer, plain, badState}
+use Rattle.scope.specs.Waiting.{FOREVER, isTimeOut}
+use Rattle.scope.specs.Ticks.{tick}
 use Rattle.scope.proofs.Times.{tick-takes-one, tick-leaves-forever}
 use Rattle.laws.proofs.Branches.{both, both-true, second-fails, true-false, true-or-false, picked-yes, picked-no}
 use Rattle.histories.specs.Sound.{Waits, Ready, Sound}
@@ -40,7 +40,7 @@ use Rattle.books.proofs.Agreeing.{turnOf, WaiterOf, Agrees, waiters-of,
 use Rattle.books.proofs.Claiming.{apart-slots, waits-room}
 use Rattle.books.proofs.Steps.{waiter-live}
 use Rattle.books.proofs.Telling.{event-steps}
-use Rattle.books.proofs.TimesLeft.{event-lasts, due-zeroed}
+use Rattle.books.proofs.TimesLeft.{event-lasts}
 
 -- a time_out of n, of which `left` is left after k ticks
 abbrev pub Runs : ℕ → ℕ → ℕ → Type 0

@@ -18,7 +18,7 @@ use Rattle.scope.specs.declared.Semaphores.{Semaphores}
 use Rattle.scope.specs.declared.Pools.{Pools}
 use Rattle.scope.specs.declared.Queues.{Queues}
 use Rattle.scope.specs.declared.Found.the-variants.{At}
-use Rattle.scope.specs.Statuses.{OK, PENDING, TIME-OUT}
+use Rattle.scope.specs.Statuses.{OK, PENDING}
 use Rattle.scope.specs.Identifiers.{identifier}
 use Rattle.scope.specs.Seats.{queueSeats, waitsOn, firstOf, leaves, becomesReady}
 use Rattle.scope.specs.Objects.{objectsEnd, queueObject, objectsOf}
@@ -46,14 +46,14 @@ use Rattle.histories.proofs.Deeds.{receiver-waits, delivered, queue-deleted, ti
 use Rattle.histories.proofs.Meaning.{sound-right}
 use Rattle.histories.proofs.Moves.{idle-nowhere, off-nowhere}
 use Rattle.histories.proofs.Semaphores.{runs-ready, sem-delete-at}
-use Rattle.histories.proofs.Staying.{Good, Fewer, stays-same, stays-then, leaves-stays, leaves-good, ready-stays, fewer-same, fewer-then, left-fewer, next-fewer}
-use Rattle.histories.proofs.Staying.{all-fewer, due-fewer, ticked-fewer}
+use Rattle.histories.proofs.Staying.{Good, Fewer, stays-same, stays-then, leaves-stays, leaves-good, ready-stays, fewer-same, left-fewer, next-fewer}
+use Rattle.histories.proofs.Staying.{all-fewer}
 use Rattle.histories.proofs.Queues.{queue-delete-at}
 use Rattle.histories.proofs.Turns.{no-waiters, no-receivers, good, task-room, slot-room, queue-room, readied-goes}
 use Rattle.histories.proofs.Ledger.{event-keeps}
 use Rattle.books.specs.Past.{Turn, isAnswer, pastFrom}
 use Rattle.books.specs.Waiting.{Kind, aSemaphore, aQueue, creation, deletion, waitCall, endsWait}
-use Rattle.books.proofs.Woken.{ready-others, Left, leaves-left, ready-left, none-woke, next-woke, all-woke, due-woke}
+use Rattle.books.proofs.Woken.{ready-others, Left, leaves-left, ready-left, none-woke, next-woke, all-woke}
 use Rattle.books.proofs.Agreeing.{turnOf, Waiters, Options, Agrees, waiters-of, object-room, is-answer, not-call, not-of, not-creates, not-done}
 use Rattle.books.proofs.Claiming.{waiters-more, waiters-same, claim-stays, claim-came, claim-new, claim-kept, claim-joined}
 use Rattle.books.proofs.Steps.{Steps, waiter-live, waiter-seen, ends-woken, SameKind, same-tables, otherKind, by-kinds, Spares, spared, Moves, moves-none}

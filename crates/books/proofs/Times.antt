@@ -24,7 +24,7 @@ use Rattle.scope.specs.Seats.{queueSeats, waitsOn}
 use Rattle.scope.specs.Objects.{objectsEnd}
 use Rattle.scope.specs.Answers.{wakesWith}
 use Rattle.scope.specs.Waiting.{FOREVER, wake, wakeNext, noneWoken}
-use Rattle.scope.specs.Ticks.{ticked, isDue, wakeDue, tick}
+use Rattle.scope.specs.Ticks.{isDue, wakeDue, tick}
 use Rattle.scope.specs.Replies.{wakesFrom, wakeList, replyOf}
 use Rattle.scope.specs.Fresh.{freshState}
 use Rattle.scope.proofs.Times.{tick-takes-one}
@@ -34,14 +34,14 @@ use Rattle.histories.specs.Sound.{Sound}
 use Rattle.histories.specs.History.{Event, answerTo, after}
 use Rattle.histories.specs.Order.{noArrivals, WaitsFor}
 use Rattle.histories.proofs.Fresh.{fresh-sound}
-use Rattle.histories.proofs.Staying.{Good, fewer-then, due-fewer, ticked-fewer}
+use Rattle.histories.proofs.Staying.{Good}
 use Rattle.histories.proofs.Ticks.{tick-sound}
 use Rattle.histories.proofs.Turns.{good}
 use Rattle.histories.proofs.Demand.{end-sound}
 use Rattle.books.specs.Past.{Turn, pastOf}
 use Rattle.books.specs.Waiting.{Kind, wakes, waitersFor}
 use Rattle.books.specs.Times.{timeOutOf, ticksSince, endsNext, wakesAs}
-use Rattle.books.proofs.Woken.{Left, wake-left, none-woke, due-woke}
+use Rattle.books.proofs.Woken.{Left, wake-left}
 use Rattle.books.specs.Told.{objectOf, taskId}
 use Rattle.books.proofs.Agreeing.{WaiterOf, waiters-of, object-room}
 use Rattle.books.proofs.Steps.{tick-moves}

@@ -24,7 +24,7 @@ use Rattle.scope.specs.Answers.{answer, plain, badState, shows, wakesWith, deli
 use Rattle.scope.specs.Waiting.{wake, wakeNext, wakeAll, noneWoken, waits}
 use Rattle.scope.specs.Semaphores.{semDeleteAt}
 use Rattle.scope.specs.Queues.{queueDeleteAt}
-use Rattle.scope.specs.Ticks.{isDue, wakeDue, tick}
+use Rattle.scope.specs.Ticks.{tick}
 use Rattle.laws.proofs.Branches.{true-false, eq-or-not}
 use Rattle.histories.specs.Sound.{Sound}
 use Rattle.histories.specs.History.{Event, answerTo}
@@ -65,16 +65,6 @@ all-zeroed k i (suc n) w = go (λ v. all-zeroed k i n v) (ltb u 32)
         → Zeroed (w .line .left) (elim b as (λ x. Waking) [ true ↦ wakeAll k i n (wakeNext k w u) | false ↦ w ] .line .left)
     go rec true = zeroed-then (w .line .left) (wakeNext k w u .line .left) (wakeAll k i n (wakeNext k w u) .line .left) (next-zeroed k w u) (rec (wakeNext k w u))
     go rec false = λ t. inl refl
-
-pub due-zeroed : (k : Tasks) (n t : ℕ) (w : Waking) → Zeroed (w .line .left) (wakeDue k n t w .line .left)
-unfolding wakeDue
-due-zeroed k zero t w = λ u. inl refl
-due-zeroed k (suc n) t w = go (λ v. due-zeroed k n (suc t) v) (isDue (w .line) t)
-  where
-    go : ((v : Waking) → Zeroed (v .line .left) (wakeDue k n (suc t) v .line .left)) → (b : Bool)
-        → Zeroed (w .line .left) (elim b as (λ x. Waking) [ true ↦ wakeDue k n (suc t) (wakeNext k w t) | false ↦ wakeDue k n (suc t) w ] .line .left)
-    go rec true = zeroed-then (w .line .left) (wakeNext k w t .line .left) (wakeDue k n (suc t) (wakeNext k w t) .line .left) (next-zeroed k w t) (rec (wakeNext k w t))
-    go rec false = rec w
 
 -- of task t's time_out is left what was, or nothing, or t is the caller and asked for it
 pub record Lasts (s : State) (x : Event) (a : Answer) : Type 0 where
