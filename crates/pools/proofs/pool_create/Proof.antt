@@ -1,30 +1,135 @@
--- `pools::pool_create`: its arguments are refused, or it is as `create_at` has it.
+-- `pools::pool_create`: its arguments are refused, or the slot found holds its next object, its buffers in ascending places.
 -- Assumes nothing.
-use borrow.Author.Needs.{needs}
-use Rattle.scope.specs.Answers.{plain}
-use Rattle.scope.specs.Pools.{poolCreate}
-use Rattle.answers.proofs.Outcomes.{plain-of}
-use Rattle.pools.proofs.Laws.{refused, admitted}
+use lib.Dec.{lit<}
+use borrow.Author.Needs.{needs, scaled-fits}
+use native.Mathlib.Omega.{arith}
+use mathlib.Core.Path.{refl}
+use Rattle.pools.proofs.Laws.{refuses, created}
 use Rattle.pools.proofs.pool_create.Statement.{statement}
 use Rattle.pools.proofs.pool_create.Tie as tie
+use Rattle.pools.proofs.pool_create.Reads as reads
+use Rattle.pools.proofs.pool_create.Lts as lts
+use Rattle.answers.proofs.gives.Reads as gives-reads
+use Rattle.answers.proofs.plain.Reads as plain-reads
+use Rattle.areas.proofs.buffers_of.Reads as buffers-of-reads
+use Rattle.places.proofs.new_row.Reads as new-row-reads
+use Rattle.places.proofs.put_row.Reads as put-row-reads
+use Rattle.pools.proofs.slot_for.Reads as slot-for-reads
+use Rattle.tables.proofs.identifier.Reads as identifier-reads
 
-refusal-requires : tie.Need-refusal-requires
-refusal-requires c κs = search needs
+slot-for-requires : tie.Need-slot-for-requires
+slot-for-requires c κs = tt
 
 plain-requires : tie.Need-plain-requires
-plain-requires c κs = search needs
+plain-requires c κs = tt
 
 returns : tie.Need-returns
-unfolding poolCreate
-returns c = λ s. refused _ _ _ (c .before .before .refusal .ensures) (plain _) _ (c .before .if1 .taken) (plain-of _ _ _ _ (c .plain .ensures))
+returns c = λ s. refuses _ _ (c .before .before .slot-for .ensures .0 _ _ refl refl refl refl) (c .before .if1 .taken) (c .plain .ensures)
 
-create-at-requires : tie.Need-create-at-requires
-create-at-requires c κs = search needs
+cast-i : tie.Need-cast-i
+cast-i c = search needs
+
+mul-next : tie.Need-mul-next
+mul-next c = scaled-fits _ 8 _ (c .if1 .left) (lit< tt)
+
+element-copy-out-next : tie.Need-element-copy-out-next
+element-copy-out-next c = c .if1 .left
+
+add-next : tie.Need-add-next
+add-next c = omega (arith, c .before .before .slot-for .ensures .1 (c .before .if1 .left))
+
+mul-out : tie.Need-mul-out
+mul-out c = scaled-fits _ 8 _ (c .before .if1 .left) (lit< tt)
+
+element-write-out : tie.Need-element-write-out
+element-write-out c = c .before .if1 .left
+
+mul-names : tie.Need-mul-names
+mul-names c = scaled-fits _ 8 _ (c .before .if1 .left) (lit< tt)
+
+element-write-names : tie.Need-element-write-names
+element-write-names c = c .before .if1 .left
+
+mul-addresses : tie.Need-mul-addresses
+mul-addresses c = scaled-fits _ 8 _ (c .before .if1 .left) (lit< tt)
+
+element-write-addresses : tie.Need-element-write-addresses
+element-write-addresses c = c .before .if1 .left
+
+mul-lengths : tie.Need-mul-lengths
+mul-lengths c = scaled-fits _ 8 _ (c .before .if1 .left) (lit< tt)
+
+element-write-lengths : tie.Need-element-write-lengths
+element-write-lengths c = c .before .if1 .left
+
+mul-sizes : tie.Need-mul-sizes
+mul-sizes c = scaled-fits _ 8 _ (c .before .if1 .left) (lit< tt)
+
+element-write-sizes : tie.Need-element-write-sizes
+element-write-sizes c = c .before .if1 .left
+
+mul-serial : tie.Need-mul-serial
+mul-serial c = scaled-fits _ 8 _ (c .before .if1 .left) (lit< tt)
+
+element-write-serial : tie.Need-element-write-serial
+element-write-serial c = c .before .if1 .left
+
+element-write-live : tie.Need-element-write-live
+element-write-live c = c .before .if1 .left
+
+element-write-forced : tie.Need-element-write-forced
+element-write-forced c = c .before .if1 .left
+
+buffers-of-requires : tie.Need-buffers-of-requires
+buffers-of-requires c κs = tt
+
+cast-new-row : tie.Need-cast-new-row
+cast-new-row c = search needs
+
+new-row-requires : tie.Need-new-row-requires
+new-row-requires c κs = tt
+
+put-row-requires : tie.Need-put-row-requires
+put-row-requires c κs = search needs
+
+identifier-requires : tie.Need-identifier-requires
+identifier-requires c κs = search needs
+
+gives-requires : tie.Need-gives-requires
+gives-requires c κs = tt
 
 returns-2 : tie.Need-returns-2
-unfolding poolCreate
-returns-2 c = λ s. admitted _ _ _ (c .before .before .before .before .before .before .before .before .before .before .before .refusal .ensures) (plain _) _ (c .before .before .before .before .before .before .before .before .before .before .if1 .left) (c .create-at .ensures s)
+returns-2 c = λ s. created _ _ _ _ _ _ (c .before .before .before .before .before .before .before .before .slot-for .ensures .0 _ _ refl refl refl refl) (c .before .before .before .before .before .before .before .if1 .left) (c .before .before .put-row .ensures) (c .before .before .before .before .new-row .ensures) (c .before .before .before .before .before .buffers-of .ensures) (c .before .identifier .ensures) (c .gives .ensures)
 
 pub pool-create-spec : {M : Type 1} → statement M
 pool-create-spec =
-    tie.close (tie.spec refusal-requires plain-requires returns create-at-requires returns-2)
+    tie.close
+    (tie.spec
+    slot-for-requires
+    plain-requires
+    returns
+    cast-i
+    mul-next
+    element-copy-out-next
+    add-next
+    mul-out
+    element-write-out
+    mul-names
+    element-write-names
+    mul-addresses
+    element-write-addresses
+    mul-lengths
+    element-write-lengths
+    mul-sizes
+    element-write-sizes
+    mul-serial
+    element-write-serial
+    element-write-live
+    element-write-forced
+    buffers-of-requires
+    cast-new-row
+    new-row-requires
+    put-row-requires
+    identifier-requires
+    gives-requires
+    returns-2)

@@ -1,56 +1,119 @@
--- `pools::pool_delete`: what the identifier names, or its refusal.
+-- `pools::pool_delete`: a pool with buffers out is refused without FORCED_DELETE; else its slot is emptied but for the serial.
 -- Assumes nothing.
-use mathlib.Core.Path.{_≡_}
-use lib.ListN.{length}
+use lib.Dec.{lit<}
+use borrow.Author.Needs.{needs, scaled-fits}
+use mathlib.Core.Logic.{⊎-elim}
+use mathlib.Core.Bool.{false, not}
+use lib.ListN.{getD}
 use denote.Ref.{now}
-use borrow.Author.Needs.{needs}
-use Rattle.answers.proofs.Named.{on-at, on-deleted, on-invalid}
-use Rattle.answers.proofs.Outcomes.{plain-of}
-use Rattle.tables.proofs.Laws.{named-below}
+use borrow.Author.Tests.{le-ltb}
+use Rattle.laws.proofs.Branches.{first-fails, second-fails}
+use Rattle.pools.proofs.Laws.{refuses, allows, in-use, deleted}
 use Rattle.pools.proofs.pool_delete.Statement.{statement}
 use Rattle.pools.proofs.pool_delete.Tie as tie
+use Rattle.pools.proofs.pool_delete.Reads as reads
+use Rattle.pools.proofs.pool_delete.Lts as lts
+use Rattle.answers.proofs.plain.Reads as plain-reads
+use Rattle.places.proofs.put_row.Reads as put-row-reads
+use Rattle.pools.proofs.slot.Reads as slot-reads
 
-find-requires : tie.Need-find-requires
-find-requires c κs = search needs
-
-enum-known-i : tie.Need-enum-known-i
-enum-known-i c = search needs
-
-delete-at-requires : tie.Need-delete-at-requires
-delete-at-requires c κs = let n : length (now (c .before .before .before .before .before .before .before .before .before .before .before .before .before .before .before .args .serial)) ≡ 8 = search needs in named-below 8 _ _ n (c .before .before .before .before .before .before .before .before .before .before .before .before .before .before .before .args .id) (c .before .before .before .before .before .before .before .before .before .before .before .find .ensures) (c .before .before .before .before .before .before .before .before .before .i .given .1)
-
-enum-told : tie.Need-enum-told
-enum-told c = search needs
+slot-requires : tie.Need-slot-requires
+slot-requires c κs = tt
 
 plain-requires : tie.Need-plain-requires
-plain-requires c κs = search needs
-
-enum-told-2 : tie.Need-enum-told-2
-enum-told-2 c = search needs
-
-plain-requires-2 : tie.Need-plain-requires-2
-plain-requires-2 c κs = search needs
+plain-requires c κs = tt
 
 returns : tie.Need-returns
-returns c = λ s. on-at _ _ _ _ (c .before .before .before .before .before .before .before .before .before .before .before .before .find .ensures) (c .before .before .before .before .before .before .before .before .before .before .i .given .1) (c .delete-at .ensures s _)
+returns c = λ s. refuses _ _ (c .before .before .slot .ensures _ _) (c .before .if1 .taken) (c .plain .ensures)
+
+cast-i : tie.Need-cast-i
+cast-i c = search needs
+
+element-copy-out-if2 : tie.Need-element-copy-out-if2
+element-copy-out-if2 c = c .if1 .left
+
+mul-if3 : tie.Need-mul-if3
+mul-if3 c = scaled-fits _ 8 _ (c .before .before .if1 .left) (lit< tt)
+
+element-copy-out-if3 : tie.Need-element-copy-out-if3
+element-copy-out-if3 c = c .before .before .if1 .left
+
+plain-requires-2 : tie.Need-plain-requires-2
+plain-requires-2 c κs = tt
 
 returns-2 : tie.Need-returns-2
-returns-2 c = λ s. on-deleted _ _ _ _ (c .before .before .before .find .ensures) (c .before .enum-told .given .1) (plain-of _ _ _ _ (c .plain .ensures))
+returns-2 c = λ s. allows _ _ (c .before .before .before .before .before .before .slot .ensures _ _) (c .before .before .before .before .before .if1 .left) (in-use _ _ (c .before .before .before .if2 .taken) (c .before .if3 .taken) (c .plain2 .ensures))
+
+mul-out : tie.Need-mul-out
+mul-out c = scaled-fits _ 8 _ (c .before .before .if1 .left) (lit< tt)
+
+element-write-out : tie.Need-element-write-out
+element-write-out c = c .before .before .if1 .left
+
+mul-name : tie.Need-mul-name
+mul-name c = scaled-fits _ 8 _ (c .before .before .if1 .left) (lit< tt)
+
+element-write-name : tie.Need-element-write-name
+element-write-name c = c .before .before .if1 .left
+
+mul-address : tie.Need-mul-address
+mul-address c = scaled-fits _ 8 _ (c .before .before .if1 .left) (lit< tt)
+
+element-write-address : tie.Need-element-write-address
+element-write-address c = c .before .before .if1 .left
+
+mul-length : tie.Need-mul-length
+mul-length c = scaled-fits _ 8 _ (c .before .before .if1 .left) (lit< tt)
+
+element-write-length : tie.Need-element-write-length
+element-write-length c = c .before .before .if1 .left
+
+mul-size : tie.Need-mul-size
+mul-size c = scaled-fits _ 8 _ (c .before .before .if1 .left) (lit< tt)
+
+element-write-size : tie.Need-element-write-size
+element-write-size c = c .before .before .if1 .left
+
+element-write-live : tie.Need-element-write-live
+element-write-live c = c .before .before .if1 .left
+
+element-write-forced : tie.Need-element-write-forced
+element-write-forced c = c .before .before .if1 .left
+
+put-row-requires : tie.Need-put-row-requires
+put-row-requires c κs = search needs
+
+plain-requires-3 : tie.Need-plain-requires-3
+plain-requires-3 c κs = tt
 
 returns-3 : tie.Need-returns-3
-returns-3 c = λ s. on-invalid _ _ _ _ (c .before .before .before .find .ensures) (c .before .enum-told2 .given .1) (plain-of _ _ _ _ (c .plain2 .ensures))
+returns-3 c = λ s. allows _ _ (c .before .before .before .before .before .before .slot .ensures _ _) (c .before .before .before .before .before .if1 .left) (deleted _ _ (⊎-elim (λ j. second-fails (not (getD (now (c .before .before .before .before .before .before .before .before .args .forced)) (c .before .before .before .before .before .before .slot .result) false)) _ (le-ltb _ _ (j .2 .left))) (λ e. first-fails _ _ (e .left)) (c .before .before .before .if2 .came)) (c .before .put-row .ensures) (c .plain3 .ensures))
 
 pub pool-delete-spec : {M : Type 1} → statement M
 pool-delete-spec =
     tie.close
     (tie.spec
-    find-requires
-    enum-known-i
-    delete-at-requires
-    enum-told
+    slot-requires
     plain-requires
-    enum-told-2
-    plain-requires-2
     returns
+    cast-i
+    element-copy-out-if2
+    mul-if3
+    element-copy-out-if3
+    plain-requires-2
     returns-2
+    mul-out
+    element-write-out
+    mul-name
+    element-write-name
+    mul-address
+    element-write-address
+    mul-length
+    element-write-length
+    mul-size
+    element-write-size
+    element-write-live
+    element-write-forced
+    put-row-requires
+    plain-requires-3
     returns-3)

@@ -1,56 +1,137 @@
--- `pools::pool_get_buff`: what the identifier names, or its refusal.
+-- `pools::pool_get_buff`: no buffer is free, or the first of their order goes out, the others come forward, and its address is given.
 -- Assumes nothing.
-use mathlib.Core.Path.{_≡_}
-use lib.ListN.{length}
-use denote.Ref.{now}
-use borrow.Author.Needs.{needs}
-use Rattle.answers.proofs.Named.{on-at, on-deleted, on-invalid}
-use Rattle.answers.proofs.Outcomes.{plain-of}
-use Rattle.tables.proofs.Laws.{named-below}
+use lib.Dec.{lit<}
+use borrow.Author.Needs.{needs, scaled-fits}
+use Rattle.pools.proofs.Laws.{marked, passes, refuses, allows, none-free, goes-out}
 use Rattle.pools.proofs.pool_get_buff.Statement.{statement}
 use Rattle.pools.proofs.pool_get_buff.Tie as tie
+use Rattle.pools.proofs.pool_get_buff.Reads as reads
+use Rattle.pools.proofs.pool_get_buff.Lts as lts
+use Rattle.answers.proofs.gives.Reads as gives-reads
+use Rattle.answers.proofs.plain.Reads as plain-reads
+use Rattle.areas.proofs.buffer_address.Reads as buffer-address-reads
+use Rattle.areas.proofs.buffers_of.Reads as buffers-of-reads
+use Rattle.areas.proofs.take.Reads as take-reads
+use Rattle.places.proofs.first_leaves.Reads as first-leaves-reads
+use Rattle.places.proofs.longest_free.Reads as longest-free-reads
+use Rattle.places.proofs.put_row.Reads as put-row-reads
+use Rattle.places.proofs.row_of.Reads as row-of-reads
+use Rattle.pools.proofs.is_free.Reads as is-free-reads
+use Rattle.pools.proofs.slot.Reads as slot-reads
 
-find-requires : tie.Need-find-requires
-find-requires c κs = search needs
-
-enum-known-i : tie.Need-enum-known-i
-enum-known-i c = search needs
-
-get-at-requires : tie.Need-get-at-requires
-get-at-requires c κs = let n : length (now (c .before .before .before .before .before .before .before .before .args .serial)) ≡ 8 = search needs in named-below 8 _ _ n (c .before .before .before .before .before .before .before .before .args .id) (c .before .before .before .before .before .find .ensures) (c .before .before .before .i .given .1)
-
-enum-told : tie.Need-enum-told
-enum-told c = search needs
+slot-requires : tie.Need-slot-requires
+slot-requires c κs = tt
 
 plain-requires : tie.Need-plain-requires
-plain-requires c κs = search needs
-
-enum-told-2 : tie.Need-enum-told-2
-enum-told-2 c = search needs
-
-plain-requires-2 : tie.Need-plain-requires-2
-plain-requires-2 c κs = search needs
+plain-requires c κs = tt
 
 returns : tie.Need-returns
-returns c = λ s. on-at _ _ _ _ (c .before .before .before .before .before .before .find .ensures) (c .before .before .before .before .i .given .1) (c .get-at .ensures s _ _)
+returns c = λ s. refuses _ _ (c .before .before .slot .ensures _ _) (c .before .if1 .taken) (c .plain .ensures)
+
+cast-i : tie.Need-cast-i
+cast-i c = search needs
+
+mul-buffers-of : tie.Need-mul-buffers-of
+mul-buffers-of c = scaled-fits _ 8 _ (c .if1 .left) (lit< tt)
+
+element-copy-out-buffers-of : tie.Need-element-copy-out-buffers-of
+element-copy-out-buffers-of c = c .if1 .left
+
+mul-buffers-of-2 : tie.Need-mul-buffers-of-2
+mul-buffers-of-2 c = scaled-fits _ 8 _ (c .before .if1 .left) (lit< tt)
+
+element-copy-out-buffers-of-2 : tie.Need-element-copy-out-buffers-of-2
+element-copy-out-buffers-of-2 c = c .before .if1 .left
+
+buffers-of-requires : tie.Need-buffers-of-requires
+buffers-of-requires c κs = tt
+
+mul-marks : tie.Need-mul-marks
+mul-marks c = scaled-fits _ 8 _ (c .before .before .before .if1 .left) (lit< tt)
+
+element-copy-out-marks : tie.Need-element-copy-out-marks
+element-copy-out-marks c = c .before .before .before .if1 .left
+
+row-of-requires : tie.Need-row-of-requires
+row-of-requires c κs = search needs
+
+longest-free-requires : tie.Need-longest-free-requires
+longest-free-requires c κs = tt
+
+is-free-requires : tie.Need-is-free-requires
+is-free-requires c κs = marked _ _ (c .before .before .before .before .before .buffers-of .ensures)
+
+plain-requires-2 : tie.Need-plain-requires-2
+plain-requires-2 c κs = tt
 
 returns-2 : tie.Need-returns-2
-returns-2 c = λ s. on-deleted _ _ _ _ (c .before .before .before .find .ensures) (c .before .enum-told .given .1) (plain-of _ _ _ _ (c .plain .ensures))
+returns-2 c = λ s. allows _ _ (c .before .before .before .before .before .before .before .before .before .before .before .before .slot .ensures _ _) (c .before .before .before .before .before .before .before .before .before .before .before .if1 .left) (none-free _ _ (c .before .before .before .before .before .before .before .before .buffers-of .ensures) (c .before .before .before .before .row-of .ensures) (c .before .before .before .longest-free .ensures) (c .before .before .is-free .ensures) (c .before .if2 .taken) (c .plain2 .ensures))
+
+mul-buffer-address : tie.Need-mul-buffer-address
+mul-buffer-address c = scaled-fits _ 8 _ (c .before .before .before .before .before .before .before .before .before .before .if1 .left) (lit< tt)
+
+element-copy-out-buffer-address : tie.Need-element-copy-out-buffer-address
+element-copy-out-buffer-address c = c .before .before .before .before .before .before .before .before .before .before .if1 .left
+
+mul-buffer-address-2 : tie.Need-mul-buffer-address-2
+mul-buffer-address-2 c = scaled-fits _ 8 _ (c .before .before .before .before .before .before .before .before .before .before .before .if1 .left) (lit< tt)
+
+element-copy-out-buffer-address-2 : tie.Need-element-copy-out-buffer-address-2
+element-copy-out-buffer-address-2 c = c .before .before .before .before .before .before .before .before .before .before .before .if1 .left
+
+buffer-address-requires : tie.Need-buffer-address-requires
+buffer-address-requires c κs = (passes _ _ _ (c .before .before .before .is-free .ensures) (c .before .before .if2 .left) (marked _ _ (c .before .before .before .before .before .before .before .before .before .buffers-of .ensures))) .0
+
+take-requires : tie.Need-take-requires
+take-requires c κs = passes _ _ _ (c .before .before .before .before .is-free .ensures) (c .before .before .before .if2 .left) (marked _ _ (c .before .before .before .before .before .before .before .before .before .before .buffers-of .ensures))
+
+mul-out : tie.Need-mul-out
+mul-out c = scaled-fits _ 8 _ (c .before .before .before .before .before .before .before .before .before .before .before .before .before .before .if1 .left) (lit< tt)
+
+element-write-out : tie.Need-element-write-out
+element-write-out c = c .before .before .before .before .before .before .before .before .before .before .before .before .before .before .if1 .left
+
+first-leaves-requires : tie.Need-first-leaves-requires
+first-leaves-requires c κs = tt
+
+put-row-requires : tie.Need-put-row-requires
+put-row-requires c κs = search needs
+
+gives-requires : tie.Need-gives-requires
+gives-requires c κs = tt
 
 returns-3 : tie.Need-returns-3
-returns-3 c = λ s. on-invalid _ _ _ _ (c .before .before .before .find .ensures) (c .before .enum-told2 .given .1) (plain-of _ _ _ _ (c .plain2 .ensures))
+returns-3 c = λ s. allows _ _ (c .before .before .before .before .before .before .before .before .before .before .before .before .before .before .before .before .before .before .before .slot .ensures _ _) (c .before .before .before .before .before .before .before .before .before .before .before .before .before .before .before .before .before .before .if1 .left) (goes-out _ _ (c .before .before .before .before .before .before .before .before .before .before .before .before .before .before .before .buffers-of .ensures) (c .before .before .before .before .before .before .before .before .before .before .before .row-of .ensures) (c .before .before .before .before .before .before .before .before .before .before .longest-free .ensures) (c .before .before .before .before .before .before .before .before .before .is-free .ensures) (c .before .before .before .before .before .before .before .before .if2 .left) (c .before .before .before .before .before .buffer-address .ensures) (c .before .before .before .before .take .ensures) (c .before .before .first-leaves .ensures) (c .before .put-row .ensures) (c .gives .ensures))
 
 pub pool-get-buff-spec : {M : Type 1} → statement M
 pool-get-buff-spec =
     tie.close
     (tie.spec
-    find-requires
-    enum-known-i
-    get-at-requires
-    enum-told
+    slot-requires
     plain-requires
-    enum-told-2
-    plain-requires-2
     returns
+    cast-i
+    mul-buffers-of
+    element-copy-out-buffers-of
+    mul-buffers-of-2
+    element-copy-out-buffers-of-2
+    buffers-of-requires
+    mul-marks
+    element-copy-out-marks
+    row-of-requires
+    longest-free-requires
+    is-free-requires
+    plain-requires-2
     returns-2
+    mul-buffer-address
+    element-copy-out-buffer-address
+    mul-buffer-address-2
+    element-copy-out-buffer-address-2
+    buffer-address-requires
+    take-requires
+    mul-out
+    element-write-out
+    first-leaves-requires
+    put-row-requires
+    gives-requires
     returns-3)

@@ -1,56 +1,92 @@
--- `pools::pool_info`: what the identifier names, or its refusal.
+-- `pools::pool_info`: what the identifier names, or its refusal; the four values are read off the slot.
 -- Assumes nothing.
-use mathlib.Core.Path.{_≡_}
-use lib.ListN.{length}
-use denote.Ref.{now}
-use borrow.Author.Needs.{needs}
-use Rattle.answers.proofs.Named.{on-at, on-deleted, on-invalid}
-use Rattle.answers.proofs.Outcomes.{plain-of}
-use Rattle.tables.proofs.Laws.{named-below}
+use lib.Dec.{lit<}
+use borrow.Author.Needs.{needs, scaled-fits}
+use Rattle.pools.proofs.Laws.{marked, refuses, allows, informs}
 use Rattle.pools.proofs.pool_info.Statement.{statement}
 use Rattle.pools.proofs.pool_info.Tie as tie
+use Rattle.pools.proofs.pool_info.Reads as reads
+use Rattle.pools.proofs.pool_info.Lts as lts
+use Rattle.answers.proofs.bit.Reads as bit-reads
+use Rattle.answers.proofs.plain.Reads as plain-reads
+use Rattle.answers.proofs.tells.Reads as tells-reads
+use Rattle.areas.proofs.buffers_of.Reads as buffers-of-reads
+use Rattle.areas.proofs.free_of.Reads as free-of-reads
+use Rattle.pools.proofs.slot.Reads as slot-reads
 
-find-requires : tie.Need-find-requires
-find-requires c κs = search needs
-
-enum-known-i : tie.Need-enum-known-i
-enum-known-i c = search needs
-
-info-at-requires : tie.Need-info-at-requires
-info-at-requires c κs = let n : length (now (c .before .before .before .before .before .before .args .serial)) ≡ 8 = search needs in named-below 8 _ _ n (c .before .before .before .before .before .before .args .id) (c .before .before .before .find .ensures) (c .before .i .given .1)
-
-enum-told : tie.Need-enum-told
-enum-told c = search needs
+slot-requires : tie.Need-slot-requires
+slot-requires c κs = tt
 
 plain-requires : tie.Need-plain-requires
-plain-requires c κs = search needs
-
-enum-told-2 : tie.Need-enum-told-2
-enum-told-2 c = search needs
-
-plain-requires-2 : tie.Need-plain-requires-2
-plain-requires-2 c κs = search needs
+plain-requires c κs = tt
 
 returns : tie.Need-returns
-returns c = λ s. on-at _ _ _ _ (c .before .before .before .before .find .ensures) (c .before .before .i .given .1) (c .info-at .ensures s _ _)
+returns c = λ s. refuses _ _ (c .before .before .slot .ensures _ _) (c .before .if1 .taken) (c .plain .ensures)
+
+cast-i : tie.Need-cast-i
+cast-i c = search needs
+
+mul-buffers-of : tie.Need-mul-buffers-of
+mul-buffers-of c = scaled-fits _ 8 _ (c .if1 .left) (lit< tt)
+
+element-copy-out-buffers-of : tie.Need-element-copy-out-buffers-of
+element-copy-out-buffers-of c = c .if1 .left
+
+mul-buffers-of-2 : tie.Need-mul-buffers-of-2
+mul-buffers-of-2 c = scaled-fits _ 8 _ (c .before .if1 .left) (lit< tt)
+
+element-copy-out-buffers-of-2 : tie.Need-element-copy-out-buffers-of-2
+element-copy-out-buffers-of-2 c = c .before .if1 .left
+
+buffers-of-requires : tie.Need-buffers-of-requires
+buffers-of-requires c κs = tt
+
+mul-free-of : tie.Need-mul-free-of
+mul-free-of c = scaled-fits _ 8 _ (c .before .before .before .if1 .left) (lit< tt)
+
+element-copy-out-free-of : tie.Need-element-copy-out-free-of
+element-copy-out-free-of c = c .before .before .before .if1 .left
+
+free-of-requires : tie.Need-free-of-requires
+free-of-requires c κs = marked _ _ (c .before .buffers-of .ensures)
+
+mul-tells : tie.Need-mul-tells
+mul-tells c = scaled-fits _ 8 _ (c .before .before .before .before .before .if1 .left) (lit< tt)
+
+element-copy-out-tells : tie.Need-element-copy-out-tells
+element-copy-out-tells c = c .before .before .before .before .before .if1 .left
+
+element-copy-out-bit : tie.Need-element-copy-out-bit
+element-copy-out-bit c = c .before .before .before .before .before .before .if1 .left
+
+bit-requires : tie.Need-bit-requires
+bit-requires c κs = tt
+
+tells-requires : tie.Need-tells-requires
+tells-requires c κs = tt
 
 returns-2 : tie.Need-returns-2
-returns-2 c = λ s. on-deleted _ _ _ _ (c .before .before .before .find .ensures) (c .before .enum-told .given .1) (plain-of _ _ _ _ (c .plain .ensures))
-
-returns-3 : tie.Need-returns-3
-returns-3 c = λ s. on-invalid _ _ _ _ (c .before .before .before .find .ensures) (c .before .enum-told2 .given .1) (plain-of _ _ _ _ (c .plain2 .ensures))
+returns-2 c = λ s. allows _ _ (c .before .before .before .before .before .before .before .before .before .before .slot .ensures _ _) (c .before .before .before .before .before .before .before .before .before .if1 .left) (informs _ _ (c .before .before .before .before .before .before .buffers-of .ensures) (c .before .before .before .before .free-of .ensures) (c .before .bit .ensures) (c .tells .ensures))
 
 pub pool-info-spec : {M : Type 1} → statement M
 pool-info-spec =
     tie.close
     (tie.spec
-    find-requires
-    enum-known-i
-    info-at-requires
-    enum-told
+    slot-requires
     plain-requires
-    enum-told-2
-    plain-requires-2
     returns
-    returns-2
-    returns-3)
+    cast-i
+    mul-buffers-of
+    element-copy-out-buffers-of
+    mul-buffers-of-2
+    element-copy-out-buffers-of-2
+    buffers-of-requires
+    mul-free-of
+    element-copy-out-free-of
+    free-of-requires
+    mul-tells
+    element-copy-out-tells
+    element-copy-out-bit
+    bit-requires
+    tells-requires
+    returns-2)

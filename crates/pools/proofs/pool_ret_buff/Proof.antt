@@ -1,56 +1,131 @@
--- `pools::pool_ret_buff`: what the identifier names, or its refusal.
+-- `pools::pool_ret_buff`: the buffer that starts at the address, where it is one and is out, is free again, behind all others that are.
 -- Assumes nothing.
-use mathlib.Core.Path.{_≡_}
-use lib.ListN.{length}
-use denote.Ref.{now}
-use borrow.Author.Needs.{needs}
-use Rattle.answers.proofs.Named.{on-at, on-deleted, on-invalid}
-use Rattle.answers.proofs.Outcomes.{plain-of}
-use Rattle.tables.proofs.Laws.{named-below}
+use lib.Dec.{lit<, lit≤}
+use borrow.Author.Needs.{needs, scaled-fits}
+use Rattle.places.proofs.Gathering.{free-few}
+use Rattle.pools.proofs.Laws.{marked, passes, refuses, allows, none-out, comes-back}
 use Rattle.pools.proofs.pool_ret_buff.Statement.{statement}
 use Rattle.pools.proofs.pool_ret_buff.Tie as tie
+use Rattle.pools.proofs.pool_ret_buff.Reads as reads
+use Rattle.pools.proofs.pool_ret_buff.Lts as lts
+use Rattle.answers.proofs.plain.Reads as plain-reads
+use Rattle.areas.proofs.buffer_at.Reads as buffer-at-reads
+use Rattle.areas.proofs.buffers_of.Reads as buffers-of-reads
+use Rattle.areas.proofs.free_of.Reads as free-of-reads
+use Rattle.areas.proofs.give_back.Reads as give-back-reads
+use Rattle.places.proofs.join_last.Reads as join-last-reads
+use Rattle.pools.proofs.is_out.Reads as is-out-reads
+use Rattle.pools.proofs.slot.Reads as slot-reads
 
-find-requires : tie.Need-find-requires
-find-requires c κs = search needs
-
-enum-known-i : tie.Need-enum-known-i
-enum-known-i c = search needs
-
-ret-at-requires : tie.Need-ret-at-requires
-ret-at-requires c κs = let n : length (now (c .before .before .before .before .before .before .before .before .args .serial)) ≡ 8 = search needs in named-below 8 _ _ n (c .before .before .before .before .before .before .before .before .args .id) (c .before .before .before .before .before .find .ensures) (c .before .before .before .i .given .1)
-
-enum-told : tie.Need-enum-told
-enum-told c = search needs
+slot-requires : tie.Need-slot-requires
+slot-requires c κs = tt
 
 plain-requires : tie.Need-plain-requires
-plain-requires c κs = search needs
-
-enum-told-2 : tie.Need-enum-told-2
-enum-told-2 c = search needs
-
-plain-requires-2 : tie.Need-plain-requires-2
-plain-requires-2 c κs = search needs
+plain-requires c κs = tt
 
 returns : tie.Need-returns
-returns c = λ s. on-at _ _ _ _ (c .before .before .before .before .before .before .find .ensures) (c .before .before .before .before .i .given .1) (c .ret-at .ensures s _ _)
+returns c = λ s. refuses _ _ (c .before .before .slot .ensures _ _) (c .before .if1 .taken) (c .plain .ensures)
+
+cast-i : tie.Need-cast-i
+cast-i c = search needs
+
+mul-buffers-of : tie.Need-mul-buffers-of
+mul-buffers-of c = scaled-fits _ 8 _ (c .if1 .left) (lit< tt)
+
+element-copy-out-buffers-of : tie.Need-element-copy-out-buffers-of
+element-copy-out-buffers-of c = c .if1 .left
+
+mul-buffers-of-2 : tie.Need-mul-buffers-of-2
+mul-buffers-of-2 c = scaled-fits _ 8 _ (c .before .if1 .left) (lit< tt)
+
+element-copy-out-buffers-of-2 : tie.Need-element-copy-out-buffers-of-2
+element-copy-out-buffers-of-2 c = c .before .if1 .left
+
+buffers-of-requires : tie.Need-buffers-of-requires
+buffers-of-requires c κs = tt
+
+mul-marks : tie.Need-mul-marks
+mul-marks c = scaled-fits _ 8 _ (c .before .before .before .if1 .left) (lit< tt)
+
+element-copy-out-marks : tie.Need-element-copy-out-marks
+element-copy-out-marks c = c .before .before .before .if1 .left
+
+mul-buffer-at : tie.Need-mul-buffer-at
+mul-buffer-at c = scaled-fits _ 8 _ (c .before .before .before .before .if1 .left) (lit< tt)
+
+element-copy-out-buffer-at : tie.Need-element-copy-out-buffer-at
+element-copy-out-buffer-at c = c .before .before .before .before .if1 .left
+
+mul-buffer-at-2 : tie.Need-mul-buffer-at-2
+mul-buffer-at-2 c = scaled-fits _ 8 _ (c .before .before .before .before .before .if1 .left) (lit< tt)
+
+element-copy-out-buffer-at-2 : tie.Need-element-copy-out-buffer-at-2
+element-copy-out-buffer-at-2 c = c .before .before .before .before .before .if1 .left
+
+buffer-at-requires : tie.Need-buffer-at-requires
+buffer-at-requires c κs = tt
+
+is-out-requires : tie.Need-is-out-requires
+is-out-requires c κs = tt
+
+plain-requires-2 : tie.Need-plain-requires-2
+plain-requires-2 c κs = tt
 
 returns-2 : tie.Need-returns-2
-returns-2 c = λ s. on-deleted _ _ _ _ (c .before .before .before .find .ensures) (c .before .enum-told .given .1) (plain-of _ _ _ _ (c .plain .ensures))
+returns-2 c = λ s. allows _ _ (c .before .before .before .before .before .before .before .before .before .before .before .slot .ensures _ _) (c .before .before .before .before .before .before .before .before .before .before .if1 .left) (none-out _ _ _ (c .before .before .before .before .before .before .before .buffers-of .ensures) (c .before .before .before .buffer-at .ensures) (c .before .before .is-out .ensures) (c .before .if2 .taken) (c .plain2 .ensures))
+
+free-of-requires : tie.Need-free-of-requires
+free-of-requires c κs = marked _ _ (c .before .before .before .before .before .before .buffers-of .ensures)
+
+give-back-requires : tie.Need-give-back-requires
+give-back-requires c κs = passes _ 64 _ (c .before .before .is-out .ensures) (c .before .if2 .left) (lit≤ tt)
+
+mul-out : tie.Need-mul-out
+mul-out c = scaled-fits _ 8 _ (c .before .before .before .before .before .before .before .before .before .before .before .if1 .left) (lit< tt)
+
+element-write-out : tie.Need-element-write-out
+element-write-out c = c .before .before .before .before .before .before .before .before .before .before .before .if1 .left
+
+cast-join-last : tie.Need-cast-join-last
+cast-join-last c = search needs
+
+join-last-requires : tie.Need-join-last-requires
+join-last-requires c κs = (search needs, free-few _ _ (c .before .before .free-of .ensures) (marked _ _ (c .before .before .before .before .before .before .before .before .before .buffers-of .ensures)), (passes _ 64 _ (c .before .before .before .before .is-out .ensures) (c .before .before .before .if2 .left) (lit≤ tt)) .0)
+
+plain-requires-3 : tie.Need-plain-requires-3
+plain-requires-3 c κs = tt
 
 returns-3 : tie.Need-returns-3
-returns-3 c = λ s. on-invalid _ _ _ _ (c .before .before .before .find .ensures) (c .before .enum-told2 .given .1) (plain-of _ _ _ _ (c .plain2 .ensures))
+returns-3 c = λ s. allows _ _ (c .before .before .before .before .before .before .before .before .before .before .before .before .before .before .before .slot .ensures _ _) (c .before .before .before .before .before .before .before .before .before .before .before .before .before .before .if1 .left) (comes-back _ _ _ (c .before .before .before .before .before .before .before .before .before .before .before .buffers-of .ensures) (c .before .before .before .before .before .before .before .buffer-at .ensures) (c .before .before .before .before .before .before .is-out .ensures) (c .before .before .before .before .before .if2 .left) (c .before .before .before .before .free-of .ensures) (c .before .before .before .give-back .ensures) (c .before .join-last .ensures) (c .plain3 .ensures))
 
 pub pool-ret-buff-spec : {M : Type 1} → statement M
 pool-ret-buff-spec =
     tie.close
     (tie.spec
-    find-requires
-    enum-known-i
-    ret-at-requires
-    enum-told
+    slot-requires
     plain-requires
-    enum-told-2
-    plain-requires-2
     returns
+    cast-i
+    mul-buffers-of
+    element-copy-out-buffers-of
+    mul-buffers-of-2
+    element-copy-out-buffers-of-2
+    buffers-of-requires
+    mul-marks
+    element-copy-out-marks
+    mul-buffer-at
+    element-copy-out-buffer-at
+    mul-buffer-at-2
+    element-copy-out-buffer-at-2
+    buffer-at-requires
+    is-out-requires
+    plain-requires-2
     returns-2
+    free-of-requires
+    give-back-requires
+    mul-out
+    element-write-out
+    cast-join-last
+    join-last-requires
+    plain-requires-3
     returns-3)
