@@ -4,67 +4,36 @@
 use answers::Outcome;
 use scope::Found;
 ghost use mathlib.Core.Path.{_≡_};
-ghost use mathlib.Core.Bool.{Bool};
-ghost use mathlib.Core.List.{List};
-ghost use Prim.Native.Nat.{ℕ, _<_};
-ghost use lib.ListN.{getD, length};
+ghost use Prim.Native.Nat.{ℕ, _-_};
+ghost use lib.Dec.{leb};
 ghost use Rattle.scope.specs.declared.State.{State};
-ghost use Rattle.scope.specs.declared.Line.{Line};
-ghost use Rattle.scope.specs.Answers.{noWakes};
+ghost use Rattle.scope.specs.declared.Answer.{Answer};
+ghost use Rattle.scope.specs.Choice.{pick};
+ghost use Rattle.scope.specs.Answers.{noWakes, plain, onFound};
 ghost use Rattle.scope.specs.Views.{readyWith};
-ghost use Rattle.scope.specs.Tasks.{taskFound, taskCreateAt, taskCreate, taskDeleteAt, taskDelete, taskIdent, taskStartAt, taskStart, taskSuspendAt};
-ghost use Rattle.scope.specs.Tasks.{taskSuspend, taskResumeAt, taskResume, taskSetPriorityAt, taskSetPriority};
+ghost use Rattle.scope.specs.Tasks.{taskFound, taskCreate, taskDelete, taskIdent, taskStart, taskSuspend, taskResume, taskSetPriority};
 ghost use Rattle.answers.specs.Outcomes.{answerOf};
-ghost use Rattle.answers.specs.Columns.{tasksOf, stateOf, lentTasks};
+ghost use Rattle.answers.specs.Columns.{lentTasks};
 
 // "16 priorities (0 to 15, 15 most urgent)"
 const LAST_PRIORITY: u32 = 15;
 
-// What a task's identifier names, and that it has a place in the table; 0 is SELF, the caller.
-fn find<'a>(serial: &'a [u16; 32], live: &'a [bool; 32], running: usize, id: u32) -> Found
-    ensures names { λ r. ⌜ ((s : State) (l : Line) (name priority : List ℕ) (started suspended : List Bool) → r
-        ≡ taskFound (stateOf l (tasksOf name (now (serial .entry))
-        (now (live .entry)) started suspended priority) (s .semaphores) (s .pools) (s .queues) running) id) ⌝ }
-    ensures inside { λ r. ⌜ ((t : ℕ) → r ≡ Found.At t → t < 32) ⌝ }
+// The slot of the task that the identifier names; where it names none, 32 and the refusal's status. 0 is SELF, the caller.
+fn slot<'a>(serial: &'a [u16; 32], live: &'a [bool; 32], running: usize, id: u32) -> u32
+    ensures { λ r. ⌜ ((s : State) (f : ℕ → Answer) → s .tasks .serial ≡ now (serial .entry) → s .tasks .live ≡ now (live .entry) → s .running ≡ running
+        → onFound (taskFound s id) s f ≡ pick (leb 32 r) (plain s (r - 32)) (f r)) ⌝ }
 {
     if id == 0 {
         if running < 32 {
-            return Found::At(running);
+            return running as u32;
         }
-        return Found::Invalid;
+        return 32 + scope::INVALID_ID;
     }
-    tables::find(serial, live, id)
-}
-
-fn create_at(
-    names: &mut [u32; 32],
-    serial: &mut [u16; 32],
-    live: &mut [bool; 32],
-    started: &mut [bool; 32],
-    suspended: &mut [bool; 32],
-    priorities: &mut [u8; 32],
-    running: usize,
-    name: u32,
-    priority: u8,
-    t: usize,
-) -> Outcome
-    requires { ⌜ (length (now serial) ≡ 32) × (t < 32 → getD (now serial) t 0 < 65535) ⌝ }
-    ensures { λ r. ⌜ ((s : State) → answerOf (lentTasks s (s .line .left) (s .line .seat) (s .line .joined) (s .line .rings) (now (names .exit))
-        (now (serial .exit)) (now (live .exit)) (now (started .exit)) (now (suspended .exit)) (now (priorities .exit)) running) noWakes r
-        ≡ taskCreateAt (lentTasks s (s .line .left) (s .line .seat) (s .line .joined) (s .line .rings) (now (names .entry)) (now (serial .entry))
-        (now (live .entry)) (now (started .entry)) (now (suspended .entry)) (now (priorities .entry)) running) name priority t) ⌝ }
-{
-    if 32 <= t {
-        return answers::plain(scope::TOO_MANY_OBJECTS, running);
+    match tables::find(serial, live, id) {
+        Found::At(t) => t as u32,
+        Found::Deleted => 32 + scope::OBJECT_DELETED,
+        Found::Invalid => 32 + scope::INVALID_ID,
     }
-    let next = serial[t] + 1;
-    names[t] = name;
-    serial[t] = next;
-    live[t] = true;
-    started[t] = false;
-    suspended[t] = false;
-    priorities[t] = priority;
-    answers::gives(tables::identifier(next, t), running)
 }
 
 pub fn task_create(
@@ -86,52 +55,21 @@ pub fn task_create(
     if LAST_PRIORITY < priority {
         return answers::plain(scope::INVALID_PRIORITY, running);
     }
-    let t = tables::lowest_usable(serial, live);
-    create_at(
-        names,
-        serial,
-        live,
-        started,
-        suspended,
-        priorities,
-        running,
-        name,
-        priority as u8,
-        t,
-    )
+    let t = tables::lowest_usable(&*serial, &*live);
+    if 32 <= t {
+        return answers::plain(scope::TOO_MANY_OBJECTS, running);
+    }
+    let next = serial[t] + 1;
+    names[t] = name;
+    serial[t] = next;
+    live[t] = true;
+    started[t] = false;
+    suspended[t] = false;
+    priorities[t] = priority as u8;
+    answers::gives(tables::identifier(next, t), running)
 }
 
 // A waiter leaves its queue, and so gives its one back.
-fn delete_at(
-    left: &mut [u32; 32],
-    seat: &mut [u16; 32],
-    joined: &mut [u8; 32],
-    rings: &mut [u16; 1],
-    name: &mut [u32; 32],
-    live: &mut [bool; 32],
-    started: &mut [bool; 32],
-    suspended: &mut [bool; 32],
-    priority: &mut [u8; 32],
-    t: usize,
-) -> Outcome
-    requires { ⌜ t < 32 ⌝ }
-    ensures { λ r. ⌜ ((s : State) (serial : List ℕ) (running : ℕ) → answerOf (lentTasks s (now (left .exit)) (now (seat .exit))
-        (now (joined .exit)) (now (rings .exit)) (now (name .exit)) serial (now (live .exit)) (now (started .exit)) (now (suspended .exit))
-        (now (priority .exit)) running) noWakes r
-        ≡ taskDeleteAt (lentTasks s (now (left .entry)) (now (seat .entry)) (now (joined .entry)) (now (rings .entry)) (now (name .entry)) serial
-        (now (live .entry)) (now (started .entry)) (now (suspended .entry)) (now (priority .entry)) running) t) ⌝ }
-{
-    name[t] = 0;
-    live[t] = false;
-    started[t] = false;
-    suspended[t] = false;
-    priority[t] = 0;
-    seats::take_out(seat, rings, t);
-    left[t] = 0;
-    joined[t] = 0;
-    answers::plain(scope::OK, seats::runner(seat, rings[0]))
-}
-
 pub fn task_delete(
     left: &mut [u32; 32],
     seat: &mut [u16; 32],
@@ -151,22 +89,20 @@ pub fn task_delete(
         ≡ taskDelete (lentTasks s (now (left .entry)) (now (seat .entry)) (now (joined .entry)) (now (rings .entry)) (now (name .entry)) (now (serial .entry))
         (now (live .entry)) (now (started .entry)) (now (suspended .entry)) (now (priority .entry)) running) id) ⌝ }
 {
-    match find(serial, live, running, id) {
-        Found::At(t) => delete_at(
-            left,
-            seat,
-            joined,
-            rings,
-            name,
-            live,
-            started,
-            suspended,
-            priority,
-            t,
-        ),
-        Found::Deleted => answers::plain(scope::OBJECT_DELETED, running),
-        Found::Invalid => answers::plain(scope::INVALID_ID, running),
+    let found = slot(serial, live, running, id);
+    if 32 <= found {
+        return answers::plain(found - 32, running);
     }
+    let t = found as usize;
+    name[t] = 0;
+    live[t] = false;
+    started[t] = false;
+    suspended[t] = false;
+    priority[t] = 0;
+    seats::take_out(seat, rings, t);
+    left[t] = 0;
+    joined[t] = 0;
+    answers::plain(scope::OK, seats::runner(seat, rings[0]))
 }
 
 pub fn task_ident<'a>(
@@ -188,30 +124,6 @@ pub fn task_ident<'a>(
     answers::gives(tables::identifier(serial[t], t), running)
 }
 
-fn start_at(
-    seat: &mut [u16; 32],
-    joined: &[u8; 32],
-    rings: &mut [u16; 1],
-    started: &mut [bool; 32],
-    priority: &[u8; 32],
-    running: usize,
-    t: usize,
-) -> Outcome
-    requires { ⌜ t < 32 ⌝ }
-    ensures { λ r. ⌜ ((s : State) (serial : List ℕ) (live : List Bool) → answerOf (lentTasks s (s .line .left) (now (seat .exit))
-        (now (joined .entry)) (now (rings .exit)) (s .tasks .name) serial live (now (started .exit)) (s .tasks .suspended)
-        (now (priority .entry)) running) noWakes r
-        ≡ taskStartAt (lentTasks s (s .line .left) (now (seat .entry)) (now (joined .entry)) (now (rings .entry)) (s .tasks .name) serial live
-        (now (started .entry)) (s .tasks .suspended) (now (priority .entry)) running) t) ⌝ }
-{
-    if started[t] {
-        return answers::plain(scope::TASK_ALREADY_STARTED, running);
-    }
-    started[t] = true;
-    seats::put_in(seat, joined, rings, t, priority[t]);
-    answers::plain(scope::OK, seats::runner(seat, rings[0]))
-}
-
 pub fn task_start<'a>(
     seat: &mut [u16; 32],
     joined: &[u8; 32],
@@ -228,44 +140,20 @@ pub fn task_start<'a>(
         ≡ taskStart (lentTasks s (s .line .left) (now (seat .entry)) (now (joined .entry)) (now (rings .entry)) (s .tasks .name) (now (serial .entry))
         (now (live .entry)) (now (started .entry)) (s .tasks .suspended) (now (priority .entry)) running) id) ⌝ }
 {
-    match find(serial, live, running, id) {
-        Found::At(t) => start_at(seat, joined, rings, started, priority, running, t),
-        Found::Deleted => answers::plain(scope::OBJECT_DELETED, running),
-        Found::Invalid => answers::plain(scope::INVALID_ID, running),
+    let found = slot(serial, live, running, id);
+    if 32 <= found {
+        return answers::plain(found - 32, running);
     }
-}
-
-// "A suspended waiter keeps its place"; a ready task leaves the ready order.
-fn suspend_at(
-    seat: &mut [u16; 32],
-    rings: &mut [u16; 1],
-    started: &[bool; 32],
-    suspended: &mut [bool; 32],
-    running: usize,
-    t: usize,
-) -> Outcome
-    requires { ⌜ t < 32 ⌝ }
-    ensures { λ r. ⌜ ((s : State) (serial : List ℕ) (live : List Bool) → answerOf (lentTasks s (s .line .left)
-        (now (seat .exit)) (s .line .joined) (now (rings .exit)) (s .tasks .name) serial live (now (started .entry))
-        (now (suspended .exit)) (s .tasks .priority) running) noWakes r
-        ≡ taskSuspendAt (lentTasks s (s .line .left) (now (seat .entry)) (s .line .joined) (now (rings .entry)) (s .tasks .name) serial live
-        (now (started .entry)) (now (suspended .entry)) (s .tasks .priority) running) t) ⌝ }
-{
-    if !started[t] {
-        return answers::plain(scope::TASK_NOT_STARTED, running);
+    let t = found as usize;
+    if started[t] {
+        return answers::plain(scope::TASK_ALREADY_STARTED, running);
     }
-    if suspended[t] {
-        return answers::plain(scope::TASK_ALREADY_SUSPENDED, running);
-    }
-    suspended[t] = true;
-    let x = seat[t];
-    if seats::waits_on(x) {
-        return answers::plain(scope::OK, running);
-    }
-    seats::take_out(seat, rings, t);
+    started[t] = true;
+    seats::put_in(seat, joined, rings, t, priority[t]);
     answers::plain(scope::OK, seats::runner(seat, rings[0]))
 }
 
+// "A suspended waiter keeps its place"; a ready task leaves the ready order.
 pub fn task_suspend<'a>(
     seat: &mut [u16; 32],
     rings: &mut [u16; 1],
@@ -281,45 +169,27 @@ pub fn task_suspend<'a>(
         ≡ taskSuspend (lentTasks s (s .line .left) (now (seat .entry)) (s .line .joined) (now (rings .entry)) (s .tasks .name) (now (serial .entry))
         (now (live .entry)) (now (started .entry)) (now (suspended .entry)) (s .tasks .priority) running) id) ⌝ }
 {
-    match find(serial, live, running, id) {
-        Found::At(t) => suspend_at(seat, rings, started, suspended, running, t),
-        Found::Deleted => answers::plain(scope::OBJECT_DELETED, running),
-        Found::Invalid => answers::plain(scope::INVALID_ID, running),
+    let found = slot(serial, live, running, id);
+    if 32 <= found {
+        return answers::plain(found - 32, running);
     }
-}
-
-// "it becomes ready when it neither waits nor is suspended"
-fn resume_at(
-    seat: &mut [u16; 32],
-    joined: &[u8; 32],
-    rings: &mut [u16; 1],
-    started: &[bool; 32],
-    suspended: &mut [bool; 32],
-    priority: &[u8; 32],
-    running: usize,
-    t: usize,
-) -> Outcome
-    requires { ⌜ t < 32 ⌝ }
-    ensures { λ r. ⌜ ((s : State) (serial : List ℕ) (live : List Bool) → answerOf (lentTasks s (s .line .left) (now (seat .exit))
-        (now (joined .entry)) (now (rings .exit)) (s .tasks .name) serial live (now (started .entry)) (now (suspended .exit))
-        (now (priority .entry)) running) noWakes r
-        ≡ taskResumeAt (lentTasks s (s .line .left) (now (seat .entry)) (now (joined .entry)) (now (rings .entry)) (s .tasks .name) serial live
-        (now (started .entry)) (now (suspended .entry)) (now (priority .entry)) running) t) ⌝ }
-{
+    let t = found as usize;
     if !started[t] {
         return answers::plain(scope::TASK_NOT_STARTED, running);
     }
-    if !suspended[t] {
-        return answers::plain(scope::TASK_NOT_SUSPENDED, running);
+    if suspended[t] {
+        return answers::plain(scope::TASK_ALREADY_SUSPENDED, running);
     }
-    suspended[t] = false;
-    if seats::waits_on(seat[t]) {
+    suspended[t] = true;
+    let x = seat[t];
+    if seats::waits_on(x) {
         return answers::plain(scope::OK, running);
     }
-    seats::put_in(seat, joined, rings, t, priority[t]);
+    seats::take_out(seat, rings, t);
     answers::plain(scope::OK, seats::runner(seat, rings[0]))
 }
 
+// "it becomes ready when it neither waits nor is suspended"
 pub fn task_resume<'a>(
     seat: &mut [u16; 32],
     joined: &[u8; 32],
@@ -337,20 +207,23 @@ pub fn task_resume<'a>(
         ≡ taskResume (lentTasks s (s .line .left) (now (seat .entry)) (now (joined .entry)) (now (rings .entry)) (s .tasks .name) (now (serial .entry))
         (now (live .entry)) (now (started .entry)) (now (suspended .entry)) (now (priority .entry)) running) id) ⌝ }
 {
-    match find(serial, live, running, id) {
-        Found::At(t) => resume_at(
-            seat,
-            joined,
-            rings,
-            started,
-            suspended,
-            priority,
-            running,
-            t,
-        ),
-        Found::Deleted => answers::plain(scope::OBJECT_DELETED, running),
-        Found::Invalid => answers::plain(scope::INVALID_ID, running),
+    let found = slot(serial, live, running, id);
+    if 32 <= found {
+        return answers::plain(found - 32, running);
     }
+    let t = found as usize;
+    if !started[t] {
+        return answers::plain(scope::TASK_NOT_STARTED, running);
+    }
+    if !suspended[t] {
+        return answers::plain(scope::TASK_NOT_SUSPENDED, running);
+    }
+    suspended[t] = false;
+    if seats::waits_on(seat[t]) {
+        return answers::plain(scope::OK, running);
+    }
+    seats::put_in(seat, joined, rings, t, priority[t]);
+    answers::plain(scope::OK, seats::runner(seat, rings[0]))
 }
 
 // "A task is ready if started, not waiting and not suspended." (Here of a task on seat `x`.)
@@ -373,38 +246,6 @@ fn wide(p: u8) -> u32
 }
 
 // A ready task is taken out and put in again behind its new equals.
-fn set_priority_at(
-    seat: &mut [u16; 32],
-    joined: &[u8; 32],
-    rings: &mut [u16; 1],
-    started: &[bool; 32],
-    suspended: &[bool; 32],
-    priorities: &mut [u8; 32],
-    running: usize,
-    priority: u32,
-    t: usize,
-) -> Outcome
-    requires { ⌜ t < 32 ⌝ }
-    ensures { λ r. ⌜ ((s : State) (serial : List ℕ) (live : List Bool) → answerOf (lentTasks s (s .line .left) (now (seat .exit))
-        (now (joined .entry)) (now (rings .exit)) (s .tasks .name) serial live (now (started .entry)) (now (suspended .entry))
-        (now (priorities .exit)) running) noWakes r
-        ≡ taskSetPriorityAt (lentTasks s (s .line .left) (now (seat .entry)) (now (joined .entry)) (now (rings .entry)) (s .tasks .name) serial live
-        (now (started .entry)) (now (suspended .entry)) (now (priorities .entry)) running) priority t) ⌝ }
-{
-    if LAST_PRIORITY < priority {
-        return answers::plain(scope::INVALID_PRIORITY, running);
-    }
-    let before = priorities[t];
-    let after = priority as u8;
-    priorities[t] = after;
-    if is_ready(started[t], suspended[t], seat[t]) {
-        seats::take_out(seat, rings, t);
-        seats::put_in(seat, joined, rings, t, after);
-        return answers::gives(wide(before), seats::runner(seat, rings[0]));
-    }
-    answers::gives(wide(before), running)
-}
-
 pub fn task_set_priority<'a>(
     seat: &mut [u16; 32],
     joined: &[u8; 32],
@@ -424,19 +265,21 @@ pub fn task_set_priority<'a>(
         ≡ taskSetPriority (lentTasks s (s .line .left) (now (seat .entry)) (now (joined .entry)) (now (rings .entry)) (s .tasks .name) (now (serial .entry))
         (now (live .entry)) (now (started .entry)) (now (suspended .entry)) (now (priorities .entry)) running) id priority) ⌝ }
 {
-    match find(serial, live, running, id) {
-        Found::At(t) => set_priority_at(
-            seat,
-            joined,
-            rings,
-            started,
-            suspended,
-            priorities,
-            running,
-            priority,
-            t,
-        ),
-        Found::Deleted => answers::plain(scope::OBJECT_DELETED, running),
-        Found::Invalid => answers::plain(scope::INVALID_ID, running),
+    let found = slot(serial, live, running, id);
+    if 32 <= found {
+        return answers::plain(found - 32, running);
     }
+    let t = found as usize;
+    if LAST_PRIORITY < priority {
+        return answers::plain(scope::INVALID_PRIORITY, running);
+    }
+    let before = priorities[t];
+    let after = priority as u8;
+    priorities[t] = after;
+    if is_ready(started[t], suspended[t], seat[t]) {
+        seats::take_out(seat, rings, t);
+        seats::put_in(seat, joined, rings, t, after);
+        return answers::gives(wide(before), seats::runner(seat, rings[0]));
+    }
+    answers::gives(wide(before), running)
 }

@@ -1,52 +1,91 @@
--- task_delete, by what its identifier names.
+-- `tasks::task_delete`: the slot that the identifier names is emptied, and its task leaves its queue.
 -- Assumes nothing.
-use Rattle.answers.proofs.Named.{on-at, on-deleted, on-invalid}
-use Rattle.answers.proofs.Outcomes.{plain-of}
-use borrow.Author.Needs.{needs}
+use lib.Dec.{lit<}
+use borrow.Author.Needs.{needs, scaled-fits}
+use mathlib.Core.Path.{refl}
+use Rattle.tasks.proofs.Laws.{refuses, allows, deletes}
 use Rattle.tasks.proofs.task_delete.Statement.{statement}
 use Rattle.tasks.proofs.task_delete.Tie as tie
+use Rattle.tasks.proofs.task_delete.Reads as reads
+use Rattle.tasks.proofs.task_delete.Lts as lts
+use Rattle.answers.proofs.plain.Reads as plain-reads
+use Rattle.seats.proofs.runner.Reads as runner-reads
+use Rattle.seats.proofs.take_out.Reads as take-out-reads
+use Rattle.tasks.proofs.slot.Reads as slot-reads
 
-find-requires : tie.Need-find-requires
-find-requires c κs = search needs
-
-enum-known-t : tie.Need-enum-known-t
-enum-known-t c = search needs
-
-delete-at-requires : tie.Need-delete-at-requires
-delete-at-requires c κs = c .before .before .before .before .before .before .before .before .before .before .before .before .find .ensures .1 _ (c .before .before .before .before .before .before .before .before .before .before .t .given .1)
-
-enum-told : tie.Need-enum-told
-enum-told c = search needs
+slot-requires : tie.Need-slot-requires
+slot-requires c κs = tt
 
 plain-requires : tie.Need-plain-requires
-plain-requires c κs = search needs
-
-enum-told-2 : tie.Need-enum-told-2
-enum-told-2 c = search needs
-
-plain-requires-2 : tie.Need-plain-requires-2
-plain-requires-2 c κs = search needs
+plain-requires c κs = tt
 
 returns : tie.Need-returns
-returns c = λ s. on-at _ _ _ _ (c .before .before .before .before .before .before .before .before .before .before .before .before .before .find .ensures .0 s _ _ _ _ _) (c .before .before .before .before .before .before .before .before .before .before .before .t .given .1) (c .delete-at .ensures s _ _)
+returns c = λ s. refuses _ _ (c .before .before .slot .ensures _ _ refl refl refl) (c .before .if1 .taken) (c .plain .ensures)
+
+cast-t : tie.Need-cast-t
+cast-t c = search needs
+
+mul-name : tie.Need-mul-name
+mul-name c = scaled-fits _ 32 _ (c .if1 .left) (lit< tt)
+
+element-write-name : tie.Need-element-write-name
+element-write-name c = c .if1 .left
+
+element-write-live : tie.Need-element-write-live
+element-write-live c = c .if1 .left
+
+element-write-started : tie.Need-element-write-started
+element-write-started c = c .if1 .left
+
+element-write-suspended : tie.Need-element-write-suspended
+element-write-suspended c = c .if1 .left
+
+element-write-priority : tie.Need-element-write-priority
+element-write-priority c = c .if1 .left
+
+take-out-requires : tie.Need-take-out-requires
+take-out-requires c κs = c .before .before .if1 .left
+
+mul-left : tie.Need-mul-left
+mul-left c = scaled-fits _ 32 _ (c .before .before .before .if1 .left) (lit< tt)
+
+element-write-left : tie.Need-element-write-left
+element-write-left c = c .before .before .before .if1 .left
+
+element-write-joined : tie.Need-element-write-joined
+element-write-joined c = c .before .before .before .if1 .left
+
+element-copy-out-runner : tie.Need-element-copy-out-runner
+element-copy-out-runner c = lit< tt
+
+runner-requires : tie.Need-runner-requires
+runner-requires c κs = tt
+
+plain-requires-2 : tie.Need-plain-requires-2
+plain-requires-2 c κs = tt
 
 returns-2 : tie.Need-returns-2
-returns-2 c = λ s. on-deleted _ _ _ _ (c .before .before .before .find .ensures .0 s _ _ _ _ _) (c .before .enum-told .given .1) (plain-of _ _ _ _ (c .plain .ensures))
-
-returns-3 : tie.Need-returns-3
-returns-3 c = λ s. on-invalid _ _ _ _ (c .before .before .before .find .ensures .0 s _ _ _ _ _) (c .before .enum-told2 .given .1) (plain-of _ _ _ _ (c .plain2 .ensures))
+returns-2 c = λ s. allows _ _ (c .before .before .before .before .before .before .before .before .slot .ensures _ _ refl refl refl) (c .before .before .before .before .before .before .before .if1 .left) (deletes _ _ (c .before .before .before .before .take-out .ensures) (c .before .runner .ensures) (c .plain2 .ensures))
 
 pub task-delete-spec : {M : Type 1} → statement M
 task-delete-spec =
     tie.close
     (tie.spec
-    find-requires
-    enum-known-t
-    delete-at-requires
-    enum-told
+    slot-requires
     plain-requires
-    enum-told-2
-    plain-requires-2
     returns
-    returns-2
-    returns-3)
+    cast-t
+    mul-name
+    element-write-name
+    element-write-live
+    element-write-started
+    element-write-suspended
+    element-write-priority
+    take-out-requires
+    mul-left
+    element-write-left
+    element-write-joined
+    element-copy-out-runner
+    runner-requires
+    plain-requires-2
+    returns-2)

@@ -1,52 +1,119 @@
--- task_set_priority, by what its identifier names.
+-- `tasks::task_set_priority`: 19 by the test of the priority; a ready task is taken out and put in again, any other keeps its place.
 -- Assumes nothing.
-use Rattle.answers.proofs.Named.{on-at, on-deleted, on-invalid}
-use Rattle.answers.proofs.Outcomes.{plain-of}
-use borrow.Author.Needs.{needs}
+use lib.Dec.{lit<}
+use borrow.Author.Needs.{needs, scaled-fits}
+use mathlib.Core.Path.{refl}
+use Rattle.tasks.proofs.Laws.{refuses, allows, set-unfit, set-ready, set-other}
 use Rattle.tasks.proofs.task_set_priority.Statement.{statement}
 use Rattle.tasks.proofs.task_set_priority.Tie as tie
+use Rattle.tasks.proofs.task_set_priority.Reads as reads
+use Rattle.tasks.proofs.task_set_priority.Lts as lts
+use Rattle.answers.proofs.gives.Reads as gives-reads
+use Rattle.answers.proofs.plain.Reads as plain-reads
+use Rattle.seats.proofs.put_in.Reads as put-in-reads
+use Rattle.seats.proofs.runner.Reads as runner-reads
+use Rattle.seats.proofs.take_out.Reads as take-out-reads
+use Rattle.tasks.proofs.is_ready.Reads as is-ready-reads
+use Rattle.tasks.proofs.slot.Reads as slot-reads
+use Rattle.tasks.proofs.wide.Reads as wide-reads
 
-find-requires : tie.Need-find-requires
-find-requires c κs = search needs
-
-enum-known-t : tie.Need-enum-known-t
-enum-known-t c = search needs
-
-set-priority-at-requires : tie.Need-set-priority-at-requires
-set-priority-at-requires c κs = c .before .before .before .before .before .before .find .ensures .1 _ (c .before .before .before .before .t .given .1)
-
-enum-told : tie.Need-enum-told
-enum-told c = search needs
+slot-requires : tie.Need-slot-requires
+slot-requires c κs = tt
 
 plain-requires : tie.Need-plain-requires
-plain-requires c κs = search needs
-
-enum-told-2 : tie.Need-enum-told-2
-enum-told-2 c = search needs
-
-plain-requires-2 : tie.Need-plain-requires-2
-plain-requires-2 c κs = search needs
+plain-requires c κs = tt
 
 returns : tie.Need-returns
-returns c = λ s. on-at _ _ _ _ (c .before .before .before .before .before .before .before .find .ensures .0 s _ _ _ _ _) (c .before .before .before .before .before .t .given .1) (c .set-priority-at .ensures s _ _)
+returns c = λ s. refuses _ _ (c .before .before .slot .ensures _ _ refl refl refl) (c .before .if1 .taken) (c .plain .ensures)
+
+cast-t : tie.Need-cast-t
+cast-t c = search needs
+
+plain-requires-2 : tie.Need-plain-requires-2
+plain-requires-2 c κs = tt
 
 returns-2 : tie.Need-returns-2
-returns-2 c = λ s. on-deleted _ _ _ _ (c .before .before .before .find .ensures .0 s _ _ _ _ _) (c .before .enum-told .given .1) (plain-of _ _ _ _ (c .plain .ensures))
+returns-2 c = λ s. allows _ _ (c .before .before .before .slot .ensures _ _ refl refl refl) (c .before .before .if1 .left) (set-unfit _ _ _ (c .before .if2 .taken) (c .plain2 .ensures))
+
+element-copy-out-before : tie.Need-element-copy-out-before
+element-copy-out-before c = c .before .if1 .left
+
+cast-after : tie.Need-cast-after
+cast-after c = search needs
+
+element-write-priorities : tie.Need-element-write-priorities
+element-write-priorities c = c .before .before .if1 .left
+
+element-copy-out-is-ready : tie.Need-element-copy-out-is-ready
+element-copy-out-is-ready c = c .before .before .if1 .left
+
+element-copy-out-is-ready-2 : tie.Need-element-copy-out-is-ready-2
+element-copy-out-is-ready-2 c = c .before .before .before .if1 .left
+
+mul-is-ready : tie.Need-mul-is-ready
+mul-is-ready c = scaled-fits _ 32 _ (c .before .before .before .before .if1 .left) (lit< tt)
+
+element-copy-out-is-ready-3 : tie.Need-element-copy-out-is-ready-3
+element-copy-out-is-ready-3 c = c .before .before .before .before .if1 .left
+
+is-ready-requires : tie.Need-is-ready-requires
+is-ready-requires c κs = tt
+
+take-out-requires : tie.Need-take-out-requires
+take-out-requires c κs = c .before .before .before .before .before .before .before .before .before .if1 .left
+
+put-in-requires : tie.Need-put-in-requires
+put-in-requires c κs = c .before .before .before .before .before .before .before .before .before .before .before .before .if1 .left
+
+wide-requires : tie.Need-wide-requires
+wide-requires c κs = tt
+
+element-copy-out-runner : tie.Need-element-copy-out-runner
+element-copy-out-runner c = lit< tt
+
+runner-requires : tie.Need-runner-requires
+runner-requires c κs = tt
+
+gives-requires : tie.Need-gives-requires
+gives-requires c κs = tt
 
 returns-3 : tie.Need-returns-3
-returns-3 c = λ s. on-invalid _ _ _ _ (c .before .before .before .find .ensures .0 s _ _ _ _ _) (c .before .enum-told2 .given .1) (plain-of _ _ _ _ (c .plain2 .ensures))
+returns-3 c = λ s. allows _ _ (c .before .before .before .before .before .before .before .before .before .before .before .before .before .before .before .before .before .before .before .slot .ensures _ _ refl refl refl) (c .before .before .before .before .before .before .before .before .before .before .before .before .before .before .before .before .before .before .if1 .left) (set-ready _ _ _ (c .before .before .before .before .before .before .before .before .before .before .before .before .before .before .before .before .before .if2 .left) (c .before .before .before .before .before .before .before .before .before .before .before .before .is-ready .ensures) (c .before .before .before .before .wide .ensures) (c .before .before .before .before .before .before .before .before .before .before .before .if3 .taken) (c .before .before .before .before .before .before .before .before .take-out .ensures) (c .before .before .before .before .before .put-in .ensures) (c .before .runner .ensures) (c .gives .ensures))
+
+wide-requires-2 : tie.Need-wide-requires-2
+wide-requires-2 c κs = tt
+
+gives-requires-2 : tie.Need-gives-requires-2
+gives-requires-2 c κs = tt
+
+returns-4 : tie.Need-returns-4
+returns-4 c = λ s. allows _ _ (c .before .before .before .before .before .before .before .before .before .before .slot .ensures _ _ refl refl refl) (c .before .before .before .before .before .before .before .before .before .if1 .left) (set-other _ _ _ (c .before .before .before .before .before .before .before .before .if2 .left) (c .before .before .before .is-ready .ensures) (c .before .wide2 .ensures) (c .before .before .if3 .left) (c .gives2 .ensures))
 
 pub task-set-priority-spec : {M : Type 1} → statement M
 task-set-priority-spec =
     tie.close
     (tie.spec
-    find-requires
-    enum-known-t
-    set-priority-at-requires
-    enum-told
+    slot-requires
     plain-requires
-    enum-told-2
-    plain-requires-2
     returns
+    cast-t
+    plain-requires-2
     returns-2
-    returns-3)
+    element-copy-out-before
+    cast-after
+    element-write-priorities
+    element-copy-out-is-ready
+    element-copy-out-is-ready-2
+    mul-is-ready
+    element-copy-out-is-ready-3
+    is-ready-requires
+    take-out-requires
+    put-in-requires
+    wide-requires
+    element-copy-out-runner
+    runner-requires
+    gives-requires
+    returns-3
+    wide-requires-2
+    gives-requires-2
+    returns-4)
