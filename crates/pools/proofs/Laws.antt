@@ -17,10 +17,10 @@ use Rattle.scope.specs.Places.{rowOf, withRow, longestFree, firstLeaves, joinsL
 use Rattle.scope.specs.Semaphores.{lastOption}
 use Rattle.scope.specs.Identifiers.{identifier, lowestUsable}
 use Rattle.scope.specs.Views.{withPools}
-use Rattle.scope.specs.Answers.{noWakes, answer, plain, gives, bitOf}
+use Rattle.scope.specs.Answers.{noWakes, plain, gives, bitOf}
 use Rattle.scope.specs.Pools.{overlapped, poolBorn, poolCreateAt, poolCreate, poolDeleteAt, poolGetBuffer, poolGetBuffAt, poolRetBuffer, poolRetBuffAt, poolInfoAt}
 use Rattle.scope.proofs.Buffers.{buffers-few}
-use Rattle.laws.proofs.Branches.{pick-yes, pick-no, picked-yes, picked-no, both-true, not-of-true}
+use Rattle.laws.proofs.Branches.{pick-yes, pick-no, picked-yes, picked-no, both-true}
 use Rattle.answers.specs.declared.Outcome.{Outcome}
 use Rattle.answers.specs.Outcomes.{answerOf, outcome}
 use Rattle.answers.specs.Columns.{poolsOf}

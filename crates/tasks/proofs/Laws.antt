@@ -19,14 +19,13 @@ use Rattle.scope.specs.Choice.{pick}
 use Rattle.scope.specs.Identifiers.{identifier, found, lowestUsable}
 use Rattle.scope.specs.Seats.{leaves, becomesReady, ringsLeft, ringsReady, waitsOn, maskOf, runnerOf}
 use Rattle.scope.specs.Views.{withTasks, withSeats, withWait, isReady, readyWith}
-use Rattle.scope.specs.Answers.{noWakes, plain, onFound}
+use Rattle.scope.specs.Answers.{noWakes, plain}
 use Rattle.scope.specs.Tasks.{taskFound, taskBorn, taskGone, withStarted, withSuspended, withPriority, taskCreateAt, taskCreate, taskDeleteAt, taskStartAt}
 use Rattle.scope.specs.Tasks.{taskSuspendAt, taskResumeAt, taskSetPriorityAt}
 use Rattle.laws.proofs.Branches.{pick-yes, pick-no, picked-yes, picked-no, first-fails, second-fails}
 use Rattle.answers.specs.declared.Outcome.{Outcome}
 use Rattle.answers.specs.Outcomes.{answerOf, outcome}
 use Rattle.answers.specs.Columns.{stateOf}
-use Rattle.answers.proofs.Named.{on-at, on-invalid}
 use Rattle.answers.proofs.Outcomes.{plain-of, gives-of, plain-moved, gives-moved}
 
 -- whether a slot lies past a table's end: m is the table's length, n its size

@@ -7,9 +7,6 @@ use Rattle.laws.proofs.Branches.{first-fails, second-decides}
 use Rattle.areas.proofs.Marks.{free-as}
 use Rattle.pools.proofs.is_free.Statement.{statement}
 use Rattle.pools.proofs.is_free.Tie as tie
-use Rattle.pools.proofs.is_free.Reads as reads
-use Rattle.pools.proofs.is_free.Lts as lts
-use Rattle.areas.proofs.is_out.Reads as is-out-reads
 
 returns : tie.Need-returns
 returns c = sym (first-fails _ _ (le-ltb _ _ (c .if1 .taken)))

@@ -6,9 +6,6 @@ use borrow.Author.Tests.{lt-ltb, le-ltb}
 use Rattle.laws.proofs.Branches.{first-fails, second-decides}
 use Rattle.pools.proofs.is_out.Statement.{statement}
 use Rattle.pools.proofs.is_out.Tie as tie
-use Rattle.pools.proofs.is_out.Reads as reads
-use Rattle.pools.proofs.is_out.Lts as lts
-use Rattle.areas.proofs.is_out.Reads as is-out-reads
 
 returns : tie.Need-returns
 returns c = sym (first-fails _ _ (le-ltb _ _ (c .if1 .taken)))

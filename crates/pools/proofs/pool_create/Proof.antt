@@ -5,17 +5,17 @@ use borrow.Author.Needs.{needs, scaled-fits}
 use native.Mathlib.Omega.{arith}
 use mathlib.Core.Path.{refl}
 use Rattle.pools.proofs.Laws.{refuses, created}
+use denote.Ref.{now}
+use Rattle.scope.specs.declared.State.{State}
+use Rattle.answers.specs.Columns.{lentPools}
 use Rattle.pools.proofs.pool_create.Statement.{statement}
 use Rattle.pools.proofs.pool_create.Tie as tie
-use Rattle.pools.proofs.pool_create.Reads as reads
-use Rattle.pools.proofs.pool_create.Lts as lts
-use Rattle.answers.proofs.gives.Reads as gives-reads
-use Rattle.answers.proofs.plain.Reads as plain-reads
-use Rattle.areas.proofs.buffers_of.Reads as buffers-of-reads
-use Rattle.places.proofs.new_row.Reads as new-row-reads
-use Rattle.places.proofs.put_row.Reads as put-row-reads
-use Rattle.pools.proofs.slot_for.Reads as slot-for-reads
-use Rattle.tables.proofs.identifier.Reads as identifier-reads
+
+-- the state that the call is lent
+abbrev lent : tie.Start → State → State
+lent c s =
+    lentPools s (now (c .args .out)) (now (c .args .names)) (now (c .args .addresses)) (now (c .args .lengths)) (now (c .args .sizes))
+    (now (c .args .serial)) (now (c .args .live)) (now (c .args .forced)) (now (c .args .place)) (c .args .running)
 
 slot-for-requires : tie.Need-slot-for-requires
 slot-for-requires c κs = tt
@@ -24,7 +24,7 @@ plain-requires : tie.Need-plain-requires
 plain-requires c κs = tt
 
 returns : tie.Need-returns
-returns c = λ s. refuses _ _ (c .before .before .slot-for .ensures .0 _ _ refl refl refl refl) (c .before .if1 .taken) (c .plain .ensures)
+returns c = λ s. refuses (lent (c .before .before .before .before .before .before .before) s) _ (c .before .before .slot-for .ensures .0 (lent (c .before .before .before .before .before .before .before) s) _ refl refl refl refl) (c .before .if1 .taken) (c .plain .ensures)
 
 cast-i : tie.Need-cast-i
 cast-i c = search needs
@@ -99,7 +99,7 @@ gives-requires : tie.Need-gives-requires
 gives-requires c κs = tt
 
 returns-2 : tie.Need-returns-2
-returns-2 c = λ s. created _ _ _ _ _ _ (c .before .before .before .before .before .before .before .before .slot-for .ensures .0 _ _ refl refl refl refl) (c .before .before .before .before .before .before .before .if1 .left) (c .before .before .put-row .ensures) (c .before .before .before .before .new-row .ensures) (c .before .before .before .before .before .buffers-of .ensures) (c .before .identifier .ensures) (c .gives .ensures)
+returns-2 c = λ s. created (lent (c .before .before .before .before .before .before .before .before .before .before .before .before .before) s) _ _ _ _ _ (c .before .before .before .before .before .before .before .before .slot-for .ensures .0 (lent (c .before .before .before .before .before .before .before .before .before .before .before .before .before) s) _ refl refl refl refl) (c .before .before .before .before .before .before .before .if1 .left) (c .before .before .put-row .ensures) (c .before .before .before .before .new-row .ensures) (c .before .before .before .before .before .buffers-of .ensures) (c .before .identifier .ensures) (c .gives .ensures)
 
 pub pool-create-spec : {M : Type 1} → statement M
 pool-create-spec =

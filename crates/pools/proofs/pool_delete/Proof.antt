@@ -9,13 +9,16 @@ use denote.Ref.{now}
 use borrow.Author.Tests.{le-ltb}
 use Rattle.laws.proofs.Branches.{first-fails, second-fails}
 use Rattle.pools.proofs.Laws.{refuses, allows, in-use, deleted}
+use Rattle.scope.specs.declared.State.{State}
+use Rattle.answers.specs.Columns.{lentPools}
 use Rattle.pools.proofs.pool_delete.Statement.{statement}
 use Rattle.pools.proofs.pool_delete.Tie as tie
-use Rattle.pools.proofs.pool_delete.Reads as reads
-use Rattle.pools.proofs.pool_delete.Lts as lts
-use Rattle.answers.proofs.plain.Reads as plain-reads
-use Rattle.places.proofs.put_row.Reads as put-row-reads
-use Rattle.pools.proofs.slot.Reads as slot-reads
+
+-- the state that the call is lent
+abbrev lent : tie.Start → State → State
+lent c s =
+    lentPools s (now (c .args .out)) (now (c .args .name)) (now (c .args .address)) (now (c .args .length)) (now (c .args .size))
+    (now (c .args .serial)) (now (c .args .live)) (now (c .args .forced)) (now (c .args .place)) (c .args .running)
 
 slot-requires : tie.Need-slot-requires
 slot-requires c κs = tt
@@ -24,7 +27,7 @@ plain-requires : tie.Need-plain-requires
 plain-requires c κs = tt
 
 returns : tie.Need-returns
-returns c = λ s. refuses _ _ (c .before .before .slot .ensures _ _) (c .before .if1 .taken) (c .plain .ensures)
+returns c = λ s. refuses (lent (c .before .before .before .before) s) _ (c .before .before .slot .ensures (lent (c .before .before .before .before) s) _) (c .before .if1 .taken) (c .plain .ensures)
 
 cast-i : tie.Need-cast-i
 cast-i c = search needs
@@ -42,7 +45,7 @@ plain-requires-2 : tie.Need-plain-requires-2
 plain-requires-2 c κs = tt
 
 returns-2 : tie.Need-returns-2
-returns-2 c = λ s. allows _ _ (c .before .before .before .before .before .before .slot .ensures _ _) (c .before .before .before .before .before .if1 .left) (in-use _ _ (c .before .before .before .if2 .taken) (c .before .if3 .taken) (c .plain2 .ensures))
+returns-2 c = λ s. allows (lent (c .before .before .before .before .before .before .before .before) s) _ (c .before .before .before .before .before .before .slot .ensures (lent (c .before .before .before .before .before .before .before .before) s) _) (c .before .before .before .before .before .if1 .left) (in-use (lent (c .before .before .before .before .before .before .before .before) s) _ (c .before .before .before .if2 .taken) (c .before .if3 .taken) (c .plain2 .ensures))
 
 mul-out : tie.Need-mul-out
 mul-out c = scaled-fits _ 8 _ (c .before .before .if1 .left) (lit< tt)
@@ -87,7 +90,7 @@ plain-requires-3 : tie.Need-plain-requires-3
 plain-requires-3 c κs = tt
 
 returns-3 : tie.Need-returns-3
-returns-3 c = λ s. allows _ _ (c .before .before .before .before .before .before .slot .ensures _ _) (c .before .before .before .before .before .if1 .left) (deleted _ _ (⊎-elim (λ j. second-fails (not (getD (now (c .before .before .before .before .before .before .before .before .args .forced)) (c .before .before .before .before .before .before .slot .result) false)) _ (le-ltb _ _ (j .2 .left))) (λ e. first-fails _ _ (e .left)) (c .before .before .before .if2 .came)) (c .before .put-row .ensures) (c .plain3 .ensures))
+returns-3 c = λ s. allows (lent (c .before .before .before .before .before .before .before .before) s) _ (c .before .before .before .before .before .before .slot .ensures (lent (c .before .before .before .before .before .before .before .before) s) _) (c .before .before .before .before .before .if1 .left) (deleted (lent (c .before .before .before .before .before .before .before .before) s) _ (⊎-elim (λ j. second-fails (not (getD (now (c .before .before .before .before .before .before .before .before .args .forced)) (c .before .before .before .before .before .before .slot .result) false)) _ (le-ltb _ _ (j .2 .left))) (λ e. first-fails _ _ (e .left)) (c .before .before .before .if2 .came)) (c .before .put-row .ensures) (c .plain3 .ensures))
 
 pub pool-delete-spec : {M : Type 1} → statement M
 pool-delete-spec =

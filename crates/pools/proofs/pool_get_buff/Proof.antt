@@ -3,21 +3,17 @@
 use lib.Dec.{lit<}
 use borrow.Author.Needs.{needs, scaled-fits}
 use Rattle.pools.proofs.Laws.{marked, passes, refuses, allows, none-free, goes-out}
+use denote.Ref.{now}
+use Rattle.scope.specs.declared.State.{State}
+use Rattle.answers.specs.Columns.{lentPools}
 use Rattle.pools.proofs.pool_get_buff.Statement.{statement}
 use Rattle.pools.proofs.pool_get_buff.Tie as tie
-use Rattle.pools.proofs.pool_get_buff.Reads as reads
-use Rattle.pools.proofs.pool_get_buff.Lts as lts
-use Rattle.answers.proofs.gives.Reads as gives-reads
-use Rattle.answers.proofs.plain.Reads as plain-reads
-use Rattle.areas.proofs.buffer_address.Reads as buffer-address-reads
-use Rattle.areas.proofs.buffers_of.Reads as buffers-of-reads
-use Rattle.areas.proofs.take.Reads as take-reads
-use Rattle.places.proofs.first_leaves.Reads as first-leaves-reads
-use Rattle.places.proofs.longest_free.Reads as longest-free-reads
-use Rattle.places.proofs.put_row.Reads as put-row-reads
-use Rattle.places.proofs.row_of.Reads as row-of-reads
-use Rattle.pools.proofs.is_free.Reads as is-free-reads
-use Rattle.pools.proofs.slot.Reads as slot-reads
+
+-- the state that the call is lent
+abbrev lent : tie.Start → State → State
+lent c s =
+    lentPools s (now (c .args .out)) (s .pools .name) (now (c .args .address)) (now (c .args .length)) (now (c .args .size)) (now (c .args .serial))
+    (now (c .args .live)) (s .pools .forced) (now (c .args .place)) (c .args .running)
 
 slot-requires : tie.Need-slot-requires
 slot-requires c κs = tt
@@ -26,7 +22,7 @@ plain-requires : tie.Need-plain-requires
 plain-requires c κs = tt
 
 returns : tie.Need-returns
-returns c = λ s. refuses _ _ (c .before .before .slot .ensures _ _) (c .before .if1 .taken) (c .plain .ensures)
+returns c = λ s. refuses (lent (c .before .before .before) s) _ (c .before .before .slot .ensures (lent (c .before .before .before) s) _) (c .before .if1 .taken) (c .plain .ensures)
 
 cast-i : tie.Need-cast-i
 cast-i c = search needs
@@ -65,7 +61,7 @@ plain-requires-2 : tie.Need-plain-requires-2
 plain-requires-2 c κs = tt
 
 returns-2 : tie.Need-returns-2
-returns-2 c = λ s. allows _ _ (c .before .before .before .before .before .before .before .before .before .before .before .before .slot .ensures _ _) (c .before .before .before .before .before .before .before .before .before .before .before .if1 .left) (none-free _ _ (c .before .before .before .before .before .before .before .before .buffers-of .ensures) (c .before .before .before .before .row-of .ensures) (c .before .before .before .longest-free .ensures) (c .before .before .is-free .ensures) (c .before .if2 .taken) (c .plain2 .ensures))
+returns-2 c = λ s. allows (lent (c .before .before .before .before .before .before .before .before .before .before .before .before .before) s) _ (c .before .before .before .before .before .before .before .before .before .before .before .before .slot .ensures (lent (c .before .before .before .before .before .before .before .before .before .before .before .before .before) s) _) (c .before .before .before .before .before .before .before .before .before .before .before .if1 .left) (none-free (lent (c .before .before .before .before .before .before .before .before .before .before .before .before .before) s) _ (c .before .before .before .before .before .before .before .before .buffers-of .ensures) (c .before .before .before .before .row-of .ensures) (c .before .before .before .longest-free .ensures) (c .before .before .is-free .ensures) (c .before .if2 .taken) (c .plain2 .ensures))
 
 mul-buffer-address : tie.Need-mul-buffer-address
 mul-buffer-address c = scaled-fits _ 8 _ (c .before .before .before .before .before .before .before .before .before .before .if1 .left) (lit< tt)
@@ -101,7 +97,7 @@ gives-requires : tie.Need-gives-requires
 gives-requires c κs = tt
 
 returns-3 : tie.Need-returns-3
-returns-3 c = λ s. allows _ _ (c .before .before .before .before .before .before .before .before .before .before .before .before .before .before .before .before .before .before .before .slot .ensures _ _) (c .before .before .before .before .before .before .before .before .before .before .before .before .before .before .before .before .before .before .if1 .left) (goes-out _ _ (c .before .before .before .before .before .before .before .before .before .before .before .before .before .before .before .buffers-of .ensures) (c .before .before .before .before .before .before .before .before .before .before .before .row-of .ensures) (c .before .before .before .before .before .before .before .before .before .before .longest-free .ensures) (c .before .before .before .before .before .before .before .before .before .is-free .ensures) (c .before .before .before .before .before .before .before .before .if2 .left) (c .before .before .before .before .before .buffer-address .ensures) (c .before .before .before .before .take .ensures) (c .before .before .first-leaves .ensures) (c .before .put-row .ensures) (c .gives .ensures))
+returns-3 c = λ s. allows (lent (c .before .before .before .before .before .before .before .before .before .before .before .before .before .before .before .before .before .before .before .before) s) _ (c .before .before .before .before .before .before .before .before .before .before .before .before .before .before .before .before .before .before .before .slot .ensures (lent (c .before .before .before .before .before .before .before .before .before .before .before .before .before .before .before .before .before .before .before .before) s) _) (c .before .before .before .before .before .before .before .before .before .before .before .before .before .before .before .before .before .before .if1 .left) (goes-out (lent (c .before .before .before .before .before .before .before .before .before .before .before .before .before .before .before .before .before .before .before .before) s) _ (c .before .before .before .before .before .before .before .before .before .before .before .before .before .before .before .buffers-of .ensures) (c .before .before .before .before .before .before .before .before .before .before .before .row-of .ensures) (c .before .before .before .before .before .before .before .before .before .before .longest-free .ensures) (c .before .before .before .before .before .before .before .before .before .is-free .ensures) (c .before .before .before .before .before .before .before .before .if2 .left) (c .before .before .before .before .before .buffer-address .ensures) (c .before .before .before .before .take .ensures) (c .before .before .first-leaves .ensures) (c .before .put-row .ensures) (c .gives .ensures))
 
 pub pool-get-buff-spec : {M : Type 1} → statement M
 pool-get-buff-spec =

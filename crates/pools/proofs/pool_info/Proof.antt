@@ -3,16 +3,17 @@
 use lib.Dec.{lit<}
 use borrow.Author.Needs.{needs, scaled-fits}
 use Rattle.pools.proofs.Laws.{marked, refuses, allows, informs}
+use denote.Ref.{now}
+use Rattle.scope.specs.declared.State.{State}
+use Rattle.answers.specs.Columns.{lentPools}
 use Rattle.pools.proofs.pool_info.Statement.{statement}
 use Rattle.pools.proofs.pool_info.Tie as tie
-use Rattle.pools.proofs.pool_info.Reads as reads
-use Rattle.pools.proofs.pool_info.Lts as lts
-use Rattle.answers.proofs.bit.Reads as bit-reads
-use Rattle.answers.proofs.plain.Reads as plain-reads
-use Rattle.answers.proofs.tells.Reads as tells-reads
-use Rattle.areas.proofs.buffers_of.Reads as buffers-of-reads
-use Rattle.areas.proofs.free_of.Reads as free-of-reads
-use Rattle.pools.proofs.slot.Reads as slot-reads
+
+-- the state that the call is lent
+abbrev lent : tie.Start → State → State
+lent c s =
+    lentPools s (now (c .args .out)) (s .pools .name) (s .pools .address) (now (c .args .length)) (now (c .args .size)) (now (c .args .serial))
+    (now (c .args .live)) (now (c .args .forced)) (s .pools .place) (c .args .running)
 
 slot-requires : tie.Need-slot-requires
 slot-requires c κs = tt
@@ -21,7 +22,7 @@ plain-requires : tie.Need-plain-requires
 plain-requires c κs = tt
 
 returns : tie.Need-returns
-returns c = λ s. refuses _ _ (c .before .before .slot .ensures _ _) (c .before .if1 .taken) (c .plain .ensures)
+returns c = λ s. refuses (lent (c .before .before .before) s) _ (c .before .before .slot .ensures (lent (c .before .before .before) s) _) (c .before .if1 .taken) (c .plain .ensures)
 
 cast-i : tie.Need-cast-i
 cast-i c = search needs
@@ -66,7 +67,7 @@ tells-requires : tie.Need-tells-requires
 tells-requires c κs = tt
 
 returns-2 : tie.Need-returns-2
-returns-2 c = λ s. allows _ _ (c .before .before .before .before .before .before .before .before .before .before .slot .ensures _ _) (c .before .before .before .before .before .before .before .before .before .if1 .left) (informs _ _ (c .before .before .before .before .before .before .buffers-of .ensures) (c .before .before .before .before .free-of .ensures) (c .before .bit .ensures) (c .tells .ensures))
+returns-2 c = λ s. allows (lent (c .before .before .before .before .before .before .before .before .before .before .before) s) _ (c .before .before .before .before .before .before .before .before .before .before .slot .ensures (lent (c .before .before .before .before .before .before .before .before .before .before .before) s) _) (c .before .before .before .before .before .before .before .before .before .if1 .left) (informs (lent (c .before .before .before .before .before .before .before .before .before .before .before) s) _ (c .before .before .before .before .before .before .buffers-of .ensures) (c .before .before .before .before .free-of .ensures) (c .before .bit .ensures) (c .tells .ensures))
 
 pub pool-info-spec : {M : Type 1} → statement M
 pool-info-spec =

@@ -4,18 +4,17 @@ use lib.Dec.{lit<, lit≤}
 use borrow.Author.Needs.{needs, scaled-fits}
 use Rattle.places.proofs.Gathering.{free-few}
 use Rattle.pools.proofs.Laws.{marked, passes, refuses, allows, none-out, comes-back}
+use denote.Ref.{now}
+use Rattle.scope.specs.declared.State.{State}
+use Rattle.answers.specs.Columns.{lentPools}
 use Rattle.pools.proofs.pool_ret_buff.Statement.{statement}
 use Rattle.pools.proofs.pool_ret_buff.Tie as tie
-use Rattle.pools.proofs.pool_ret_buff.Reads as reads
-use Rattle.pools.proofs.pool_ret_buff.Lts as lts
-use Rattle.answers.proofs.plain.Reads as plain-reads
-use Rattle.areas.proofs.buffer_at.Reads as buffer-at-reads
-use Rattle.areas.proofs.buffers_of.Reads as buffers-of-reads
-use Rattle.areas.proofs.free_of.Reads as free-of-reads
-use Rattle.areas.proofs.give_back.Reads as give-back-reads
-use Rattle.places.proofs.join_last.Reads as join-last-reads
-use Rattle.pools.proofs.is_out.Reads as is-out-reads
-use Rattle.pools.proofs.slot.Reads as slot-reads
+
+-- the state that the call is lent
+abbrev lent : tie.Start → State → State
+lent c s =
+    lentPools s (now (c .args .out)) (s .pools .name) (now (c .args .address)) (now (c .args .length)) (now (c .args .size)) (now (c .args .serial))
+    (now (c .args .live)) (s .pools .forced) (now (c .args .place)) (c .args .running)
 
 slot-requires : tie.Need-slot-requires
 slot-requires c κs = tt
@@ -24,7 +23,7 @@ plain-requires : tie.Need-plain-requires
 plain-requires c κs = tt
 
 returns : tie.Need-returns
-returns c = λ s. refuses _ _ (c .before .before .slot .ensures _ _) (c .before .if1 .taken) (c .plain .ensures)
+returns c = λ s. refuses (lent (c .before .before .before) s) _ (c .before .before .slot .ensures (lent (c .before .before .before) s) _) (c .before .if1 .taken) (c .plain .ensures)
 
 cast-i : tie.Need-cast-i
 cast-i c = search needs
@@ -72,7 +71,7 @@ plain-requires-2 : tie.Need-plain-requires-2
 plain-requires-2 c κs = tt
 
 returns-2 : tie.Need-returns-2
-returns-2 c = λ s. allows _ _ (c .before .before .before .before .before .before .before .before .before .before .before .slot .ensures _ _) (c .before .before .before .before .before .before .before .before .before .before .if1 .left) (none-out _ _ _ (c .before .before .before .before .before .before .before .buffers-of .ensures) (c .before .before .before .buffer-at .ensures) (c .before .before .is-out .ensures) (c .before .if2 .taken) (c .plain2 .ensures))
+returns-2 c = λ s. allows (lent (c .before .before .before .before .before .before .before .before .before .before .before .before) s) _ (c .before .before .before .before .before .before .before .before .before .before .before .slot .ensures (lent (c .before .before .before .before .before .before .before .before .before .before .before .before) s) _) (c .before .before .before .before .before .before .before .before .before .before .if1 .left) (none-out (lent (c .before .before .before .before .before .before .before .before .before .before .before .before) s) _ _ (c .before .before .before .before .before .before .before .buffers-of .ensures) (c .before .before .before .buffer-at .ensures) (c .before .before .is-out .ensures) (c .before .if2 .taken) (c .plain2 .ensures))
 
 free-of-requires : tie.Need-free-of-requires
 free-of-requires c κs = marked _ _ (c .before .before .before .before .before .before .buffers-of .ensures)
@@ -96,7 +95,7 @@ plain-requires-3 : tie.Need-plain-requires-3
 plain-requires-3 c κs = tt
 
 returns-3 : tie.Need-returns-3
-returns-3 c = λ s. allows _ _ (c .before .before .before .before .before .before .before .before .before .before .before .before .before .before .before .slot .ensures _ _) (c .before .before .before .before .before .before .before .before .before .before .before .before .before .before .if1 .left) (comes-back _ _ _ (c .before .before .before .before .before .before .before .before .before .before .before .buffers-of .ensures) (c .before .before .before .before .before .before .before .buffer-at .ensures) (c .before .before .before .before .before .before .is-out .ensures) (c .before .before .before .before .before .if2 .left) (c .before .before .before .before .free-of .ensures) (c .before .before .before .give-back .ensures) (c .before .join-last .ensures) (c .plain3 .ensures))
+returns-3 c = λ s. allows (lent (c .before .before .before .before .before .before .before .before .before .before .before .before .before .before .before .before) s) _ (c .before .before .before .before .before .before .before .before .before .before .before .before .before .before .before .slot .ensures (lent (c .before .before .before .before .before .before .before .before .before .before .before .before .before .before .before .before) s) _) (c .before .before .before .before .before .before .before .before .before .before .before .before .before .before .if1 .left) (comes-back (lent (c .before .before .before .before .before .before .before .before .before .before .before .before .before .before .before .before) s) _ _ (c .before .before .before .before .before .before .before .before .before .before .before .buffers-of .ensures) (c .before .before .before .before .before .before .before .buffer-at .ensures) (c .before .before .before .before .before .before .is-out .ensures) (c .before .before .before .before .before .if2 .left) (c .before .before .before .before .free-of .ensures) (c .before .before .before .give-back .ensures) (c .before .join-last .ensures) (c .plain3 .ensures))
 
 pub pool-ret-buff-spec : {M : Type 1} → statement M
 pool-ret-buff-spec =

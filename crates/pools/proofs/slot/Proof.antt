@@ -10,9 +10,6 @@ use Rattle.tables.proofs.Laws.{named-below}
 use Rattle.pools.proofs.Laws.{slot-told, slot-given}
 use Rattle.pools.proofs.slot.Statement.{statement}
 use Rattle.pools.proofs.slot.Tie as tie
-use Rattle.pools.proofs.slot.Reads as reads
-use Rattle.pools.proofs.slot.Lts as lts
-use Rattle.tables.proofs.find.Reads as find-reads
 
 find-requires : tie.Need-find-requires
 find-requires c κs = search needs

@@ -11,11 +11,6 @@ use borrow.Author.Needs.{fits-under}
 use Rattle.pools.proofs.Laws.{few-statuses}
 use Rattle.pools.proofs.slot_for.Statement.{statement}
 use Rattle.pools.proofs.slot_for.Tie as tie
-use Rattle.pools.proofs.slot_for.Reads as reads
-use Rattle.pools.proofs.slot_for.Lts as lts
-use Rattle.areas.proofs.overlapped.Reads as overlapped-reads
-use Rattle.pools.proofs.refusal.Reads as refusal-reads
-use Rattle.tables.proofs.lowest_usable.Reads as lowest-usable-reads
 
 refusal-requires : tie.Need-refusal-requires
 refusal-requires c κs = search needs

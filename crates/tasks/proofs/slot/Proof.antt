@@ -10,9 +10,6 @@ use Rattle.tables.proofs.Laws.{named-below}
 use Rattle.tasks.proofs.Laws.{slot-told, slot-given, names-self, names-none, names-other}
 use Rattle.tasks.proofs.slot.Statement.{statement}
 use Rattle.tasks.proofs.slot.Tie as tie
-use Rattle.tasks.proofs.slot.Reads as reads
-use Rattle.tasks.proofs.slot.Lts as lts
-use Rattle.tables.proofs.find.Reads as find-reads
 
 cast-result : tie.Need-cast-result
 cast-result c = search needs

@@ -3,25 +3,27 @@
 use lib.Dec.{lit<}
 use borrow.Author.Needs.{needs, scaled-fits}
 use native.Mathlib.Omega.{arith}
-use mathlib.Core.Path.{_≡_, refl}
+use mathlib.Core.Path.{_≡_}
 use lib.ListN.{length}
 use denote.Ref.{now}
 use Rattle.tables.proofs.Laws.{serial-left}
 use Rattle.tasks.proofs.Laws.{create-unfit, create-full, creates}
+use Rattle.scope.specs.declared.State.{State}
+use Rattle.answers.specs.Columns.{lentTasks}
 use Rattle.tasks.proofs.task_create.Statement.{statement}
 use Rattle.tasks.proofs.task_create.Tie as tie
-use Rattle.tasks.proofs.task_create.Reads as reads
-use Rattle.tasks.proofs.task_create.Lts as lts
-use Rattle.answers.proofs.gives.Reads as gives-reads
-use Rattle.answers.proofs.plain.Reads as plain-reads
-use Rattle.tables.proofs.identifier.Reads as identifier-reads
-use Rattle.tables.proofs.lowest_usable.Reads as lowest-usable-reads
+
+-- the state that the call is lent
+abbrev lent : tie.Start → State → State
+lent c s =
+    lentTasks s (s .line .left) (s .line .seat) (s .line .joined) (s .line .rings) (now (c .args .names)) (now (c .args .serial)) (now (c .args .live))
+    (now (c .args .started)) (now (c .args .suspended)) (now (c .args .priorities)) (c .args .running)
 
 plain-requires : tie.Need-plain-requires
 plain-requires c κs = tt
 
 returns : tie.Need-returns
-returns c = λ s. create-unfit _ _ _ (c .before .if1 .taken) (c .plain .ensures)
+returns c = λ s. create-unfit (lent (c .before .before) s) _ _ (c .before .if1 .taken) (c .plain .ensures)
 
 lowest-usable-requires : tie.Need-lowest-usable-requires
 lowest-usable-requires c κs = tt
@@ -30,7 +32,7 @@ plain-requires-2 : tie.Need-plain-requires-2
 plain-requires-2 c κs = tt
 
 returns-2 : tie.Need-returns-2
-returns-2 c = λ s. let l : length (now (c .before .before .before .before .before .before .before .before .args .serial)) ≡ 32 = search needs in create-full _ _ _ (c .before .before .before .before .before .before .before .if1 .left) (c .before .before .lowest-usable .ensures) l (c .before .if2 .taken) (c .plain2 .ensures)
+returns-2 c = λ s. let l : length (now (c .before .before .before .before .before .before .before .before .args .serial)) ≡ 32 = search needs in create-full (lent (c .before .before .before .before .before .before .before .before) s) _ _ (c .before .before .before .before .before .before .before .if1 .left) (c .before .before .lowest-usable .ensures) l (c .before .if2 .taken) (c .plain2 .ensures)
 
 mul-next : tie.Need-mul-next
 mul-next c = scaled-fits _ 32 _ (c .if2 .left) (lit< tt)
@@ -75,7 +77,7 @@ gives-requires : tie.Need-gives-requires
 gives-requires c κs = tt
 
 returns-3 : tie.Need-returns-3
-returns-3 c = λ s. let l : length (now (c .before .before .before .before .before .before .before .before .before .before .args .serial)) ≡ 32 = search needs in creates _ _ _ (c .before .before .before .before .before .before .before .before .before .if1 .left) (c .before .before .before .before .lowest-usable .ensures) l (c .before .before .before .if2 .left) (c .before .identifier .ensures) (c .gives .ensures)
+returns-3 c = λ s. let l : length (now (c .before .before .before .before .before .before .before .before .before .before .args .serial)) ≡ 32 = search needs in creates (lent (c .before .before .before .before .before .before .before .before .before .before) s) _ _ (c .before .before .before .before .before .before .before .before .before .if1 .left) (c .before .before .before .before .lowest-usable .ensures) l (c .before .before .before .if2 .left) (c .before .identifier .ensures) (c .gives .ensures)
 
 pub task-create-spec : {M : Type 1} → statement M
 task-create-spec =

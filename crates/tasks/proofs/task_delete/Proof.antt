@@ -4,14 +4,17 @@ use lib.Dec.{lit<}
 use borrow.Author.Needs.{needs, scaled-fits}
 use mathlib.Core.Path.{refl}
 use Rattle.tasks.proofs.Laws.{refuses, allows, deletes}
+use denote.Ref.{now}
+use Rattle.scope.specs.declared.State.{State}
+use Rattle.answers.specs.Columns.{lentTasks}
 use Rattle.tasks.proofs.task_delete.Statement.{statement}
 use Rattle.tasks.proofs.task_delete.Tie as tie
-use Rattle.tasks.proofs.task_delete.Reads as reads
-use Rattle.tasks.proofs.task_delete.Lts as lts
-use Rattle.answers.proofs.plain.Reads as plain-reads
-use Rattle.seats.proofs.runner.Reads as runner-reads
-use Rattle.seats.proofs.take_out.Reads as take-out-reads
-use Rattle.tasks.proofs.slot.Reads as slot-reads
+
+-- the state that the call is lent
+abbrev lent : tie.Start → State → State
+lent c s =
+    lentTasks s (now (c .args .left)) (now (c .args .seat)) (now (c .args .joined)) (now (c .args .rings)) (now (c .args .name))
+    (now (c .args .serial)) (now (c .args .live)) (now (c .args .started)) (now (c .args .suspended)) (now (c .args .priority)) (c .args .running)
 
 slot-requires : tie.Need-slot-requires
 slot-requires c κs = tt
@@ -20,7 +23,7 @@ plain-requires : tie.Need-plain-requires
 plain-requires c κs = tt
 
 returns : tie.Need-returns
-returns c = λ s. refuses _ _ (c .before .before .slot .ensures _ _ refl refl refl) (c .before .if1 .taken) (c .plain .ensures)
+returns c = λ s. refuses (lent (c .before .before .before .before) s) _ (c .before .before .slot .ensures (lent (c .before .before .before .before) s) _ refl refl refl) (c .before .if1 .taken) (c .plain .ensures)
 
 cast-t : tie.Need-cast-t
 cast-t c = search needs
@@ -65,7 +68,7 @@ plain-requires-2 : tie.Need-plain-requires-2
 plain-requires-2 c κs = tt
 
 returns-2 : tie.Need-returns-2
-returns-2 c = λ s. allows _ _ (c .before .before .before .before .before .before .before .before .slot .ensures _ _ refl refl refl) (c .before .before .before .before .before .before .before .if1 .left) (deletes _ _ (c .before .before .before .before .take-out .ensures) (c .before .runner .ensures) (c .plain2 .ensures))
+returns-2 c = λ s. allows (lent (c .before .before .before .before .before .before .before .before .before .before) s) _ (c .before .before .before .before .before .before .before .before .slot .ensures (lent (c .before .before .before .before .before .before .before .before .before .before) s) _ refl refl refl) (c .before .before .before .before .before .before .before .if1 .left) (deletes (lent (c .before .before .before .before .before .before .before .before .before .before) s) _ (c .before .before .before .before .take-out .ensures) (c .before .runner .ensures) (c .plain2 .ensures))
 
 pub task-delete-spec : {M : Type 1} → statement M
 task-delete-spec =

@@ -4,18 +4,17 @@ use lib.Dec.{lit<}
 use borrow.Author.Needs.{needs, scaled-fits}
 use mathlib.Core.Path.{refl}
 use Rattle.tasks.proofs.Laws.{refuses, allows, set-unfit, set-ready, set-other}
+use denote.Ref.{now}
+use Rattle.scope.specs.declared.State.{State}
+use Rattle.answers.specs.Columns.{lentTasks}
 use Rattle.tasks.proofs.task_set_priority.Statement.{statement}
 use Rattle.tasks.proofs.task_set_priority.Tie as tie
-use Rattle.tasks.proofs.task_set_priority.Reads as reads
-use Rattle.tasks.proofs.task_set_priority.Lts as lts
-use Rattle.answers.proofs.gives.Reads as gives-reads
-use Rattle.answers.proofs.plain.Reads as plain-reads
-use Rattle.seats.proofs.put_in.Reads as put-in-reads
-use Rattle.seats.proofs.runner.Reads as runner-reads
-use Rattle.seats.proofs.take_out.Reads as take-out-reads
-use Rattle.tasks.proofs.is_ready.Reads as is-ready-reads
-use Rattle.tasks.proofs.slot.Reads as slot-reads
-use Rattle.tasks.proofs.wide.Reads as wide-reads
+
+-- the state that the call is lent
+abbrev lent : tie.Start → State → State
+lent c s =
+    lentTasks s (s .line .left) (now (c .args .seat)) (now (c .args .joined)) (now (c .args .rings)) (s .tasks .name) (now (c .args .serial)) (now (c .args .live))
+    (now (c .args .started)) (now (c .args .suspended)) (now (c .args .priorities)) (c .args .running)
 
 slot-requires : tie.Need-slot-requires
 slot-requires c κs = tt
@@ -24,7 +23,7 @@ plain-requires : tie.Need-plain-requires
 plain-requires c κs = tt
 
 returns : tie.Need-returns
-returns c = λ s. refuses _ _ (c .before .before .slot .ensures _ _ refl refl refl) (c .before .if1 .taken) (c .plain .ensures)
+returns c = λ s. refuses (lent (c .before .before .before) s) _ (c .before .before .slot .ensures (lent (c .before .before .before) s) _ refl refl refl) (c .before .if1 .taken) (c .plain .ensures)
 
 cast-t : tie.Need-cast-t
 cast-t c = search needs
@@ -33,7 +32,7 @@ plain-requires-2 : tie.Need-plain-requires-2
 plain-requires-2 c κs = tt
 
 returns-2 : tie.Need-returns-2
-returns-2 c = λ s. allows _ _ (c .before .before .before .slot .ensures _ _ refl refl refl) (c .before .before .if1 .left) (set-unfit _ _ _ (c .before .if2 .taken) (c .plain2 .ensures))
+returns-2 c = λ s. allows (lent (c .before .before .before .before) s) _ (c .before .before .before .slot .ensures (lent (c .before .before .before .before) s) _ refl refl refl) (c .before .before .if1 .left) (set-unfit (lent (c .before .before .before .before) s) _ _ (c .before .if2 .taken) (c .plain2 .ensures))
 
 element-copy-out-before : tie.Need-element-copy-out-before
 element-copy-out-before c = c .before .if1 .left
@@ -78,7 +77,7 @@ gives-requires : tie.Need-gives-requires
 gives-requires c κs = tt
 
 returns-3 : tie.Need-returns-3
-returns-3 c = λ s. allows _ _ (c .before .before .before .before .before .before .before .before .before .before .before .before .before .before .before .before .before .before .before .slot .ensures _ _ refl refl refl) (c .before .before .before .before .before .before .before .before .before .before .before .before .before .before .before .before .before .before .if1 .left) (set-ready _ _ _ (c .before .before .before .before .before .before .before .before .before .before .before .before .before .before .before .before .before .if2 .left) (c .before .before .before .before .before .before .before .before .before .before .before .before .is-ready .ensures) (c .before .before .before .before .wide .ensures) (c .before .before .before .before .before .before .before .before .before .before .before .if3 .taken) (c .before .before .before .before .before .before .before .before .take-out .ensures) (c .before .before .before .before .before .put-in .ensures) (c .before .runner .ensures) (c .gives .ensures))
+returns-3 c = λ s. allows (lent (c .before .before .before .before .before .before .before .before .before .before .before .before .before .before .before .before .before .before .before .before) s) _ (c .before .before .before .before .before .before .before .before .before .before .before .before .before .before .before .before .before .before .before .slot .ensures (lent (c .before .before .before .before .before .before .before .before .before .before .before .before .before .before .before .before .before .before .before .before) s) _ refl refl refl) (c .before .before .before .before .before .before .before .before .before .before .before .before .before .before .before .before .before .before .if1 .left) (set-ready (lent (c .before .before .before .before .before .before .before .before .before .before .before .before .before .before .before .before .before .before .before .before) s) _ _ (c .before .before .before .before .before .before .before .before .before .before .before .before .before .before .before .before .before .if2 .left) (c .before .before .before .before .before .before .before .before .before .before .before .before .is-ready .ensures) (c .before .before .before .before .wide .ensures) (c .before .before .before .before .before .before .before .before .before .before .before .if3 .taken) (c .before .before .before .before .before .before .before .before .take-out .ensures) (c .before .before .before .before .before .put-in .ensures) (c .before .runner .ensures) (c .gives .ensures))
 
 wide-requires-2 : tie.Need-wide-requires-2
 wide-requires-2 c κs = tt
@@ -87,7 +86,7 @@ gives-requires-2 : tie.Need-gives-requires-2
 gives-requires-2 c κs = tt
 
 returns-4 : tie.Need-returns-4
-returns-4 c = λ s. allows _ _ (c .before .before .before .before .before .before .before .before .before .before .slot .ensures _ _ refl refl refl) (c .before .before .before .before .before .before .before .before .before .if1 .left) (set-other _ _ _ (c .before .before .before .before .before .before .before .before .if2 .left) (c .before .before .before .is-ready .ensures) (c .before .wide2 .ensures) (c .before .before .if3 .left) (c .gives2 .ensures))
+returns-4 c = λ s. allows (lent (c .before .before .before .before .before .before .before .before .before .before .before) s) _ (c .before .before .before .before .before .before .before .before .before .before .slot .ensures (lent (c .before .before .before .before .before .before .before .before .before .before .before) s) _ refl refl refl) (c .before .before .before .before .before .before .before .before .before .if1 .left) (set-other (lent (c .before .before .before .before .before .before .before .before .before .before .before) s) _ _ (c .before .before .before .before .before .before .before .before .if2 .left) (c .before .before .before .is-ready .ensures) (c .before .wide2 .ensures) (c .before .before .if3 .left) (c .gives2 .ensures))
 
 pub task-set-priority-spec : {M : Type 1} → statement M
 task-set-priority-spec =

@@ -1,17 +1,20 @@
 -- `tasks::task_start`: 20 by the test of the flag, else the task becomes ready.
 -- Assumes nothing.
 use lib.Dec.{lit<}
-use borrow.Author.Needs.{needs, scaled-fits}
+use borrow.Author.Needs.{needs}
 use mathlib.Core.Path.{refl}
 use Rattle.tasks.proofs.Laws.{refuses, allows, start-again, starts}
+use denote.Ref.{now}
+use Rattle.scope.specs.declared.State.{State}
+use Rattle.answers.specs.Columns.{lentTasks}
 use Rattle.tasks.proofs.task_start.Statement.{statement}
 use Rattle.tasks.proofs.task_start.Tie as tie
-use Rattle.tasks.proofs.task_start.Reads as reads
-use Rattle.tasks.proofs.task_start.Lts as lts
-use Rattle.answers.proofs.plain.Reads as plain-reads
-use Rattle.seats.proofs.put_in.Reads as put-in-reads
-use Rattle.seats.proofs.runner.Reads as runner-reads
-use Rattle.tasks.proofs.slot.Reads as slot-reads
+
+-- the state that the call is lent
+abbrev lent : tie.Start → State → State
+lent c s =
+    lentTasks s (s .line .left) (now (c .args .seat)) (now (c .args .joined)) (now (c .args .rings)) (s .tasks .name) (now (c .args .serial))
+    (now (c .args .live)) (now (c .args .started)) (s .tasks .suspended) (now (c .args .priority)) (c .args .running)
 
 slot-requires : tie.Need-slot-requires
 slot-requires c κs = tt
@@ -20,7 +23,7 @@ plain-requires : tie.Need-plain-requires
 plain-requires c κs = tt
 
 returns : tie.Need-returns
-returns c = λ s. refuses _ _ (c .before .before .slot .ensures _ _ refl refl refl) (c .before .if1 .taken) (c .plain .ensures)
+returns c = λ s. refuses (lent (c .before .before .before) s) _ (c .before .before .slot .ensures (lent (c .before .before .before) s) _ refl refl refl) (c .before .if1 .taken) (c .plain .ensures)
 
 cast-t : tie.Need-cast-t
 cast-t c = search needs
@@ -32,7 +35,7 @@ plain-requires-2 : tie.Need-plain-requires-2
 plain-requires-2 c κs = tt
 
 returns-2 : tie.Need-returns-2
-returns-2 c = λ s. allows _ _ (c .before .before .before .before .slot .ensures _ _ refl refl refl) (c .before .before .before .if1 .left) (start-again _ _ (c .before .if2 .taken) (c .plain2 .ensures))
+returns-2 c = λ s. allows (lent (c .before .before .before .before .before) s) _ (c .before .before .before .before .slot .ensures (lent (c .before .before .before .before .before) s) _ refl refl refl) (c .before .before .before .if1 .left) (start-again (lent (c .before .before .before .before .before) s) _ (c .before .if2 .taken) (c .plain2 .ensures))
 
 element-write-started : tie.Need-element-write-started
 element-write-started c = c .before .before .if1 .left
@@ -53,7 +56,7 @@ plain-requires-3 : tie.Need-plain-requires-3
 plain-requires-3 c κs = tt
 
 returns-3 : tie.Need-returns-3
-returns-3 c = λ s. allows _ _ (c .before .before .before .before .before .before .before .before .before .before .before .slot .ensures _ _ refl refl refl) (c .before .before .before .before .before .before .before .before .before .before .if1 .left) (starts _ _ (c .before .before .before .before .before .before .before .before .if2 .left) (c .before .before .before .before .put-in .ensures) (c .before .runner .ensures) (c .plain3 .ensures))
+returns-3 c = λ s. allows (lent (c .before .before .before .before .before .before .before .before .before .before .before .before) s) _ (c .before .before .before .before .before .before .before .before .before .before .before .slot .ensures (lent (c .before .before .before .before .before .before .before .before .before .before .before .before) s) _ refl refl refl) (c .before .before .before .before .before .before .before .before .before .before .if1 .left) (starts (lent (c .before .before .before .before .before .before .before .before .before .before .before .before) s) _ (c .before .before .before .before .before .before .before .before .if2 .left) (c .before .before .before .before .put-in .ensures) (c .before .runner .ensures) (c .plain3 .ensures))
 
 pub task-start-spec : {M : Type 1} → statement M
 task-start-spec =
