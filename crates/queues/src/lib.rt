@@ -10,47 +10,74 @@ ghost use Prim.Native.Nat.{ℕ, _<_, _≤_};
 ghost use mathlib.Core.List.{List};
 ghost use lib.ListN.{getD, length};
 ghost use Rattle.scope.specs.declared.State.{State};
-ghost use Rattle.scope.specs.Choice.{pick};
-ghost use Rattle.scope.specs.Answers.{noWakes, noMessage};
-ghost use Rattle.scope.specs.Messages.{store, cellOf, appended, pushed};
-ghost use Rattle.scope.specs.Queues.{queueCreateAt, queueCreate, queueDeleteAt, queueDelete, queueIdent, fitsQueue, queuePutAt};
-ghost use Rattle.scope.specs.Queues.{queueSend, queueJump, queueWaitAt, queueReceiveAt, queueReceive, queueInfoAt, queueInfo};
+ghost use Rattle.scope.specs.Answers.{noWakes};
+ghost use Rattle.scope.specs.Identifiers.{found};
+ghost use Rattle.scope.specs.Queues.{queueCreate, queueDelete, queueIdent, fitsQueue, queueSend, queueJump, queueReceive, queueInfo};
 ghost use Rattle.answers.specs.Outcomes.{answerShown, answerOf};
 ghost use Rattle.answers.specs.Columns.{lentQueues};
-ghost use Rattle.queues.specs.Handing.{handed};
+ghost use Rattle.queues.specs.Handing.{handed, slotOf, roomOf, way, wayOf, receiveStatus};
 
-fn create_at(
-    name: &mut [u32; 8],
-    serial: &mut [u16; 8],
-    live: &mut [bool; 8],
-    fifo: &mut [bool; 8],
-    limits: &mut [u8; 16],
-    running: usize,
-    what: u32,
-    most: u8,
-    longest: u8,
-    options: u32,
-    i: usize,
-) -> Outcome
-    requires { ⌜ (length (now serial) ≡ 8) × (i < 8 → getD (now serial) i 0 < 65535) ⌝ }
-    ensures { λ r. ⌜ ((s : State) → answerOf (lentQueues s (s .line .left) (s .line .seat) (s .line .joined) (s .line .rings)
-        (s .tasks .serial) (s .tasks .suspended) (s .tasks .priority) (now (name .exit)) (now (serial .exit)) (now (live .exit))
-        (now (fifo .exit)) (now (limits .exit)) (s .queues .held) (s .queues .cells) running) noWakes r
-        ≡ queueCreateAt (lentQueues s (s .line .left) (s .line .seat) (s .line .joined) (s .line .rings) (s .tasks .serial)
-        (s .tasks .suspended) (s .tasks .priority) (now (name .entry)) (now (serial .entry)) (now (live .entry)) (now (fifo .entry))
-        (now (limits .entry)) (s .queues .held) (s .queues .cells) running) what most longest options i) ⌝ }
+// What a call works on: the queue's slot, and the refusal where there is one, else OK.
+struct Slot {
+    at: usize,
+    status: u32,
+}
+
+// The queue an identifier names.
+fn named<'a>(serial: &'a [u16; 8], live: &'a [bool; 8], id: u32) -> Slot
+    ensures { λ r. ⌜ r ≡ slotOf (found (now (serial .entry)) (now (live .entry)) id) ⌝ }
+    ensures { λ r. ⌜ r .at < 8 ⌝ }
 {
-    if 8 <= i {
-        return answers::plain(scope::TOO_MANY_OBJECTS, running);
+    match tables::find(serial, live, id) {
+        Found::At(i) => Slot {
+            at: i,
+            status: scope::OK,
+        },
+        Found::Deleted => Slot {
+            at: 0,
+            status: scope::OBJECT_DELETED,
+        },
+        Found::Invalid => Slot {
+            at: 0,
+            status: scope::INVALID_ID,
+        },
     }
-    let next = serial[i] + 1;
-    name[i] = what;
-    serial[i] = next;
-    live[i] = true;
-    fifo[i] = options == 1;
-    limits[2 * i] = most;
-    limits[2 * i + 1] = longest;
-    answers::gives(tables::identifier(next, i), running)
+}
+
+// The slot a new queue takes.
+fn room<'a>(
+    serial: &'a [u16; 8],
+    live: &'a [bool; 8],
+    most: u32,
+    longest: u32,
+    options: u32,
+) -> Slot
+    ensures { λ r. ⌜ r ≡ roomOf (now (serial .entry)) (now (live .entry)) most longest options ⌝ }
+    ensures { λ r. ⌜ (r .at < 8) × (r .status ≡ 0 → (getD (now (serial .entry)) (r .at) 0 < 65535) × (most ≤ 16) × (longest ≤ 64)) ⌝ }
+{
+    if !messages::are_limits(most, longest) {
+        return Slot {
+            at: 0,
+            status: scope::INVALID_PARAMETER,
+        };
+    }
+    if 1 < options {
+        return Slot {
+            at: 0,
+            status: scope::INVALID_OPTIONS,
+        };
+    }
+    let i = tables::lowest_usable(serial, live);
+    if 8 <= i {
+        return Slot {
+            at: 0,
+            status: scope::TOO_MANY_OBJECTS,
+        };
+    }
+    Slot {
+        at: i,
+        status: scope::OK,
+    }
 }
 
 pub fn queue_create(
@@ -72,75 +99,22 @@ pub fn queue_create(
         (s .tasks .suspended) (s .tasks .priority) (now (name .entry)) (now (serial .entry)) (now (live .entry)) (now (fifo .entry))
         (now (limits .entry)) (s .queues .held) (s .queues .cells) running) what most longest options) ⌝ }
 {
-    if !messages::are_limits(most, longest) {
-        return answers::plain(scope::INVALID_PARAMETER, running);
+    let f = room(&*serial, &*live, most, longest, options);
+    if f.status != scope::OK {
+        return answers::plain(f.status, running);
     }
-    if 1 < options {
-        return answers::plain(scope::INVALID_OPTIONS, running);
-    }
-    let i = tables::lowest_usable(&serial[..], &live[..]);
-    create_at(
-        name,
-        serial,
-        live,
-        fifo,
-        limits,
-        running,
-        what,
-        most as u8,
-        longest as u8,
-        options,
-        i,
-    )
+    let i = f.at;
+    let next = serial[i] + 1;
+    name[i] = what;
+    serial[i] = next;
+    live[i] = true;
+    fifo[i] = options == 1;
+    limits[2 * i] = most as u8;
+    limits[2 * i + 1] = longest as u8;
+    answers::gives(tables::identifier(next, i), running)
 }
 
 // "Delete drops what is held and wakes waiters in order."
-fn delete_at(
-    left: &mut [u32; 32],
-    seat: &mut [u16; 32],
-    joined: &mut [u8; 32],
-    rings: &mut [u16; 1],
-    waker: &[u16; 32],
-    suspended: &[bool; 32],
-    priority: &[u8; 32],
-    name: &mut [u32; 8],
-    live: &mut [bool; 8],
-    fifo: &mut [bool; 8],
-    limits: &mut [u8; 16],
-    held: &mut [u8; 8],
-    cells: &mut [u8; 8320],
-    wakes: &mut [u32; 32],
-    i: usize,
-) -> Outcome
-    requires { ⌜ i < 8 ⌝ }
-    requires { ⌜ now wakes ≡ noWakes ⌝ }
-    ensures { λ r. ⌜ ((s : State) (serial : List ℕ) (running : ℕ) → answerOf (lentQueues s (now (left .exit)) (now (seat .exit))
-        (now (joined .exit)) (now (rings .exit)) (now (waker .entry)) (now (suspended .entry)) (now (priority .entry)) (now (name .exit))
-        serial (now (live .exit)) (now (fifo .exit)) (now (limits .exit)) (now (held .exit)) (now (cells .exit)) running) (now (wakes .exit)) r
-        ≡ queueDeleteAt (lentQueues s (now (left .entry)) (now (seat .entry)) (now (joined .entry)) (now (rings .entry)) (now (waker .entry))
-        (now (suspended .entry)) (now (priority .entry)) (now (name .entry)) serial (now (live .entry)) (now (fifo .entry))
-        (now (limits .entry)) (now (held .entry)) (now (cells .entry)) running) i) ⌝ }
-{
-    let woken = waiting::wake_all(
-        left,
-        seat,
-        joined,
-        rings,
-        waker,
-        suspended,
-        priority,
-        wakes,
-        16 + i,
-    );
-    messages::clear(cells, held, i);
-    name[i] = 0;
-    live[i] = false;
-    fifo[i] = false;
-    limits[2 * i] = 0;
-    limits[2 * i + 1] = 0;
-    answers::woke(woken, scope::QUEUE_DELETED, seats::runner(seat, rings[0]))
-}
-
 pub fn queue_delete(
     left: &mut [u32; 32],
     seat: &mut [u16; 32],
@@ -167,27 +141,29 @@ pub fn queue_delete(
         (now (limits .entry)) (now (held .entry)) (now (cells .entry)) (x .running)) (x .a)) ⌝ }
 {
     *wakes = [0; 32];
-    match tables::find(serial, &live[..], x.a) {
-        Found::At(i) => delete_at(
-            left,
-            seat,
-            joined,
-            rings,
-            waker,
-            suspended,
-            priority,
-            name,
-            live,
-            fifo,
-            limits,
-            held,
-            cells,
-            wakes,
-            i,
-        ),
-        Found::Deleted => answers::plain(scope::OBJECT_DELETED, x.running),
-        Found::Invalid => answers::plain(scope::INVALID_ID, x.running),
+    let f = named(serial, &*live, x.a);
+    if f.status != scope::OK {
+        return answers::plain(f.status, x.running);
     }
+    let i = f.at;
+    let woken = waiting::wake_all(
+        left,
+        seat,
+        joined,
+        rings,
+        waker,
+        suspended,
+        priority,
+        wakes,
+        16 + i,
+    );
+    messages::clear(cells, held, i);
+    name[i] = 0;
+    live[i] = false;
+    fifo[i] = false;
+    limits[2 * i] = 0;
+    limits[2 * i + 1] = 0;
+    answers::woke(woken, scope::QUEUE_DELETED, seats::runner(seat, rings[0]))
 }
 
 pub fn queue_ident<'a>(
@@ -211,14 +187,6 @@ pub fn queue_ident<'a>(
     answers::gives(tables::identifier(serial[i], i), running)
 }
 
-// What is put in a queue: the queue's slot, the message's length, whether it is put in front; and the slot of who runs.
-struct Put {
-    slot: usize,
-    length: u32,
-    jump: bool,
-    running: usize,
-}
-
 fn wide(x: u8) -> u32
     ensures { λ r. ⌜ r ≡ x ⌝ }
 {
@@ -236,6 +204,61 @@ fn fits(longest: u8, n: u32, message: &[u8]) -> bool
         return false;
     }
     (n as usize) <= message.len()
+}
+
+// Where a message goes: the queue's slot, the slot of the waiter that gets it (32 where it is held), and the refusal, else OK.
+struct Way {
+    slot: usize,
+    to: usize,
+    status: u32,
+}
+
+// No waiter gets it.
+fn to_none(slot: usize, status: u32) -> Way
+    ensures { λ r. ⌜ r ≡ way slot 32 status ⌝ }
+{
+    Way {
+        slot: slot,
+        to: 32,
+        status: status,
+    }
+}
+
+// "A message goes to the first waiter or else to the end". 27 before 28.
+fn way_of<'a>(
+    seat: &[u16; 32],
+    serial: &'a [u16; 8],
+    live: &'a [bool; 8],
+    limits: &[u8; 16],
+    held: &[u8; 8],
+    message: &[u8],
+    id: u32,
+    n: u32,
+) -> Way
+    ensures { λ r. ⌜ r ≡ wayOf (slotOf (found (now (serial .entry)) (now (live .entry)) id)) (now (seat .entry)) (now (limits .entry))
+        (now (held .entry)) n (now (message .entry)) ⌝ }
+    ensures { λ r. ⌜ (r .slot < 8) × (r .status ≡ 0 → (n ≤ 64) × (n ≤ length (now (message .entry)))) ⌝ }
+{
+    let f = named(serial, live, id);
+    let i = f.at;
+    if f.status != scope::OK {
+        return to_none(i, f.status);
+    }
+    if !fits(limits[2 * i + 1], n, message) {
+        return to_none(i, scope::INVALID_LENGTH);
+    }
+    let t = seats::first_waiter(seat, 16 + i);
+    if t < 32 {
+        return Way {
+            slot: i,
+            to: t,
+            status: scope::OK,
+        };
+    }
+    if limits[2 * i] <= held[i] {
+        return to_none(i, scope::QUEUE_FULL);
+    }
+    to_none(i, scope::OK)
 }
 
 // The message goes to the first waiter `t`: it is shown beside the wake.
@@ -278,75 +301,6 @@ fn deliver(
     answers::delivered(n, seats::runner(seat, rings[0]))
 }
 
-// The message is held: "to the end", or "jump puts it in front".
-fn hold(held: &mut [u8; 8], cells: &mut [u8; 8320], message: &[u8], n: u32, jump: bool, i: usize)
-    requires { ⌜ (i < 8) × (n ≤ 64) × (n ≤ length (now message)) ⌝ }
-    ensures { λ r. ⌜ store (now (cells .exit)) (now (held .exit))
-        ≡ pick jump pushed appended (store (now (cells .entry)) (now (held .entry))) i (cellOf (now (message .entry)) n) ⌝ }
-{
-    let cell = messages::cell_of(message, n as usize);
-    if jump {
-        messages::push_front(cells, held, i, cell);
-        return;
-    }
-    messages::append(cells, held, i, cell);
-}
-
-// "A message goes to the first waiter or else to the end; jump puts it in front." 27 before 28.
-fn put_at(
-    left: &mut [u32; 32],
-    seat: &mut [u16; 32],
-    joined: &mut [u8; 32],
-    rings: &mut [u16; 1],
-    waker: &[u16; 32],
-    suspended: &[bool; 32],
-    priority: &[u8; 32],
-    limits: &[u8; 16],
-    held: &mut [u8; 8],
-    cells: &mut [u8; 8320],
-    wakes: &mut [u32; 32],
-    shown: &mut [u8; 64],
-    message: &[u8],
-    p: Put,
-) -> Outcome
-    requires { ⌜ p .slot < 8 ⌝ }
-    requires { ⌜ (now wakes ≡ noWakes) × (now shown ≡ noMessage) ⌝ }
-    ensures { λ r. ⌜ ((s : State) (name serial : List ℕ) (live fifo : List Bool) → answerShown (lentQueues s (now (left .exit))
-        (now (seat .exit)) (now (joined .exit)) (now (rings .exit)) (now (waker .entry)) (now (suspended .entry)) (now (priority .entry))
-        name serial live fifo (now (limits .entry)) (now (held .exit)) (now (cells .exit)) (p .running)) (now (wakes .exit))
-        (now (shown .exit)) r
-        ≡ queuePutAt (pick (p .jump) pushed appended) (lentQueues s (now (left .entry)) (now (seat .entry)) (now (joined .entry))
-        (now (rings .entry)) (now (waker .entry)) (now (suspended .entry)) (now (priority .entry)) name serial live fifo
-        (now (limits .entry)) (now (held .entry)) (now (cells .entry)) (p .running)) (p .length) (now (message .entry)) (p .slot)) ⌝ }
-{
-    let i = p.slot;
-    if !fits(limits[2 * i + 1], p.length, message) {
-        return answers::plain(scope::INVALID_LENGTH, p.running);
-    }
-    let t = seats::first_waiter(seat, 16 + i);
-    if t < 32 {
-        return deliver(
-            left,
-            seat,
-            joined,
-            rings,
-            waker,
-            suspended,
-            priority,
-            wakes,
-            shown,
-            message,
-            p.length,
-            t,
-        );
-    }
-    if limits[2 * i] <= held[i] {
-        return answers::plain(scope::QUEUE_FULL, p.running);
-    }
-    hold(held, cells, message, p.length, p.jump, i);
-    answers::plain(scope::OK, p.running)
-}
-
 pub fn queue_send<'a>(
     left: &mut [u32; 32],
     seat: &mut [u16; 32],
@@ -375,34 +329,29 @@ pub fn queue_send<'a>(
 {
     *wakes = [0; 32];
     *shown = [0; 64];
-    match tables::find(serial, live, x.a) {
-        Found::At(i) => {
-            let p = Put {
-                slot: i,
-                length: x.b,
-                jump: false,
-                running: x.running,
-            };
-            put_at(
-                left,
-                seat,
-                joined,
-                rings,
-                waker,
-                suspended,
-                priority,
-                limits,
-                held,
-                cells,
-                wakes,
-                shown,
-                message,
-                p,
-            )
-        }
-        Found::Deleted => answers::plain(scope::OBJECT_DELETED, x.running),
-        Found::Invalid => answers::plain(scope::INVALID_ID, x.running),
+    let w = way_of(&*seat, serial, live, limits, &*held, message, x.a, x.b);
+    if w.status != scope::OK {
+        return answers::plain(w.status, x.running);
     }
+    if w.to < 32 {
+        return deliver(
+            left,
+            seat,
+            joined,
+            rings,
+            waker,
+            suspended,
+            priority,
+            wakes,
+            shown,
+            message,
+            x.b,
+            w.to,
+        );
+    }
+    let cell = messages::cell_of(message, x.b as usize);
+    messages::append(cells, held, w.slot, cell);
+    answers::plain(scope::OK, x.running)
 }
 
 pub fn queue_jump<'a>(
@@ -433,113 +382,55 @@ pub fn queue_jump<'a>(
 {
     *wakes = [0; 32];
     *shown = [0; 64];
-    match tables::find(serial, live, x.a) {
-        Found::At(i) => {
-            let p = Put {
-                slot: i,
-                length: x.b,
-                jump: true,
-                running: x.running,
-            };
-            put_at(
-                left,
-                seat,
-                joined,
-                rings,
-                waker,
-                suspended,
-                priority,
-                limits,
-                held,
-                cells,
-                wakes,
-                shown,
-                message,
-                p,
-            )
-        }
-        Found::Deleted => answers::plain(scope::OBJECT_DELETED, x.running),
-        Found::Invalid => answers::plain(scope::INVALID_ID, x.running),
+    let w = way_of(&*seat, serial, live, limits, &*held, message, x.a, x.b);
+    if w.status != scope::OK {
+        return answers::plain(w.status, x.running);
     }
+    if w.to < 32 {
+        return deliver(
+            left,
+            seat,
+            joined,
+            rings,
+            waker,
+            suspended,
+            priority,
+            wakes,
+            shown,
+            message,
+            x.b,
+            w.to,
+        );
+    }
+    let cell = messages::cell_of(message, x.b as usize);
+    messages::push_front(cells, held, w.slot, cell);
+    answers::plain(scope::OK, x.running)
 }
 
-fn wait_at(
-    left: &mut [u32; 32],
-    seat: &mut [u16; 32],
-    joined: &mut [u8; 32],
-    rings: &mut [u16; 1],
-    priority: &[u8; 32],
-    fifo: &[bool; 8],
-    running: usize,
-    ticks: u32,
-    i: usize,
-) -> Outcome
-    requires { ⌜ i < 8 ⌝ }
-    ensures { λ r. ⌜ ((s : State) (serial : List ℕ) (live : List Bool) (held cells : List ℕ) → answerOf (lentQueues s (now (left .exit))
-        (now (seat .exit)) (now (joined .exit)) (now (rings .exit)) (s .tasks .serial) (s .tasks .suspended) (now (priority .entry))
-        (s .queues .name) serial live (now (fifo .entry)) (s .queues .limits) held cells running) noWakes r
-        ≡ queueWaitAt (lentQueues s (now (left .entry)) (now (seat .entry)) (now (joined .entry)) (now (rings .entry)) (s .tasks .serial)
-        (s .tasks .suspended) (now (priority .entry)) (s .queues .name) serial live (now (fifo .entry)) (s .queues .limits) held cells
-        running) ticks i) ⌝ }
+// What a receive is answered: OK where a message is held, PENDING where who runs must wait, else the refusal.
+fn receive_status(holds: u8, options: u32, ticks: u32, running: usize) -> u32
+    ensures { λ r. ⌜ r ≡ receiveStatus holds options ticks running ⌝ }
+    ensures { λ r. ⌜ (r ≡ 1 → running < 32) ⌝ }
 {
-    if 32 <= running {
-        return answers::plain(scope::NO_CALLER, running);
+    if 1 < options {
+        return scope::INVALID_OPTIONS;
     }
-    waiting::wait(
-        left,
-        seat,
-        joined,
-        rings,
-        16 + i,
-        fifo[i],
-        priority[running],
-        ticks,
-        running,
-    );
-    answers::plain(scope::PENDING, seats::runner(seat, rings[0]))
+    if times::lacks_time_out(options, ticks) {
+        return scope::INVALID_PARAMETER;
+    }
+    if 0 < holds {
+        return scope::OK;
+    }
+    if options == 1 {
+        return scope::QUEUE_EMPTY;
+    }
+    if 32 <= running {
+        return scope::NO_CALLER;
+    }
+    scope::PENDING
 }
 
 // "an immediate receive beside the answer, whose first figure is its length"
-fn receive_at(
-    left: &mut [u32; 32],
-    seat: &mut [u16; 32],
-    joined: &mut [u8; 32],
-    rings: &mut [u16; 1],
-    priority: &[u8; 32],
-    fifo: &[bool; 8],
-    held: &mut [u8; 8],
-    cells: &mut [u8; 8320],
-    shown: &mut [u8; 64],
-    running: usize,
-    options: u32,
-    ticks: u32,
-    i: usize,
-) -> Outcome
-    requires { ⌜ i < 8 ⌝ }
-    requires { ⌜ now shown ≡ noMessage ⌝ }
-    ensures { λ r. ⌜ ((s : State) (serial : List ℕ) (live : List Bool) → answerShown (lentQueues s (now (left .exit)) (now (seat .exit))
-        (now (joined .exit)) (now (rings .exit)) (s .tasks .serial) (s .tasks .suspended) (now (priority .entry)) (s .queues .name) serial
-        live (now (fifo .entry)) (s .queues .limits) (now (held .exit)) (now (cells .exit)) running) noWakes (now (shown .exit)) r
-        ≡ queueReceiveAt (lentQueues s (now (left .entry)) (now (seat .entry)) (now (joined .entry)) (now (rings .entry))
-        (s .tasks .serial) (s .tasks .suspended) (now (priority .entry)) (s .queues .name) serial live (now (fifo .entry))
-        (s .queues .limits) (now (held .entry)) (now (cells .entry)) running) options ticks i) ⌝ }
-{
-    if 1 < options {
-        return answers::plain(scope::INVALID_OPTIONS, running);
-    }
-    if times::lacks_time_out(options, ticks) {
-        return answers::plain(scope::INVALID_PARAMETER, running);
-    }
-    if 0 < held[i] {
-        let n = messages::take_first(cells, held, i, shown);
-        return answers::gives(wide(n), running);
-    }
-    if options == 1 {
-        return answers::plain(scope::QUEUE_EMPTY, running);
-    }
-    wait_at(left, seat, joined, rings, priority, fifo, running, ticks, i)
-}
-
 pub fn queue_receive<'a>(
     left: &mut [u32; 32],
     seat: &mut [u16; 32],
@@ -562,43 +453,35 @@ pub fn queue_receive<'a>(
         (s .queues .limits) (now (held .entry)) (now (cells .entry)) (x .running)) (x .a) (x .b) (x .c)) ⌝ }
 {
     *shown = [0; 64];
-    match tables::find(serial, live, x.a) {
-        Found::At(i) => receive_at(
-            left,
-            seat,
-            joined,
-            rings,
-            priority,
-            fifo,
-            held,
-            cells,
-            shown,
-            x.running,
-            x.b,
-            x.c,
-            i,
-        ),
-        Found::Deleted => answers::plain(scope::OBJECT_DELETED, x.running),
-        Found::Invalid => answers::plain(scope::INVALID_ID, x.running),
+    let running = x.running;
+    let f = named(serial, live, x.a);
+    if f.status != scope::OK {
+        return answers::plain(f.status, running);
     }
+    let i = f.at;
+    let status = receive_status(held[i], x.b, x.c, running);
+    if 1 < status {
+        return answers::plain(status, running);
+    }
+    if status == scope::OK {
+        let n = messages::take_first(cells, held, i, shown);
+        return answers::gives(wide(n), running);
+    }
+    waiting::wait(
+        left,
+        seat,
+        joined,
+        rings,
+        16 + i,
+        fifo[i],
+        priority[running],
+        x.c,
+        running,
+    );
+    answers::plain(scope::PENDING, seats::runner(seat, rings[0]))
 }
 
 // "Info gives options, messages held, tasks waiting."
-fn info_at(seat: &[u16; 32], fifo: &[bool; 8], held: &[u8; 8], running: usize, i: usize) -> Outcome
-    requires { ⌜ i < 8 ⌝ }
-    ensures { λ r. ⌜ ((s : State) (serial : List ℕ) (live : List Bool) → answerOf (lentQueues s (s .line .left) (now (seat .entry))
-        (s .line .joined) (s .line .rings) (s .tasks .serial) (s .tasks .suspended) (s .tasks .priority) (s .queues .name) serial live
-        (now (fifo .entry)) (s .queues .limits) (now (held .entry)) (s .queues .cells) running) noWakes r
-        ≡ queueInfoAt (lentQueues s (s .line .left) (now (seat .entry)) (s .line .joined) (s .line .rings) (s .tasks .serial)
-        (s .tasks .suspended) (s .tasks .priority) (s .queues .name) serial live (now (fifo .entry)) (s .queues .limits)
-        (now (held .entry)) (s .queues .cells) running) i) ⌝ }
-{
-    let waiting = seats::waiters(*seat, 16 + i) as u32;
-    let options = answers::bit(fifo[i]);
-    let holds = wide(held[i]);
-    answers::tells(options, holds, waiting, 0, false, running)
-}
-
 pub fn queue_info<'a>(
     seat: &[u16; 32],
     serial: &'a [u16; 8],
@@ -615,9 +498,13 @@ pub fn queue_info<'a>(
         (s .tasks .suspended) (s .tasks .priority) (s .queues .name) (now (serial .entry)) (now (live .entry)) (now (fifo .entry))
         (s .queues .limits) (now (held .entry)) (s .queues .cells) running) id) ⌝ }
 {
-    match tables::find(serial, live, id) {
-        Found::At(i) => info_at(seat, fifo, held, running, i),
-        Found::Deleted => answers::plain(scope::OBJECT_DELETED, running),
-        Found::Invalid => answers::plain(scope::INVALID_ID, running),
+    let f = named(serial, live, id);
+    if f.status != scope::OK {
+        return answers::plain(f.status, running);
     }
+    let i = f.at;
+    let waiting = seats::waiters(*seat, 16 + i) as u32;
+    let options = answers::bit(fifo[i]);
+    let holds = wide(held[i]);
+    answers::tells(options, holds, waiting, 0, false, running)
 }

@@ -1,63 +1,103 @@
--- `queues::queue_create`: the refusals in order, then the lowest usable slot, which has a serial left.
+-- `queues::queue_create`: the refusal found, or the slot holds its next object.
 -- Assumes nothing.
 use native.Mathlib.Omega.{arith}
-use mathlib.Core.Path.{_≡_, sym, _∙_}
-use lib.ListN.{length}
 use denote.Ref.{now}
-use borrow.Author.Tests.{lt-ltb, le-ltb, not-true, not-false}
-use Rattle.answers.proofs.Outcomes.{plain-of}
-use Rattle.laws.proofs.Branches.{pick-yes, pick-no, not-of-true, not-of-false}
-use Rattle.tables.proofs.Laws.{serial-left}
-use Rattle.queues.proofs.Laws.{limits-told}
-use Rattle.scope.specs.Queues.{queueCreate}
+use Rattle.answers.specs.Columns.{lentQueues}
+use Rattle.answers.proofs.Outcomes.{plain-of, gives-of}
+use Rattle.queues.proofs.Laws.{room-refused, room-taken}
 use borrow.Author.Needs.{needs}
 use Rattle.queues.proofs.queue_create.Statement.{statement}
 use Rattle.queues.proofs.queue_create.Tie as tie
 
-are-limits-requires : tie.Need-are-limits-requires
-are-limits-requires c κs = search needs
+room-requires : tie.Need-room-requires
+room-requires c κs = search needs
 
 plain-requires : tie.Need-plain-requires
 plain-requires c κs = search needs
 
 returns : tie.Need-returns
-unfolding queueCreate
-returns c = λ s. pick-yes _ _ _ (not-of-false _ (sym (c .before .before .are-limits .ensures) ∙ not-true _ (c .before .if1 .taken))) (plain-of _ _ _ _ (c .plain .ensures))
+returns c = let a = c .before .before .before .before .before .before .args in λ s. room-refused (lentQueues s (s .line .left) (s .line .seat) (s .line .joined) (s .line .rings) (s .tasks .serial) (s .tasks .suspended) (s .tasks .priority) (now (a .name)) (now (a .serial)) (now (a .live)) (now (a .fifo)) (now (a .limits)) (s .queues .held) (s .queues .cells) (a .running)) (a .what) (a .most) (a .longest) (a .options) (c .before .before .before .room .ensures .0) (c .before .if1 .taken) (plain-of (lentQueues s (s .line .left) (s .line .seat) (s .line .joined) (s .line .rings) (s .tasks .serial) (s .tasks .suspended) (s .tasks .priority) (now (a .name)) (now (a .serial)) (now (a .live)) (now (a .fifo)) (now (a .limits)) (s .queues .held) (s .queues .cells) (a .running)) _ _ _ (c .plain .ensures))
 
-plain-requires-2 : tie.Need-plain-requires-2
-plain-requires-2 c κs = search needs
+mul-next : tie.Need-mul-next
+mul-next c = search needs
+
+element-copy-out-next : tie.Need-element-copy-out-next
+element-copy-out-next c = search needs
+
+add-next : tie.Need-add-next
+add-next c = omega (arith, c .before .before .before .room .ensures .1 .1 (c .before .if1 .left) .0)
+
+mul-name : tie.Need-mul-name
+mul-name c = search needs
+
+element-write-name : tie.Need-element-write-name
+element-write-name c = search needs
+
+mul-serial : tie.Need-mul-serial
+mul-serial c = search needs
+
+element-write-serial : tie.Need-element-write-serial
+element-write-serial c = search needs
+
+element-write-live : tie.Need-element-write-live
+element-write-live c = search needs
+
+element-write-fifo : tie.Need-element-write-fifo
+element-write-fifo c = search needs
+
+cast-limits : tie.Need-cast-limits
+cast-limits c = omega (arith, c .before .before .before .room .ensures .1 .1 (c .before .if1 .left) .1)
+
+mul-limits : tie.Need-mul-limits
+mul-limits c = search needs
+
+element-write-limits : tie.Need-element-write-limits
+element-write-limits c = search needs
+
+cast-limits-2 : tie.Need-cast-limits-2
+cast-limits-2 c = omega (arith, c .before .before .before .room .ensures .1 .1 (c .before .if1 .left) .2)
+
+mul-limits-2 : tie.Need-mul-limits-2
+mul-limits-2 c = search needs
+
+add-limits : tie.Need-add-limits
+add-limits c = search needs
+
+element-write-limits-2 : tie.Need-element-write-limits-2
+element-write-limits-2 c = search needs
+
+identifier-requires : tie.Need-identifier-requires
+identifier-requires c κs = search needs
+
+gives-requires : tie.Need-gives-requires
+gives-requires c κs = search needs
 
 returns-2 : tie.Need-returns-2
-unfolding queueCreate
-returns-2 c = λ s. pick-no _ _ _ (not-of-true _ (sym (c .before .before .before .are-limits .ensures) ∙ not-false _ (c .before .before .if1 .left))) (pick-yes _ _ _ (lt-ltb _ _ (c .before .if2 .taken)) (plain-of _ _ _ _ (c .plain2 .ensures)))
-
-lowest-usable-requires : tie.Need-lowest-usable-requires
-lowest-usable-requires c κs = search needs
-
-cast-create-at : tie.Need-cast-create-at
-cast-create-at c = omega (arith, limits-told _ _ (sym (c .before .before .before .before .before .before .before .before .before .before .before .before .are-limits .ensures) ∙ not-false _ (c .before .before .before .before .before .before .before .before .before .before .before .if1 .left)) .0)
-
-cast-create-at-2 : tie.Need-cast-create-at-2
-cast-create-at-2 c = omega (arith, limits-told _ _ (sym (c .before .before .before .before .before .before .before .before .before .before .before .before .are-limits .ensures) ∙ not-false _ (c .before .before .before .before .before .before .before .before .before .before .before .if1 .left)) .1)
-
-create-at-requires : tie.Need-create-at-requires
-create-at-requires c κs = let n : length (now (c .before .before .before .before .before .before .before .before .before .before .before .before .before .args .serial)) ≡ 8 = search needs in (n, λ h. serial-left 8 _ _ n (c .before .before .before .before .before .lowest-usable .ensures) h)
-
-returns-3 : tie.Need-returns-3
-unfolding queueCreate
-returns-3 c = λ s. pick-no _ _ _ (not-of-true _ (sym (c .before .before .before .before .before .before .before .before .before .before .before .before .before .are-limits .ensures) ∙ not-false _ (c .before .before .before .before .before .before .before .before .before .before .before .before .if1 .left))) (pick-no _ _ _ (le-ltb _ _ (c .before .before .before .before .before .before .before .before .before .before .before .if2 .left)) (rw (← c .before .before .before .before .before .before .lowest-usable .ensures) (c .create-at .ensures s)))
+returns-2 c = let a = c .before .before .before .before .before .before .before .before .args in λ s. room-taken (lentQueues s (s .line .left) (s .line .seat) (s .line .joined) (s .line .rings) (s .tasks .serial) (s .tasks .suspended) (s .tasks .priority) (now (a .name)) (now (a .serial)) (now (a .live)) (now (a .fifo)) (now (a .limits)) (s .queues .held) (s .queues .cells) (a .running)) (a .what) (a .most) (a .longest) (a .options) (c .before .before .before .before .before .room .ensures .0) (c .before .before .before .if1 .left) (gives-of _ _ _ _ (rw (← c .before .identifier .ensures) (c .gives .ensures)))
 
 pub queue-create-spec : {M : Type 1} → statement M
 queue-create-spec =
     tie.close
     (tie.spec
-    are-limits-requires
+    room-requires
     plain-requires
     returns
-    plain-requires-2
-    returns-2
-    lowest-usable-requires
-    cast-create-at
-    cast-create-at-2
-    create-at-requires
-    returns-3)
+    mul-next
+    element-copy-out-next
+    add-next
+    mul-name
+    element-write-name
+    mul-serial
+    element-write-serial
+    element-write-live
+    element-write-fifo
+    cast-limits
+    mul-limits
+    element-write-limits
+    cast-limits-2
+    mul-limits-2
+    add-limits
+    element-write-limits-2
+    identifier-requires
+    gives-requires
+    returns-2)

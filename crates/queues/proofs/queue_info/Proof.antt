@@ -1,56 +1,67 @@
--- `queues::queue_info`: what the identifier names, or its refusal.
+-- `queues::queue_info`: the refusal found, or the three figures read off the columns.
 -- Assumes nothing.
-use mathlib.Core.Path.{_≡_}
-use lib.ListN.{length}
+use Prim.Native.Nat.{_+_, _*_}
+use native.Mathlib.Omega.{arith}
 use denote.Ref.{now}
-use Rattle.answers.proofs.Named.{on-at, on-deleted, on-invalid}
-use Rattle.tables.proofs.Laws.{named-below}
-use Rattle.answers.proofs.Outcomes.{plain-of}
+use Rattle.answers.specs.Columns.{lentQueues}
+use Rattle.answers.proofs.Outcomes.{plain-of, tells-of}
+use Rattle.seats.proofs.Counting.{standing-le}
+use Rattle.queues.proofs.Laws.{slot-found, slot-refused}
+use Rattle.scope.specs.Queues.{queueInfoAt}
 use borrow.Author.Needs.{needs}
 use Rattle.queues.proofs.queue_info.Statement.{statement}
 use Rattle.queues.proofs.queue_info.Tie as tie
 
-find-requires : tie.Need-find-requires
-find-requires c κs = search needs
-
-enum-known-i : tie.Need-enum-known-i
-enum-known-i c = search needs
-
-info-at-requires : tie.Need-info-at-requires
-info-at-requires c κs = let n : length (now (c .before .before .before .before .before .before .args .serial)) ≡ 8 = search needs in named-below 8 _ _ n (c .before .before .before .before .before .before .args .id) (c .before .before .before .find .ensures) (c .before .i .given .1)
-
-enum-told : tie.Need-enum-told
-enum-told c = search needs
+named-requires : tie.Need-named-requires
+named-requires c κs = search needs
 
 plain-requires : tie.Need-plain-requires
 plain-requires c κs = search needs
 
-enum-told-2 : tie.Need-enum-told-2
-enum-told-2 c = search needs
-
-plain-requires-2 : tie.Need-plain-requires-2
-plain-requires-2 c κs = search needs
-
 returns : tie.Need-returns
-returns c = λ s. on-at _ _ _ _ (c .before .before .before .before .find .ensures) (c .before .before .i .given .1) (c .info-at .ensures s _ _)
+returns c = let a = c .before .before .before .before .args in λ s. slot-refused (lentQueues s (s .line .left) (now (a .seat)) (s .line .joined) (s .line .rings) (s .tasks .serial) (s .tasks .suspended) (s .tasks .priority) (s .queues .name) (now (a .serial)) (now (a .live)) (now (a .fifo)) (s .queues .limits) (now (a .held)) (s .queues .cells) (a .running)) (queueInfoAt (lentQueues s (s .line .left) (now (a .seat)) (s .line .joined) (s .line .rings) (s .tasks .serial) (s .tasks .suspended) (s .tasks .priority) (s .queues .name) (now (a .serial)) (now (a .live)) (now (a .fifo)) (s .queues .limits) (now (a .held)) (s .queues .cells) (a .running))) _ (c .before .before .before .named .ensures .0) (c .before .if1 .taken) (plain-of (lentQueues s (s .line .left) (now (a .seat)) (s .line .joined) (s .line .rings) (s .tasks .serial) (s .tasks .suspended) (s .tasks .priority) (s .queues .name) (now (a .serial)) (now (a .live)) (now (a .fifo)) (s .queues .limits) (now (a .held)) (s .queues .cells) (a .running)) _ _ _ (c .plain .ensures))
+
+add-waiters : tie.Need-add-waiters
+add-waiters c = search needs
+
+waiters-requires : tie.Need-waiters-requires
+waiters-requires c κs = search needs
+
+cast-waiting : tie.Need-cast-waiting
+cast-waiting c = omega (arith, c .waiters .ensures, standing-le (now (c .before .before .before .before .before .args .seat)) ((16 + c .before .before .before .before .named .result .at) * 64 + 64))
+
+element-copy-out-bit : tie.Need-element-copy-out-bit
+element-copy-out-bit c = search needs
+
+bit-requires : tie.Need-bit-requires
+bit-requires c κs = search needs
+
+element-copy-out-wide : tie.Need-element-copy-out-wide
+element-copy-out-wide c = search needs
+
+wide-requires : tie.Need-wide-requires
+wide-requires c κs = search needs
+
+tells-requires : tie.Need-tells-requires
+tells-requires c κs = search needs
 
 returns-2 : tie.Need-returns-2
-returns-2 c = λ s. on-deleted _ _ _ _ (c .before .before .before .find .ensures) (c .before .enum-told .given .1) (plain-of _ _ _ _ (c .plain .ensures))
-
-returns-3 : tie.Need-returns-3
-returns-3 c = λ s. on-invalid _ _ _ _ (c .before .before .before .find .ensures) (c .before .enum-told2 .given .1) (plain-of _ _ _ _ (c .plain2 .ensures))
+unfolding queueInfoAt
+returns-2 c = let a = c .before .before .before .before .before .before .before .before .before .before .args in λ s. slot-found (lentQueues s (s .line .left) (now (a .seat)) (s .line .joined) (s .line .rings) (s .tasks .serial) (s .tasks .suspended) (s .tasks .priority) (s .queues .name) (now (a .serial)) (now (a .live)) (now (a .fifo)) (s .queues .limits) (now (a .held)) (s .queues .cells) (a .running)) (queueInfoAt (lentQueues s (s .line .left) (now (a .seat)) (s .line .joined) (s .line .rings) (s .tasks .serial) (s .tasks .suspended) (s .tasks .priority) (s .queues .name) (now (a .serial)) (now (a .live)) (now (a .fifo)) (s .queues .limits) (now (a .held)) (s .queues .cells) (a .running))) _ (c .before .before .before .before .before .before .before .before .before .named .ensures .0) (c .before .before .before .before .before .before .before .if1 .left) (tells-of _ _ _ _ _ _ _ _ (rw (← c .before .before .before .before .before .waiters .ensures, ← c .before .before .before .bit .ensures, ← c .before .wide .ensures) (c .tells .ensures)))
 
 pub queue-info-spec : {M : Type 1} → statement M
 queue-info-spec =
     tie.close
     (tie.spec
-    find-requires
-    enum-known-i
-    info-at-requires
-    enum-told
+    named-requires
     plain-requires
-    enum-told-2
-    plain-requires-2
     returns
-    returns-2
-    returns-3)
+    add-waiters
+    waiters-requires
+    cast-waiting
+    element-copy-out-bit
+    bit-requires
+    element-copy-out-wide
+    wide-requires
+    tells-requires
+    returns-2)

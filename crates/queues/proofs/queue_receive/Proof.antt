@@ -1,56 +1,93 @@
--- `queues::queue_receive`: what the identifier names, or its refusal.
+-- `queues::queue_receive`: the refusal found or decided; or the first message held is shown and gone, or who runs waits.
 -- Assumes nothing.
-use mathlib.Core.Path.{_≡_, refl}
-use lib.ListN.{length}
+use native.Mathlib.Omega.{arith}
+use mathlib.Core.Path.{refl, _∙_}
 use denote.Ref.{now}
-use Rattle.answers.proofs.Named.{on-at, on-deleted, on-invalid}
-use Rattle.tables.proofs.Laws.{named-below}
+use Rattle.answers.specs.Columns.{lentQueues}
 use Rattle.answers.proofs.Outcomes.{plain-of, none-shown}
+use Rattle.queues.proofs.Laws.{slot-found, slot-refused, receive-refused, receive-taken, receive-waits}
+use Rattle.scope.specs.Queues.{queueReceiveAt}
 use borrow.Author.Needs.{needs}
 use Rattle.queues.proofs.queue_receive.Statement.{statement}
 use Rattle.queues.proofs.queue_receive.Tie as tie
 
-find-requires : tie.Need-find-requires
-find-requires c κs = search needs
-
-enum-known-i : tie.Need-enum-known-i
-enum-known-i c = search needs
-
-receive-at-requires : tie.Need-receive-at-requires
-receive-at-requires c κs = let n : length (now (c .before .before .before .before .before .before .before .before .before .before .before .before .before .before .args .serial)) ≡ 8 = search needs in (named-below 8 _ _ n (c .before .before .before .before .before .before .before .before .before .before .before .before .before .before .args .x .a) (c .before .before .before .before .before .before .before .before .before .before .find .ensures) (c .before .before .before .before .before .before .before .before .i .given .1), refl)
-
-enum-told : tie.Need-enum-told
-enum-told c = search needs
+named-requires : tie.Need-named-requires
+named-requires c κs = search needs
 
 plain-requires : tie.Need-plain-requires
 plain-requires c κs = search needs
 
-enum-told-2 : tie.Need-enum-told-2
-enum-told-2 c = search needs
+returns : tie.Need-returns
+returns c = let a = c .before .before .before .before .before .args in λ s. slot-refused (lentQueues s (now (a .left)) (now (a .seat)) (now (a .joined)) (now (a .rings)) (s .tasks .serial) (s .tasks .suspended) (now (a .priority)) (s .queues .name) (now (a .serial)) (now (a .live)) (now (a .fifo)) (s .queues .limits) (now (a .held)) (now (a .cells)) (a .x .running)) (queueReceiveAt (lentQueues s (now (a .left)) (now (a .seat)) (now (a .joined)) (now (a .rings)) (s .tasks .serial) (s .tasks .suspended) (now (a .priority)) (s .queues .name) (now (a .serial)) (now (a .live)) (now (a .fifo)) (s .queues .limits) (now (a .held)) (now (a .cells)) (a .x .running)) (a .x .b) (a .x .c)) _ (c .before .before .before .named .ensures .0) (c .before .if1 .taken) (none-shown _ _ _ refl (plain-of (lentQueues s (now (a .left)) (now (a .seat)) (now (a .joined)) (now (a .rings)) (s .tasks .serial) (s .tasks .suspended) (now (a .priority)) (s .queues .name) (now (a .serial)) (now (a .live)) (now (a .fifo)) (s .queues .limits) (now (a .held)) (now (a .cells)) (a .x .running)) _ _ _ (c .plain .ensures)))
+
+element-copy-out-receive-status : tie.Need-element-copy-out-receive-status
+element-copy-out-receive-status c = search needs
+
+receive-status-requires : tie.Need-receive-status-requires
+receive-status-requires c κs = search needs
 
 plain-requires-2 : tie.Need-plain-requires-2
 plain-requires-2 c κs = search needs
 
-returns : tie.Need-returns
-returns c = λ s. on-at _ _ _ _ (c .before .before .before .before .before .before .before .before .before .before .before .find .ensures) (c .before .before .before .before .before .before .before .before .before .i .given .1) (c .receive-at .ensures s _ _)
-
 returns-2 : tie.Need-returns-2
-returns-2 c = λ s. on-deleted _ _ _ _ (c .before .before .before .find .ensures) (c .before .enum-told .given .1) (none-shown _ _ _ refl (plain-of _ _ _ _ (c .plain .ensures)))
+returns-2 c = let a = c .before .before .before .before .before .before .before .before .args in λ s. slot-found (lentQueues s (now (a .left)) (now (a .seat)) (now (a .joined)) (now (a .rings)) (s .tasks .serial) (s .tasks .suspended) (now (a .priority)) (s .queues .name) (now (a .serial)) (now (a .live)) (now (a .fifo)) (s .queues .limits) (now (a .held)) (now (a .cells)) (a .x .running)) (queueReceiveAt (lentQueues s (now (a .left)) (now (a .seat)) (now (a .joined)) (now (a .rings)) (s .tasks .serial) (s .tasks .suspended) (now (a .priority)) (s .queues .name) (now (a .serial)) (now (a .live)) (now (a .fifo)) (s .queues .limits) (now (a .held)) (now (a .cells)) (a .x .running)) (a .x .b) (a .x .c)) _ (c .before .before .before .before .before .before .named .ensures .0) (c .before .before .before .before .if1 .left) (receive-refused (lentQueues s (now (a .left)) (now (a .seat)) (now (a .joined)) (now (a .rings)) (s .tasks .serial) (s .tasks .suspended) (now (a .priority)) (s .queues .name) (now (a .serial)) (now (a .live)) (now (a .fifo)) (s .queues .limits) (now (a .held)) (now (a .cells)) (a .x .running)) (a .x .b) (a .x .c) _ (c .before .before .receive-status .ensures .0) (c .before .if2 .taken) (none-shown _ _ _ refl (plain-of (lentQueues s (now (a .left)) (now (a .seat)) (now (a .joined)) (now (a .rings)) (s .tasks .serial) (s .tasks .suspended) (now (a .priority)) (s .queues .name) (now (a .serial)) (now (a .live)) (now (a .fifo)) (s .queues .limits) (now (a .held)) (now (a .cells)) (a .x .running)) _ _ _ (c .plain2 .ensures))))
+
+take-first-requires : tie.Need-take-first-requires
+take-first-requires c κs = search needs
+
+wide-requires : tie.Need-wide-requires
+wide-requires c κs = search needs
+
+gives-requires : tie.Need-gives-requires
+gives-requires c κs = search needs
 
 returns-3 : tie.Need-returns-3
-returns-3 c = λ s. on-invalid _ _ _ _ (c .before .before .before .find .ensures) (c .before .enum-told2 .given .1) (none-shown _ _ _ refl (plain-of _ _ _ _ (c .plain2 .ensures)))
+returns-3 c = let a = c .before .before .before .before .before .before .before .before .before .before .before .before .before .before .args in λ s. slot-found (lentQueues s (now (a .left)) (now (a .seat)) (now (a .joined)) (now (a .rings)) (s .tasks .serial) (s .tasks .suspended) (now (a .priority)) (s .queues .name) (now (a .serial)) (now (a .live)) (now (a .fifo)) (s .queues .limits) (now (a .held)) (now (a .cells)) (a .x .running)) (queueReceiveAt (lentQueues s (now (a .left)) (now (a .seat)) (now (a .joined)) (now (a .rings)) (s .tasks .serial) (s .tasks .suspended) (now (a .priority)) (s .queues .name) (now (a .serial)) (now (a .live)) (now (a .fifo)) (s .queues .limits) (now (a .held)) (now (a .cells)) (a .x .running)) (a .x .b) (a .x .c)) _ (c .before .before .before .before .before .before .before .before .before .before .before .before .named .ensures .0) (c .before .before .before .before .before .before .before .before .before .before .if1 .left) (receive-taken (lentQueues s (now (a .left)) (now (a .seat)) (now (a .joined)) (now (a .rings)) (s .tasks .serial) (s .tasks .suspended) (now (a .priority)) (s .queues .name) (now (a .serial)) (now (a .live)) (now (a .fifo)) (s .queues .limits) (now (a .held)) (now (a .cells)) (a .x .running)) (a .x .b) (a .x .c) _ (c .before .before .before .before .before .before .before .before .receive-status .ensures .0) _ _ (c .before .before .before .before .before .before .if3 .taken) (c .before .before .take-first .ensures .0) (c .before .before .take-first .ensures .1 .0) (c .before .wide .ensures ∙ c .before .before .take-first .ensures .1 .1) (c .gives .ensures))
+
+add-wait : tie.Need-add-wait
+add-wait c = search needs
+
+element-copy-out-wait : tie.Need-element-copy-out-wait
+element-copy-out-wait c = search needs
+
+element-copy-out-wait-2 : tie.Need-element-copy-out-wait-2
+element-copy-out-wait-2 c = search (needs, c .before .before .before .before .before .before .before .receive-status .ensures .1 (omega (arith, c .before .before .before .before .before .before .if2 .left, c .before .before .before .before .before .if3 .left)))
+
+wait-requires : tie.Need-wait-requires
+wait-requires c κs = search (needs, c .before .before .before .before .before .before .before .before .receive-status .ensures .1 (omega (arith, c .before .before .before .before .before .before .before .if2 .left, c .before .before .before .before .before .before .if3 .left)))
+
+element-copy-out-runner : tie.Need-element-copy-out-runner
+element-copy-out-runner c = search needs
+
+runner-requires : tie.Need-runner-requires
+runner-requires c κs = search needs
+
+plain-requires-3 : tie.Need-plain-requires-3
+plain-requires-3 c κs = search needs
+
+returns-4 : tie.Need-returns-4
+returns-4 c = let a = c .before .before .before .before .before .before .before .before .before .before .before .before .before .before .before .before .before .before .before .args in λ s. slot-found (lentQueues s (now (a .left)) (now (a .seat)) (now (a .joined)) (now (a .rings)) (s .tasks .serial) (s .tasks .suspended) (now (a .priority)) (s .queues .name) (now (a .serial)) (now (a .live)) (now (a .fifo)) (s .queues .limits) (now (a .held)) (now (a .cells)) (a .x .running)) (queueReceiveAt (lentQueues s (now (a .left)) (now (a .seat)) (now (a .joined)) (now (a .rings)) (s .tasks .serial) (s .tasks .suspended) (now (a .priority)) (s .queues .name) (now (a .serial)) (now (a .live)) (now (a .fifo)) (s .queues .limits) (now (a .held)) (now (a .cells)) (a .x .running)) (a .x .b) (a .x .c)) _ (c .before .before .before .before .before .before .before .before .before .before .before .before .before .before .before .before .before .named .ensures .0) (c .before .before .before .before .before .before .before .before .before .before .before .before .before .before .before .if1 .left) (receive-waits (lentQueues s (now (a .left)) (now (a .seat)) (now (a .joined)) (now (a .rings)) (s .tasks .serial) (s .tasks .suspended) (now (a .priority)) (s .queues .name) (now (a .serial)) (now (a .live)) (now (a .fifo)) (s .queues .limits) (now (a .held)) (now (a .cells)) (a .x .running)) (a .x .b) (a .x .c) _ (c .before .before .before .before .before .before .before .before .before .before .before .before .before .receive-status .ensures .0) _ _ (c .before .before .before .before .before .before .before .before .before .before .before .before .if2 .left) (c .before .before .before .before .before .before .before .before .before .before .before .if3 .left) (c .plain3 .ensures) (c .before .runner .ensures) (c .before .before .before .before .wait .ensures))
 
 pub queue-receive-spec : {M : Type 1} → statement M
 queue-receive-spec =
     tie.close
     (tie.spec
-    find-requires
-    enum-known-i
-    receive-at-requires
-    enum-told
+    named-requires
     plain-requires
-    enum-told-2
-    plain-requires-2
     returns
+    element-copy-out-receive-status
+    receive-status-requires
+    plain-requires-2
     returns-2
-    returns-3)
+    take-first-requires
+    wide-requires
+    gives-requires
+    returns-3
+    add-wait
+    element-copy-out-wait
+    element-copy-out-wait-2
+    wait-requires
+    element-copy-out-runner
+    runner-requires
+    plain-requires-3
+    returns-4)

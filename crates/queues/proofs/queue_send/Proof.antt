@@ -1,58 +1,56 @@
--- `queues::queue_send`: what the identifier names, or its refusal.
+-- `queues::queue_send`: the refusal found; or the first waiter gets the message, or it is held.
 -- Assumes nothing.
-use mathlib.Core.Path.{_≡_, refl}
-use lib.ListN.{length}
+use mathlib.Core.Path.{refl}
 use denote.Ref.{now}
-use Rattle.answers.proofs.Named.{on-at, on-deleted, on-invalid}
-use Rattle.tables.proofs.Laws.{named-below}
+use Rattle.answers.specs.Columns.{lentQueues}
 use Rattle.answers.proofs.Outcomes.{plain-of, none-shown}
-use Rattle.scope.specs.Choice.{pick}
+use Rattle.scope.specs.Messages.{appended}
+use Rattle.queues.proofs.Laws.{put-refused, put-handed, put-held, now-held}
 use borrow.Author.Needs.{needs}
 use Rattle.queues.proofs.queue_send.Statement.{statement}
 use Rattle.queues.proofs.queue_send.Tie as tie
 
-find-requires : tie.Need-find-requires
-find-requires c κs = search needs
-
-enum-known-i : tie.Need-enum-known-i
-enum-known-i c = search needs
-
-put-at-requires : tie.Need-put-at-requires
-put-at-requires c κs = let n : length (now (c .before .before .before .before .before .before .before .before .before .before .before .before .before .before .before .before .before .args .serial)) ≡ 8 = search needs in (named-below 8 _ _ n (c .before .before .before .before .before .before .before .before .before .before .before .before .before .before .before .before .before .args .x .a) (c .before .before .before .before .before .before .before .before .before .before .before .find .ensures) (c .before .before .before .before .before .before .before .before .before .i .given .1), (refl, refl))
-
-enum-told : tie.Need-enum-told
-enum-told c = search needs
+way-of-requires : tie.Need-way-of-requires
+way-of-requires c κs = search needs
 
 plain-requires : tie.Need-plain-requires
 plain-requires c κs = search needs
 
-enum-told-2 : tie.Need-enum-told-2
-enum-told-2 c = search needs
+returns : tie.Need-returns
+returns c = let a = c .before .before .before .before .before .before .before .before .before .args in λ s. put-refused appended (lentQueues s (now (a .left)) (now (a .seat)) (now (a .joined)) (now (a .rings)) (now (a .waker)) (now (a .suspended)) (now (a .priority)) (s .queues .name) (now (a .serial)) (now (a .live)) (s .queues .fifo) (now (a .limits)) (now (a .held)) (now (a .cells)) (a .x .running)) (a .x .b) (now (a .message)) _ (c .before .before .before .way-of .ensures .0) (c .before .if1 .taken) (none-shown _ _ _ refl (plain-of (lentQueues s (now (a .left)) (now (a .seat)) (now (a .joined)) (now (a .rings)) (now (a .waker)) (now (a .suspended)) (now (a .priority)) (s .queues .name) (now (a .serial)) (now (a .live)) (s .queues .fifo) (now (a .limits)) (now (a .held)) (now (a .cells)) (a .x .running)) _ _ _ (c .plain .ensures)))
+
+deliver-requires : tie.Need-deliver-requires
+deliver-requires c κs = let f = c .before .before .before .before .before .before .before .before .before .before .way-of .ensures .1 .1 (c .before .before .before .before .before .before .before .before .if1 .left) in ((c .before .before .before .before .before .before .if2 .taken, f .0, f .1), refl)
+
+returns-2 : tie.Need-returns-2
+returns-2 c = let a = c .before .before .before .before .before .before .before .before .before .before .before .before .before .before .before .before .before .args in λ s. put-handed appended (lentQueues s (now (a .left)) (now (a .seat)) (now (a .joined)) (now (a .rings)) (now (a .waker)) (now (a .suspended)) (now (a .priority)) (s .queues .name) (now (a .serial)) (now (a .live)) (s .queues .fifo) (now (a .limits)) (now (a .held)) (now (a .cells)) (a .x .running)) (a .x .b) (now (a .message)) _ (c .before .before .before .before .before .before .before .before .before .before .before .way-of .ensures .0) (c .before .before .before .before .before .before .before .before .before .if1 .left) (c .before .before .before .before .before .before .before .if2 .taken) (c .deliver .ensures s (s .queues .name) (now (a .serial)) (now (a .live)) (s .queues .fifo) (now (a .limits)) (now (a .held)) (now (a .cells)) (a .x .running))
+
+cast-cell-of : tie.Need-cast-cell-of
+cast-cell-of c = search needs
+
+cell-of-requires : tie.Need-cell-of-requires
+cell-of-requires c κs = c .before .before .before .before .before .way-of .ensures .1 .1 (c .before .before .before .if1 .left)
+
+append-requires : tie.Need-append-requires
+append-requires c κs = search needs
 
 plain-requires-2 : tie.Need-plain-requires-2
 plain-requires-2 c κs = search needs
 
-returns : tie.Need-returns
-unfolding pick
-returns c = λ s. on-at _ _ _ _ (c .before .before .before .before .before .before .before .before .before .before .before .before .find .ensures) (c .before .before .before .before .before .before .before .before .before .before .i .given .1) (c .put-at .ensures s _ _ _ _)
-
-returns-2 : tie.Need-returns-2
-returns-2 c = λ s. on-deleted _ _ _ _ (c .before .before .before .find .ensures) (c .before .enum-told .given .1) (none-shown _ _ _ refl (plain-of _ _ _ _ (c .plain .ensures)))
-
 returns-3 : tie.Need-returns-3
-returns-3 c = λ s. on-invalid _ _ _ _ (c .before .before .before .find .ensures) (c .before .enum-told2 .given .1) (none-shown _ _ _ refl (plain-of _ _ _ _ (c .plain2 .ensures)))
+returns-3 c = let a = c .before .before .before .before .before .before .before .before .before .before .before .before .before .before .before .before .args in λ s. put-held appended (lentQueues s (now (a .left)) (now (a .seat)) (now (a .joined)) (now (a .rings)) (now (a .waker)) (now (a .suspended)) (now (a .priority)) (s .queues .name) (now (a .serial)) (now (a .live)) (s .queues .fifo) (now (a .limits)) (now (a .held)) (now (a .cells)) (a .x .running)) (a .x .b) (now (a .message)) _ (c .before .before .before .before .before .before .before .before .before .before .way-of .ensures .0) (c .before .before .before .before .before .before .before .before .if1 .left) (c .before .before .before .before .before .before .if2 .left) (now-held appended (lentQueues s (now (a .left)) (now (a .seat)) (now (a .joined)) (now (a .rings)) (now (a .waker)) (now (a .suspended)) (now (a .priority)) (s .queues .name) (now (a .serial)) (now (a .live)) (s .queues .fifo) (now (a .limits)) (now (a .held)) (now (a .cells)) (a .x .running)) (a .x .b) _ (now (a .message)) _ (c .before .append .ensures) (c .before .before .before .before .cell-of .ensures) (c .plain2 .ensures))
 
 pub queue-send-spec : {M : Type 1} → statement M
 queue-send-spec =
     tie.close
     (tie.spec
-    find-requires
-    enum-known-i
-    put-at-requires
-    enum-told
+    way-of-requires
     plain-requires
-    enum-told-2
-    plain-requires-2
     returns
+    deliver-requires
     returns-2
+    cast-cell-of
+    cell-of-requires
+    append-requires
+    plain-requires-2
     returns-3)

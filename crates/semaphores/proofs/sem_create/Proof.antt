@@ -1,53 +1,87 @@
--- `semaphores::sem_create`: the refusals in order, then the lowest usable slot, which has a serial left.
+-- `semaphores::sem_create`: the refusal found, or the slot holds its next object.
 -- Assumes nothing.
-use mathlib.Core.Path.{_≡_}
-use lib.ListN.{length}
-use borrow.Author.Needs.{needs}
-use borrow.Author.Tests.{lt-ltb, le-ltb}
+use native.Mathlib.Omega.{arith}
 use denote.Ref.{now}
-use Rattle.answers.proofs.Outcomes.{plain-of}
-use Rattle.laws.proofs.Branches.{pick-yes, pick-no}
-use Rattle.scope.specs.Semaphores.{semCreate}
+use Rattle.answers.specs.Columns.{lentSemaphores}
+use Rattle.answers.proofs.Outcomes.{plain-of, gives-of}
+use Rattle.semaphores.proofs.Laws.{room-refused, room-taken}
+use borrow.Author.Needs.{needs}
 use Rattle.semaphores.proofs.sem_create.Statement.{statement}
 use Rattle.semaphores.proofs.sem_create.Tie as tie
-use Rattle.tables.proofs.Laws.{serial-left}
+
+room-requires : tie.Need-room-requires
+room-requires c κs = search needs
 
 plain-requires : tie.Need-plain-requires
 plain-requires c κs = search needs
 
 returns : tie.Need-returns
-unfolding semCreate
-returns c = λ s. pick-yes _ _ _ (lt-ltb _ _ (c .before .if1 .taken)) (plain-of _ _ _ _ (c .plain .ensures))
+returns c = let a = c .before .before .before .before .before .before .args in λ s. room-refused (lentSemaphores s (s .line .left) (s .line .seat) (s .line .joined) (s .line .rings) (s .tasks .serial) (s .tasks .suspended) (s .tasks .priority) (now (a .name)) (now (a .serial)) (now (a .units)) (now (a .live)) (now (a .fifo)) (a .running)) (a .what) (a .count) (a .options) (c .before .before .before .room .ensures .0) (c .before .if1 .taken) (plain-of (lentSemaphores s (s .line .left) (s .line .seat) (s .line .joined) (s .line .rings) (s .tasks .serial) (s .tasks .suspended) (s .tasks .priority) (now (a .name)) (now (a .serial)) (now (a .units)) (now (a .live)) (now (a .fifo)) (a .running)) _ _ _ (c .plain .ensures))
 
-plain-requires-2 : tie.Need-plain-requires-2
-plain-requires-2 c κs = search needs
+mul-next : tie.Need-mul-next
+mul-next c = search needs
+
+element-copy-out-next : tie.Need-element-copy-out-next
+element-copy-out-next c = search needs
+
+add-next : tie.Need-add-next
+add-next c = omega (arith, c .before .before .before .room .ensures .1 .1 (c .before .if1 .left) .0)
+
+mul-name : tie.Need-mul-name
+mul-name c = search needs
+
+element-write-name : tie.Need-element-write-name
+element-write-name c = search needs
+
+mul-serial : tie.Need-mul-serial
+mul-serial c = search needs
+
+element-write-serial : tie.Need-element-write-serial
+element-write-serial c = search needs
+
+cast-units : tie.Need-cast-units
+cast-units c = omega (arith, c .before .before .before .room .ensures .1 .1 (c .before .if1 .left) .1)
+
+mul-units : tie.Need-mul-units
+mul-units c = search needs
+
+element-write-units : tie.Need-element-write-units
+element-write-units c = search needs
+
+element-write-live : tie.Need-element-write-live
+element-write-live c = search needs
+
+element-write-fifo : tie.Need-element-write-fifo
+element-write-fifo c = search needs
+
+identifier-requires : tie.Need-identifier-requires
+identifier-requires c κs = search needs
+
+gives-requires : tie.Need-gives-requires
+gives-requires c κs = search needs
 
 returns-2 : tie.Need-returns-2
-unfolding semCreate
-returns-2 c = λ s. pick-no _ _ _ (le-ltb _ _ (c .before .before .if1 .left)) (pick-yes _ _ _ (lt-ltb _ _ (c .before .if2 .taken)) (plain-of _ _ _ _ (c .plain2 .ensures)))
-
-lowest-usable-requires : tie.Need-lowest-usable-requires
-lowest-usable-requires c κs = search needs
-
-cast-create-at : tie.Need-cast-create-at
-cast-create-at c = search needs
-
-create-at-requires : tie.Need-create-at-requires
-create-at-requires c κs = let n : length (now (c .before .before .before .before .before .before .before .before .before .before .before .before .args .serial)) ≡ 16 = search needs in (n, λ h. serial-left 16 _ _ n (c .before .before .before .before .before .lowest-usable .ensures) h)
-
-returns-3 : tie.Need-returns-3
-unfolding semCreate
-returns-3 c = λ s. pick-no _ _ _ (le-ltb _ _ (c .before .before .before .before .before .before .before .before .before .before .before .before .if1 .left)) (pick-no _ _ _ (le-ltb _ _ (c .before .before .before .before .before .before .before .before .before .before .before .if2 .left)) (rw (← c .before .before .before .before .before .before .lowest-usable .ensures) (c .create-at .ensures s)))
+returns-2 c = let a = c .before .before .before .before .before .before .before .before .args in λ s. room-taken (lentSemaphores s (s .line .left) (s .line .seat) (s .line .joined) (s .line .rings) (s .tasks .serial) (s .tasks .suspended) (s .tasks .priority) (now (a .name)) (now (a .serial)) (now (a .units)) (now (a .live)) (now (a .fifo)) (a .running)) (a .what) (a .count) (a .options) (c .before .before .before .before .before .room .ensures .0) (c .before .before .before .if1 .left) (gives-of _ _ _ _ (rw (← c .before .identifier .ensures) (c .gives .ensures)))
 
 pub sem-create-spec : {M : Type 1} → statement M
 sem-create-spec =
     tie.close
     (tie.spec
+    room-requires
     plain-requires
     returns
-    plain-requires-2
-    returns-2
-    lowest-usable-requires
-    cast-create-at
-    create-at-requires
-    returns-3)
+    mul-next
+    element-copy-out-next
+    add-next
+    mul-name
+    element-write-name
+    mul-serial
+    element-write-serial
+    cast-units
+    mul-units
+    element-write-units
+    element-write-live
+    element-write-fifo
+    identifier-requires
+    gives-requires
+    returns-2)

@@ -1,0 +1,2 @@
+-- What the semaphore calls share: what is decided before anything changes.
+pub mod Deciding
