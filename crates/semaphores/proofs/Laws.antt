@@ -2,7 +2,7 @@
 -- Assumes nothing.
 use Prim.Native.Nat.{ℕ, _+_, _-_, _≤_, _<_}
 use native.Mathlib.Omega.{arith}
-use mathlib.Core.Path.{_≡_, refl, sym, ap, _∙_}
+use mathlib.Core.Path.{_≡_, refl, ap, _∙_}
 use mathlib.Core.Bool.{Bool, true, false, not, _&&_}
 use mathlib.Core.List.{List}
 use lib.ListN.{length, getD}
@@ -26,7 +26,7 @@ use Rattle.scope.proofs.Counts.{less-below, less-above}
 use Rattle.answers.specs.declared.Outcome.{Outcome}
 use Rattle.answers.specs.Outcomes.{answerOf, outcome, woke}
 use Rattle.answers.specs.Columns.{stateOf}
-use Rattle.answers.proofs.Outcomes.{plain-of, plain-moved, woke-moved}
+use Rattle.answers.proofs.Outcomes.{plain-moved, woke-moved}
 use Rattle.laws.proofs.Searches.{number-le}
 use Rattle.laws.proofs.Branches.{pick-yes, pick-no, both, first-fails, second-fails, not-of-true, not-of-false}
 use Rattle.semaphores.specs.declared.Slot.{Slot}
