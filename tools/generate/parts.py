@@ -15,7 +15,7 @@ class Shape:
         self.i = {n: i for i, n in enumerate(self.names)}
 
 
-PLAYED = [('fi', 'player', 'first_state', False), ('be', 'player', 'begin', False), ('pp', 'player', 'play_part', False)]
+PLAYED = [('fi', 'scripts', 'first_state', False), ('be', 'scripts', 'begin', False), ('pp', 'player', 'play_part', False)]
 LISTED = Shape('listings', 'play_parts',
                'res script part out puts s p n r made test sref pref pslice oref oslice qref qslice',
                'word sl0 sl1 sl2 tyBool stTy plTy word ptTy stTy tyBool refS refB slE refB slE refC slC',
@@ -43,14 +43,14 @@ def before(s, W):
     w(f'''-- {name} meets its contract: a walk of its MIR. The state is a local that is lent to each part as one thing.
 -- Assumes nothing. Printed by tools/generate/run.
 {HEADER}use borrow.Author.Tests.{{ltb-true, ltb-false}}
-use Rattle.player.specs.declared.Place.{{Place}}
-use Rattle.player.specs.declared.Part.{{Part}}
-use Rattle.player.specs.Place.{{Point, Reached, pointAt, reached, toCome, Begun, Playing, PlayedPart}}
-use Rattle.player.proofs.Place as PL
-use Rattle.player.proofs.Place.Laws as PL′
-use Rattle.player.proofs.Part as PT
-use Rattle.player.proofs.Part.Laws as PT′
-use Rattle.player.proofs.Relent.{{Relent, slice-again, slice-returns, Reshared, slice-shares, slice-unshares}}
+use Rattle.scripts.specs.declared.Place.{{Place}}
+use Rattle.scripts.specs.declared.Part.{{Part}}
+use Rattle.scripts.specs.Place.{{Point, Reached, pointAt, reached, toCome, Begun, Playing, PlayedPart}}
+use Rattle.scripts.proofs.Place as PL
+use Rattle.scripts.proofs.Place.Laws as PL′
+use Rattle.scripts.proofs.Part as PT
+use Rattle.scripts.proofs.Part.Laws as PT′
+use Rattle.lending.proofs.Relent.{{Relent, slice-again, slice-returns, Reshared, slice-shares, slice-unshares}}
 use Rattle.lending.proofs.Lending.{{Col, Keys, tokens, lasts, lie, refs, kept, lends, backs, local-in, local-out}}
 use Rattle.scope.specs.Script.{{isScript, firstPriority}}
 use Rattle.text.specs.Lines.{{longestLine}}

@@ -29,13 +29,13 @@ def before(W):
 -- Assumes nothing. Printed by tools/generate/run.
 ''' + HEADER + '''use Rattle.answers.specs.declared.Outcome.{Outcome}
 use Rattle.text.specs.declared.Record.{Record}
-use Rattle.player.specs.declared.Place.{Place}
-use Rattle.player.specs.declared.Part.{Part}
-use Rattle.player.specs.Place.{Point, Reached, pointAt, reached, Playing, PlayedPart, LinePut}
-use Rattle.player.proofs.Laws.{Going, going-first, going-more, going-done, line-played, record-step, step-few, line-told}
+use Rattle.scripts.specs.declared.Place.{Place}
+use Rattle.scripts.specs.declared.Part.{Part}
+use Rattle.scripts.specs.Place.{Point, Reached, pointAt, reached, Playing, PlayedPart, LinePut}
+use Rattle.scripts.proofs.Laws.{Going, going-first, going-more, going-done, line-played, record-step, step-few, line-told}
 use Rattle.answers.proofs.Outcomes.{runs-so}
 use Rattle.lending.proofs.Slices.{slice-lent, slice-kept, lends-slice, slice-back}
-use Rattle.player.proofs.Relent.{Relent, slice-again, slice-returns}
+use Rattle.lending.proofs.Relent.{Relent, slice-again, slice-returns}
 use Rattle.scope.specs.Step.{answered}
 use Rattle.text.specs.Records.{recordAt}
 use Rattle.text.specs.Lines.{longestLine, replyBy}
@@ -48,10 +48,10 @@ use Rattle.answers.proofs.Outcome as O
 use Rattle.answers.proofs.Outcome.Laws as O′
 use Rattle.text.proofs.Record as RC
 use Rattle.text.proofs.Record.Laws as RC′
-use Rattle.player.proofs.Place as PL
-use Rattle.player.proofs.Place.Laws as PL′
-use Rattle.player.proofs.Part as PT
-use Rattle.player.proofs.Part.Laws as PT′
+use Rattle.scripts.proofs.Place as PL
+use Rattle.scripts.proofs.Place.Laws as PL′
+use Rattle.scripts.proofs.Part as PT
+use Rattle.scripts.proofs.Part.Laws as PT′
 use Rattle.lending.proofs.Lending.{Col, Keys, tokens, lasts, lie, refs, kept, shared, kept-shared, lends, backs, lends-shared, backs-shared, array-in, array-out}
 ''' + ''.join(callee(*c) for c in CALL) + outer('player', 'play_part') + STATE + '''abbrev pval : Place → Val
 pval p = LL.val PL.the-type PL′.the-laws p

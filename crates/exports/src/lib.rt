@@ -52,7 +52,7 @@ pub extern "C" fn dryswennol_line(
 pub extern "C" fn dryswennol_listing(script: &[u8], out: &mut [u8], length: &mut [usize; 1]) -> u32
     ensures { λ r. ⌜ (record { bytes = now (out .exit); needed = now (length .exit); status = r }) ≡ tells (listing (now (script .entry))) (now (out .entry)) ⌝ }
 {
-    lines::listing(script, out, length)
+    listings::told(script, out, length)
 }
 
 // The grant grid after the script, cleared before its first record: 512 and the cells, row after row, or 0 and nothing.

@@ -9,8 +9,7 @@ use lib.ListN.{length, take, drop, getD, length-take}
 use lib.Seq.{sets}
 use borrow.Author.Tests.{lt-ltb, le-ltb}
 use Rattle.scope.specs.Statuses.{OK}
-use Rattle.scope.specs.Listing.{lineOf, listing}
-use Rattle.listings.specs.Whole.{Whole}
+use Rattle.scope.specs.Listing.{lineOf}
 use Rattle.laws.proofs.Branches.{pick-yes, pick-no, lt-or-le}
 use mathlib.Core.Logic.{⊎-elim}
 use Rattle.answers.specs.declared.Outcome.{Outcome}
@@ -76,11 +75,3 @@ module _ (b numbers wakes : List ℕ) (o : Outcome) (number : ℕ) (n : numbers 
       let t : take r line' ≡ lineIn number b = q .1 ∙ line-is in
       let l : length (take r line') ≡ r = ap length t ∙ sym e in
       (e, t, omega (arith, length-take r line', l))
-
--- a listing, by what `listings::listing` gives
-module _ (script out : List ℕ) {out' : List ℕ} {n : ℕ} (is : Whole script out out' n) where
-  pub listing-no : length out < n → told out' n NO-ROOM ≡ tells (listing script) out
-  listing-no h = (λ i. told (is .untouched h i) n NO-ROOM) ∙ tells-no (listing script) out (is .exact) h
-
-  pub listing-yes : n ≤ length out → told out' n OK ≡ tells (listing script) out
-  listing-yes h = tells-yes (listing script) out (is .exact) h (is .listed h)

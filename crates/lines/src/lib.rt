@@ -1,15 +1,14 @@
-// The line of an answer that stands in bytes, and a script's listing, into lent slices. (specs/Lines.antt.)
+// The line of an answer that stands in bytes, into a lent slice. (specs/Lines.antt.)
 use answers::Outcome;
 ghost use mathlib.Core.Path.{_≡_};
 ghost use Prim.Native.Nat.{_≤_};
 ghost use lib.ListN.{length, take};
 ghost use lib.Seq.{sets};
-ghost use Rattle.scope.specs.Listing.{listing};
 ghost use Rattle.fields.specs.Numbers.{isOn};
 ghost use Rattle.fields.specs.Columns.{part};
 ghost use Rattle.lines.specs.Lines.{atMost32, outcomeIn, lineIn, tells};
 
-const NO_ROOM: u32 = 31;
+pub const NO_ROOM: u32 = 31;
 
 // No more are woken than there are places.
 fn at_most_32(n: u32) -> usize
@@ -79,18 +78,5 @@ pub fn line(number: u32, answer: &[u8; 236], out: &mut [u8], length: &mut [usize
         return NO_ROOM;
     }
     copy_line(out, &line, n);
-    scope::OK
-}
-
-// The listing of a script in the same way.
-pub fn listing(script: &[u8], out: &mut [u8], length: &mut [usize; 1]) -> u32
-    ensures { λ r. ⌜ (record { bytes = now (out .exit); needed = now (length .exit); status = r }) ≡ tells (listing (now (script .entry))) (now (out .entry)) ⌝ }
-{
-    let room = out.len();
-    let n = listings::listing(script, out);
-    *length = [n];
-    if room < n {
-        return NO_ROOM;
-    }
     scope::OK
 }

@@ -1,6 +1,6 @@
 // Plays a script and keeps the grant grid beside the state (M-105): the grid as `grid` promises it, over the kernel's step. The state
 // is kept here and lent to each step. (specs/Watched.antt.)
-use player::Place;
+use scripts::Place;
 use scope::State;
 ghost use mathlib.Core.Path.{_≡_};
 ghost use mathlib.Core.Bool.{true};
@@ -72,8 +72,8 @@ pub fn watch(script: &[u8], cells: &mut [u16]) -> State
     requires { ⌜ (isScript (now script) ≡ true) × (512 ≤ length (now cells)) ⌝ }
     ensures { λ r. ⌜ (r ≡ endOf (now (script .entry))) × Shows (gridOf (now (script .entry))) (now (cells .entry)) (now (cells .exit)) ⌝ }
 {
-    let s = player::first_state(script);
-    let p = player::begin(script);
+    let s = scripts::first_state(script);
+    let p = scripts::begin(script);
     let g = grid::clear();
     play_records(script, s, p, g, cells)
 }

@@ -57,10 +57,10 @@ use denote.Builtin.{u16}
 use denote.Plain.{Nothing, nothing-lawful}
 use Rattle.answers.specs.declared.Outcome.{Outcome}
 use Rattle.text.specs.declared.Record.{Record}
-use Rattle.player.specs.declared.Place.{Place}
+use Rattle.scripts.specs.declared.Place.{Place}
 use Rattle.watching.specs.Watched.{endOf, gridOf, Going, Shows}
 use Rattle.watching.proofs.Laws.{goes, ended, kept-all}
-use Rattle.player.proofs.Relent.{Relent, slice-again, slice-returns}
+use Rattle.lending.proofs.Relent.{Relent, slice-again, slice-returns}
 use Rattle.lending.proofs.Slices.{slice-lent, slice-kept, lends-slice, slice-back}
 use Rattle.scope.specs.Step.{answered}
 use Rattle.scope.specs.Script.{messageAt}
@@ -75,8 +75,8 @@ use Rattle.answers.proofs.Outcome as O
 use Rattle.answers.proofs.Outcome.Laws as O′
 use Rattle.text.proofs.Record as RC
 use Rattle.text.proofs.Record.Laws as RC′
-use Rattle.player.proofs.Place as PL
-use Rattle.player.proofs.Place.Laws as PL′
+use Rattle.scripts.proofs.Place as PL
+use Rattle.scripts.proofs.Place.Laws as PL′
 use Rattle.lending.proofs.Lending.{Col, Keys, tokens, lasts, lie, refs, kept, shared, kept-shared, lends, backs, lends-shared, backs-shared, local-in, local-out, array-in, array-out}
 use Rattle.text.proofs.read_record as rd
 use Rattle.text.proofs.read_record.Symbol as rd-def

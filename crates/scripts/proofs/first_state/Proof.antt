@@ -3,10 +3,10 @@ use Prim.Native.Nat.{ℕ}
 use native.Mathlib.Omega.{arith}
 use mathlib.Core.Path.{ap, _∙_}
 use Rattle.scope.specs.Fresh.{fresh}
-use Rattle.player.proofs.Laws.{header, fresh-is}
+use Rattle.scripts.proofs.Laws.{header, fresh-is}
 use borrow.Author.Needs.{needs}
-use Rattle.player.proofs.first_state.Statement.{statement}
-use Rattle.player.proofs.first_state.Tie as tie
+use Rattle.scripts.proofs.first_state.Statement.{statement}
+use Rattle.scripts.proofs.first_state.Tie as tie
 
 read-number-requires : tie.Need-read-number-requires
 read-number-requires c κs = omega (arith, header _ (c .before .pre) .long)

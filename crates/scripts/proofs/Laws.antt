@@ -32,8 +32,8 @@ use Rattle.text.specs.declared.Record.{Record}
 use Rattle.text.specs.Records.{recordAt}
 use Rattle.text.specs.Lines.{longestLine, replyBy}
 use Rattle.text.proofs.Laws.{line-length}
-use Rattle.player.specs.declared.Place.{Place}
-use Rattle.player.specs.Place.{Point, Reached, pointAt, toCome, next, after, linesTo, Playing, Begun, LinePut, Played, PlayedPart}
+use Rattle.scripts.specs.declared.Place.{Place}
+use Rattle.scripts.specs.Place.{Point, Reached, pointAt, toCome, next, after, linesTo, Playing, Begun, LinePut, Played, PlayedPart}
 use Rattle.histories.proofs.Refusals.{stepped-sound}
 use Rattle.histories.proofs.Wakes.{woken-few}
 

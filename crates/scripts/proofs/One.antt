@@ -9,7 +9,7 @@ use mathlib.Core.List.{List}
 use lib.ListN.{length, take}
 use lib.Seq.{length-take-le}
 use Rattle.laws.proofs.Branches.{lt-or-le}
-use Rattle.player.specs.Place.{Point, Reached, after, linesTo, PlayedPart}
+use Rattle.scripts.specs.Place.{Point, Reached, after, linesTo, PlayedPart}
 
 module _ (script : List ℕ) (p : Point) where
   -- how many records were played, and how many bytes that makes

@@ -1,10 +1,10 @@
 -- `begin` gives the place before the first record: the script's numbers are its. Assumes nothing.
 use native.Mathlib.Omega.{arith}
 use mathlib.Core.Path.{refl}
-use Rattle.player.proofs.Laws.{header, begun}
+use Rattle.scripts.proofs.Laws.{header, begun}
 use borrow.Author.Needs.{needs}
-use Rattle.player.proofs.begin.Statement.{statement}
-use Rattle.player.proofs.begin.Tie as tie
+use Rattle.scripts.proofs.begin.Statement.{statement}
+use Rattle.scripts.proofs.begin.Tie as tie
 
 read-number-requires : tie.Need-read-number-requires
 read-number-requires c κs = omega (arith, header _ (c .before .pre) .long)

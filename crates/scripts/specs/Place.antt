@@ -11,8 +11,8 @@ use Rattle.scope.specs.Replies.{replyOf}
 use Rattle.scope.specs.Listing.{lineOf, linesFrom, listing}
 use Rattle.histories.specs.Sound.{Sound}
 use Rattle.text.specs.Lines.{longestLine}
-use Rattle.player.specs.declared.Place.{Place}
-use Rattle.player.specs.declared.Part.{Part}
+use Rattle.scripts.specs.declared.Place.{Place}
+use Rattle.scripts.specs.declared.Part.{Part}
 
 -- a point of a script: the state there, how many records are left, the number of the next and where it starts
 pub record Point : Type 0 where
