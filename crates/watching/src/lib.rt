@@ -1,7 +1,7 @@
 // Plays a script and keeps the grant grid beside the state (M-105): the grid as `grid` promises it, over the kernel's step. The state
 // is kept here and lent to each step. (specs/Watched.antt.)
-use scripts::Place;
 use scope::State;
+use scripts::Place;
 ghost use mathlib.Core.Path.{_≡_};
 ghost use mathlib.Core.Bool.{true};
 ghost use Prim.Native.Nat.{_≤_};
