@@ -58,8 +58,11 @@ class House:
         self.calls = self.path("calls")
         os.makedirs(self.root)
         shutil.copy(os.path.join(ROOT, "play"), self.path("play"))
-        write(self.path("crates.txt"), "one:\ntwo: one\nplay: one two io\n"
-                                       "watch: one two io\n")
+        os.makedirs(self.path("tools"))
+        shutil.copy(os.path.join(ROOT, "tools", "made_from"),
+                    self.path("tools", "made_from"))
+        write(self.path("crates.txt"), "one:\ntwo: one\nplay: two io\n"
+                                       "watch: two io\n")
         for crate in ("one", "two", "play", "watch"):
             write(self.path("crates", crate, "src", "lib.rt"), crate)
         write(self.path("crates/two/proofs/Laws.antt"), "law")

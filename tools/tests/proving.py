@@ -37,11 +37,12 @@ echo "rt: ok, 1 crates proved"
 def house(bench, name):
     root = os.path.join(bench.scratch, name)
     os.makedirs(os.path.join(root, "tools"))
-    shutil.copy(os.path.join(ROOT, "tools", "prove"),
-                os.path.join(root, "tools", "prove"))
+    for tool in ("prove", "made_from"):
+        shutil.copy(os.path.join(ROOT, "tools", tool),
+                    os.path.join(root, "tools", tool))
     with open(os.path.join(root, "crates.txt"), "w") as file:
         file.write("# layers\nbelow:\nleft: below\nright: below\n"
-                   "other:\ntop: left right below io\n")
+                   "other:\ntop: left right io\n")
     for crate, text in (("below", "x"), ("left", "x"), ("right", "x" * 99),
                         ("other", "x"), ("top", "x")):
         os.makedirs(os.path.join(root, "crates", crate, "src"))

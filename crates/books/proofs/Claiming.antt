@@ -21,10 +21,10 @@ use Rattle.scope.specs.Waiting.{waits}
 use Rattle.scope.proofs.Seats.{ahead-from}
 use Rattle.laws.proofs.Branches.{true-or-false, eq-or-not, not-of-false, picked-yes, picked-no}
 use Rattle.laws.proofs.Arrays.{inside}
-use Rattle.seats.specs.Rule.{In, AllSeated}
-use Rattle.seats.proofs.Leaving.{leaves-out}
-use Rattle.seats.proofs.Joining.{joins-is, joins-in}
-use Rattle.seats.proofs.Counting.{standing-le}
+use Rattle.laws.specs.Seating.{In, AllSeated}
+use Rattle.laws.proofs.Seats.Leaving.{leaves-out}
+use Rattle.laws.proofs.Seats.Joining.{joins-is, joins-in}
+use Rattle.laws.proofs.Seats.Counting.{standing-le}
 use Rattle.histories.specs.Sound.{Ready, Sound}
 use Rattle.histories.specs.Order.{Arrivals, arrival, WaitsFor}
 use Rattle.histories.proofs.Moves.{seats-low}

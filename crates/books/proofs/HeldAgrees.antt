@@ -13,7 +13,7 @@ use Rattle.scope.specs.declared.Found.{Found}
 use Rattle.scope.specs.declared.Found.the-variants.{At, Deleted, Invalid}
 use Rattle.scope.specs.Identifiers.{identifier, found}
 use Rattle.scope.specs.Pools.{poolBuffers, poolRow}
-use Rattle.tables.proofs.Laws.{Names, found-names, found-identifier, identifier-found}
+use Rattle.laws.proofs.Tables.{Names, found-names, found-identifier, identifier-found}
 use Rattle.books.specs.Past.{Turn}
 use Rattle.books.specs.Held.{addressIn, lengthIn, sizeIn, isForced, poolLives, held, freeLonger}
 use Rattle.books.proofs.HeldMarks.{Listed}

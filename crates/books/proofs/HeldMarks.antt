@@ -14,8 +14,8 @@ use Rattle.scope.specs.Lists.{has, without}
 use Rattle.scope.specs.Areas.{isArea, isSize, buffersOf, isOut, isFree, bufferAddress, bufferAt}
 use Rattle.laws.proofs.Branches.{true-false, true-or-false, eq-or-not}
 use Rattle.laws.proofs.Once.{Once, has-here, has-later, has-cut, has-other, once-cut, length-cut}
-use Rattle.areas.proofs.Marks.{take-same, take-other, back-same, back-other, out-below}
-use Rattle.areas.proofs.Buffers.{found-at}
+use Rattle.laws.proofs.Areas.Marks.{take-same, take-other, back-same, back-other, out-below}
+use Rattle.laws.proofs.Areas.Buffers.{found-at}
 use Rattle.histories.proofs.Marks.{taken, given-back, none-out}
 
 -- x is the address of one of n buffers, which is out

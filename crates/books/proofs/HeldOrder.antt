@@ -17,9 +17,9 @@ use Rattle.scope.specs.Places.{firstLeaves, joinsLast, newRow}
 use Rattle.scope.proofs.Buffers.{buffers-few, buffers-in-order}
 use Rattle.scope.proofs.Places.{leaves-at, joins-at, joins-other}
 use Rattle.laws.proofs.Branches.{true-false, eq-or-not, lt-or-le, picked-yes, picked-no, both, both-true, first-fails, second-fails}
-use Rattle.areas.proofs.Marks.{take-free-other}
-use Rattle.places.specs.Order.{Free, Ordered}
-use Rattle.places.proofs.Orders.{taken-out, back-free-other, new-place}
+use Rattle.laws.proofs.Areas.Marks.{take-free-other}
+use Rattle.laws.specs.Order.{Free, Ordered}
+use Rattle.laws.proofs.Orders.{taken-out, back-free-other, new-place}
 use Rattle.books.specs.Past.{Turn, isAnswerOf, creates}
 use Rattle.books.specs.Held.{isReturn, freeLonger}
 use Rattle.books.proofs.HeldMarks.{one-address}

@@ -27,10 +27,10 @@ use Rattle.scope.proofs.Rows.{by-choice}
 use Rattle.laws.proofs.Branches.{both-true, true-false, picked-yes, picked-no, eq-or-not}
 use Rattle.scope.proofs.Places.{row-same, row-other, length-new}
 use Rattle.scope.proofs.Gets.{on-place}
-use Rattle.tables.proofs.Laws.{found-names, found-live, found-slot, usable-at, usable-free}
-use Rattle.areas.proofs.Buffers.{found-is}
-use Rattle.places.specs.Order.{Ordered}
-use Rattle.places.proofs.Orders.{leaves-ordered, joins-ordered}
+use Rattle.laws.proofs.Tables.{found-names, found-live, found-slot, usable-at, usable-free}
+use Rattle.laws.proofs.Areas.Buffers.{found-is}
+use Rattle.laws.specs.Order.{Ordered}
+use Rattle.laws.proofs.Orders.{leaves-ordered, joins-ordered}
 use Rattle.histories.specs.Sound.{Sound}
 use Rattle.histories.specs.History.{Event, answerTo}
 use Rattle.histories.proofs.Pools.{row-says}

@@ -19,16 +19,16 @@ use Rattle.scope.specs.Lists.{has}
 use Rattle.scope.specs.Areas.{isArea, isSize, isOut, isFree, freeOf, bufferAddress, bufferAt}
 use Rattle.scope.specs.Places.{longestFree}
 use Rattle.scope.proofs.Gets.{on-place}
-use Rattle.places.specs.Order.{Free, Ordered}
-use Rattle.places.proofs.Orders.{others-behind}
+use Rattle.laws.specs.Order.{Free, Ordered}
+use Rattle.laws.proofs.Orders.{others-behind}
 use Rattle.scope.specs.Answers.{answer, plain, gives, badState, onFound}
 use Rattle.scope.specs.Calls.{callAt}
 use Rattle.scope.specs.Pools.{poolFound, poolBuffers, poolRow, poolInfoAt, poolDeleteAt, poolGetBuffer, poolGetBuffAt, poolRetBuffer, poolRetBuffAt}
 use Rattle.scope.proofs.Rows.{by-choice}
 use Rattle.laws.proofs.Branches.{both-true, second-decides, not-of-false, picked-yes, picked-no, true-false, true-or-false, eq-or-not}
 use Rattle.laws.proofs.Once.{Once, has-here}
-use Rattle.tables.proofs.Laws.{found-below, found-live}
-use Rattle.areas.proofs.Buffers.{count, starts, found-is}
+use Rattle.laws.proofs.Tables.{found-below, found-live}
+use Rattle.laws.proofs.Areas.Buffers.{count, starts, found-is}
 use Rattle.histories.specs.Sound.{Sound}
 use Rattle.histories.specs.History.{Event, answerTo}
 use Rattle.histories.proofs.Pools.{row-says}

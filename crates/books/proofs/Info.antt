@@ -17,7 +17,7 @@ use Rattle.scope.specs.Answers.{bitOf, answer, plain, badState}
 use Rattle.scope.specs.Semaphores.{semFound, semInfoAt}
 use Rattle.scope.specs.Replies.{replyOf}
 use Rattle.scope.specs.Fresh.{freshState}
-use Rattle.tables.proofs.Laws.{found-below, found-live, found-identifier}
+use Rattle.laws.proofs.Tables.{found-below, found-live, found-identifier}
 use Rattle.histories.specs.History.{Event, answerTo, after, total, SemaphoreAt}
 use Rattle.histories.specs.Books.{Counted, releases as releasesOf, grants as grantsOf}
 use Rattle.histories.proofs.Answered.{by-name, by-number}

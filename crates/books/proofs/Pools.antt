@@ -20,7 +20,7 @@ use Rattle.scope.specs.Identifiers.{identifier, found}
 use Rattle.scope.specs.Rules.{poolRight}
 use Rattle.scope.specs.Fresh.{freshState}
 use Rattle.laws.proofs.Branches.{both-true, true-false, picked-yes, lt-or-le}
-use Rattle.tables.proofs.Laws.{identifier-found}
+use Rattle.laws.proofs.Tables.{identifier-found}
 use Rattle.histories.specs.Sound.{PoolsSound, Sound}
 use Rattle.histories.specs.History.{Event, answerTo, after, PoolAt}
 use Rattle.histories.proofs.Fresh.{fresh-sound}

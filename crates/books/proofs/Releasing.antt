@@ -25,8 +25,8 @@ use Rattle.scope.specs.Fresh.{freshState}
 use Rattle.scope.proofs.Rows.{by-choice}
 use Rattle.laws.proofs.Branches.{true-false}
 use Rattle.laws.proofs.Searches.{least-true}
-use Rattle.tables.proofs.Laws.{found-below, found-slot, found-identifier}
-use Rattle.seats.specs.Rule.{In}
+use Rattle.laws.proofs.Tables.{found-below, found-slot, found-identifier}
+use Rattle.laws.specs.Seating.{In}
 use Rattle.histories.specs.History.{Event, answerTo, after, SemaphoreAt}
 use Rattle.histories.specs.Order.{arrivals, WaitsFor, Grant}
 use Rattle.histories.proofs.Answered.{by-name, by-number}

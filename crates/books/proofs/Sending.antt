@@ -26,8 +26,8 @@ use Rattle.scope.specs.Replies.{Reply, replyOf}
 use Rattle.scope.specs.Fresh.{freshState}
 use Rattle.scope.proofs.Rows.{by-choice}
 use Rattle.laws.proofs.Branches.{true-false}
-use Rattle.tables.proofs.Laws.{found-below, found-slot, found-identifier}
-use Rattle.seats.proofs.First.{first-is}
+use Rattle.laws.proofs.Tables.{found-below, found-slot, found-identifier}
+use Rattle.laws.proofs.Seats.First.{first-is}
 use Rattle.histories.specs.Sound.{Sound}
 use Rattle.histories.specs.History.{Event, answerTo, after, QueueAt}
 use Rattle.histories.specs.Order.{WaitsFor}

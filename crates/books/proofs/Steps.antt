@@ -27,8 +27,8 @@ use Rattle.scope.specs.Ticks.{wakeDue, takesOne, tick}
 use Rattle.scope.specs.Tasks.{taskFound}
 use Rattle.scope.specs.Replies.{Wake, wakesFrom, wakeList}
 use Rattle.laws.proofs.Branches.{both, true-false, true-or-false, eq-or-not, picked-yes, picked-no}
-use Rattle.tables.proofs.Laws.{found-identifier}
-use Rattle.seats.specs.Rule.{In}
+use Rattle.laws.proofs.Tables.{found-identifier}
+use Rattle.laws.specs.Seating.{In}
 use Rattle.histories.specs.Sound.{Waits, Sound}
 use Rattle.histories.specs.History.{Event}
 use Rattle.histories.specs.Order.{Arrivals, arrives, WaitsFor}

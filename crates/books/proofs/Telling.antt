@@ -31,9 +31,9 @@ use Rattle.scope.specs.Messages.{Store}
 use Rattle.scope.specs.Queues.{withStore, queueFound, firstReceiver, queueBorn, queueDeleteAt}
 use Rattle.scope.specs.Ticks.{tick}
 use Rattle.laws.proofs.Branches.{both-true, not-of-true, true-false, true-or-false, eq-or-not, picked-yes, picked-no}
-use Rattle.tables.proofs.Laws.{found-live, found-identifier, usable-at, usable-free}
-use Rattle.seats.specs.Rule.{In}
-use Rattle.seats.proofs.Leaving.{leaves-out}
+use Rattle.laws.proofs.Tables.{found-live, found-identifier, usable-at, usable-free}
+use Rattle.laws.specs.Seating.{In}
+use Rattle.laws.proofs.Seats.Leaving.{leaves-out}
 use Rattle.histories.specs.Sound.{Ready, Sound}
 use Rattle.histories.specs.History.{Event, answerTo, after}
 use Rattle.histories.specs.Order.{Arrivals, arrival, arrives, arrivedAfter}

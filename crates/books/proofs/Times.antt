@@ -29,7 +29,7 @@ use Rattle.scope.specs.Replies.{wakesFrom, wakeList, replyOf}
 use Rattle.scope.specs.Fresh.{freshState}
 use Rattle.scope.proofs.Times.{tick-takes-one}
 use Rattle.laws.proofs.Branches.{both, both-true, first-fails, second-fails, not-of-true, not-of-false, eq-or-not, picked-yes}
-use Rattle.seats.specs.Rule.{In}
+use Rattle.laws.specs.Seating.{In}
 use Rattle.histories.specs.Sound.{Sound}
 use Rattle.histories.specs.History.{Event, answerTo, after}
 use Rattle.histories.specs.Order.{noArrivals, WaitsFor}

@@ -23,7 +23,7 @@ use Rattle.scope.specs.Fresh.{freshState, fresh}
 use Rattle.scope.specs.Rules.{queueRight}
 use Rattle.scope.proofs.Rows.{by-choice}
 use Rattle.laws.proofs.Branches.{both, both-true, true-false, picked-yes, picked-no}
-use Rattle.tables.proofs.Laws.{identifier-found}
+use Rattle.laws.proofs.Tables.{identifier-found}
 use Rattle.histories.specs.Sound.{Waits, Sound}
 use Rattle.histories.specs.History.{Event, after}
 use Rattle.histories.specs.Order.{Arrivals, noArrivals, arrivals, WaitsFor, InOrder, Ahead as AheadBySlot, Precedes as PrecedesBySlot}

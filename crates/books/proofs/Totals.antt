@@ -20,7 +20,7 @@ use Rattle.scope.specs.Semaphores.{semFound, semCreateAt, semCreate, semRelease
 use Rattle.scope.specs.Fresh.{freshState}
 use Rattle.scope.proofs.Rows.{by-choice}
 use Rattle.laws.proofs.Branches.{both, both-true, first-fails, true-or-false, eq-or-not, picked-yes, picked-no}
-use Rattle.tables.proofs.Laws.{found-below, found-identifier}
+use Rattle.laws.proofs.Tables.{found-below, found-identifier}
 use Rattle.histories.specs.Sound.{Sound}
 use Rattle.histories.specs.History.{Event, answerTo, after, total, SemaphoreAt}
 use Rattle.histories.specs.Order.{Arrivals, noArrivals}

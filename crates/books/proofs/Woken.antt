@@ -22,10 +22,10 @@ use Rattle.scope.specs.Waiting.{wokenSeats, wake, wakeNext, wakeAll, noneWoken}
 use Rattle.scope.specs.Ticks.{isDue, wakeDue, takesOne}
 use Rattle.scope.specs.Replies.{wakesFrom}
 use Rattle.laws.proofs.Branches.{lt-or-le, eq-or-not, true-false, true-or-false, picked-yes, picked-no}
-use Rattle.seats.specs.Rule.{In}
-use Rattle.seats.proofs.Leaving.{leaves-out, leaves-nowhere, leaves-is}
-use Rattle.seats.proofs.Joining.{joins-untouched}
-use Rattle.seats.proofs.Rule.{stands-in}
+use Rattle.laws.specs.Seating.{In}
+use Rattle.laws.proofs.Seats.Leaving.{leaves-out, leaves-nowhere, leaves-is}
+use Rattle.laws.proofs.Seats.Joining.{joins-untouched}
+use Rattle.laws.proofs.Seats.Rule.{stands-in}
 use Rattle.histories.proofs.Staying.{Good, leaves-good, ready-stays, ready-good, next-fewer}
 use Rattle.books.specs.Waiting.{wakes}
 

@@ -26,9 +26,9 @@ use Rattle.scope.specs.Queues.{mostOf, longestOf, heldOf, storeOf, withStore, f
 use Rattle.scope.specs.Rules.{queueRight}
 use Rattle.scope.specs.Ticks.{tick}
 use Rattle.laws.proofs.Branches.{both-true, true-false, eq-or-not, picked-no}
-use Rattle.tables.proofs.Laws.{found-identifier, usable-at, usable-free}
-use Rattle.messages.proofs.Stores.{Sized, append-messages, push-messages, take-messages, append-others, push-others, take-others, clear-others}
-use Rattle.messages.proofs.Views.{as-lent, length-cell}
+use Rattle.laws.proofs.Tables.{found-identifier, usable-at, usable-free}
+use Rattle.laws.proofs.Messages.Stores.{Sized, append-messages, push-messages, take-messages, append-others, push-others, take-others, clear-others}
+use Rattle.laws.proofs.Messages.Views.{as-lent, length-cell}
 use Rattle.histories.specs.Sound.{Sound}
 use Rattle.histories.specs.History.{Event, answerTo, after}
 use Rattle.histories.proofs.Tables.{live-issued}

@@ -23,9 +23,9 @@ use Rattle.scope.specs.Replies.{replyOf}
 use Rattle.scope.specs.Fresh.{freshState}
 use Rattle.scope.proofs.Rows.{by-choice}
 use Rattle.laws.proofs.Branches.{both-true, true-false, picked-yes}
-use Rattle.tables.proofs.Laws.{found-identifier}
-use Rattle.messages.proofs.Stores.{held-counts, length-row, take-messages}
-use Rattle.messages.proofs.Keeps.{InForm, shows-length, shows-message}
+use Rattle.laws.proofs.Tables.{found-identifier}
+use Rattle.laws.proofs.Messages.Stores.{held-counts, length-row, take-messages}
+use Rattle.laws.proofs.Messages.Keeps.{InForm, shows-length, shows-message}
 use Rattle.histories.specs.Sound.{Sound}
 use Rattle.histories.specs.History.{Event, answerTo, after, QueueAt}
 use Rattle.histories.proofs.Fresh.{fresh-sound}

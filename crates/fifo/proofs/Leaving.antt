@@ -31,8 +31,8 @@ use Rattle.scope.specs.Replies.{Wake, wakesFrom}
 use Rattle.scope.specs.Fresh.{freshState}
 use Rattle.scope.proofs.Rows.{by-choice}
 use Rattle.laws.proofs.Branches.{true-false, true-or-false, both, both-true, eq-or-not, picked-yes, picked-no, second-fails}
-use Rattle.tables.proofs.Laws.{found-slot, found-live, found-identifier, usable-at, usable-free}
-use Rattle.seats.specs.Rule.{In}
+use Rattle.laws.proofs.Tables.{found-slot, found-live, found-identifier, usable-at, usable-free}
+use Rattle.laws.specs.Seating.{In}
 use Rattle.histories.specs.Sound.{Sound}
 use Rattle.histories.specs.History.{Event, answerTo, after, SemaphoreAt}
 use Rattle.histories.specs.Order.{WaitsFor}

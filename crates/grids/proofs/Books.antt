@@ -20,7 +20,7 @@ use Rattle.scope.specs.Semaphores.{semDeleteAt}
 use Rattle.scope.specs.Queues.{queueDeleteAt}
 use Rattle.scope.specs.Ticks.{tick}
 use Rattle.laws.proofs.Branches.{eq-or-not, true-or-false, second-decides, picked-no}
-use Rattle.tables.proofs.Laws.{found-below, found-identifier}
+use Rattle.laws.proofs.Tables.{found-below, found-identifier}
 use Rattle.histories.specs.Sound.{Sound}
 use Rattle.histories.specs.History.{Event, answerTo}
 use Rattle.histories.specs.Order.{Arrivals, WaitsFor}

@@ -36,7 +36,7 @@ use Rattle.scope.specs.Rules.{sound}
 use Rattle.scope.specs.Step.{callerRefusal, answered, stepped}
 use Rattle.scope.proofs.Rows.{by-choice}
 use Rattle.laws.proofs.Branches.{picked-yes, picked-no, true-false}
-use Rattle.tables.proofs.Laws.{found-below, found-slot, found-identifier}
+use Rattle.laws.proofs.Tables.{found-below, found-slot, found-identifier}
 use Rattle.histories.specs.Sound.{Sound}
 use Rattle.histories.specs.History.{Event, answerTo}
 use Rattle.histories.proofs.Meaning.{sound-right}

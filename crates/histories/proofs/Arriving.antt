@@ -18,9 +18,9 @@ use Rattle.scope.specs.Objects.{objectsEnd, Objects}
 use Rattle.scope.specs.Views.{withSeats, withWait}
 use Rattle.scope.specs.Waiting.{queueKey, waits}
 use Rattle.laws.proofs.Branches.{lt-or-le, eq-or-not}
-use Rattle.seats.specs.Rule.{In, Sorted}
+use Rattle.laws.specs.Seating.{In, Sorted}
 use Rattle.scope.proofs.Seats.{ahead-from}
-use Rattle.seats.proofs.Joining.{joins-is, joins-in, joins-behind, joins-before}
+use Rattle.laws.proofs.Seats.Joining.{joins-is, joins-in, joins-behind, joins-before}
 use Rattle.histories.specs.Order.{Arrivals, arrival, Ahead}
 use Rattle.histories.specs.Sound.{Ready, LineSound}
 use Rattle.histories.proofs.Moves.{Out, agree-same, ready-gone, seats-low}

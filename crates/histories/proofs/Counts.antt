@@ -31,11 +31,11 @@ use Rattle.scope.proofs.Rows.{by-choice}
 use Rattle.scope.proofs.Counts.{plusOne, lessOne, waiter-more}
 use Rattle.scope.proofs.Waiters as waiters
 use Rattle.scope.proofs.Waiters.{countIn}
-use Rattle.seats.specs.Rule.{In, AllSeated}
-use Rattle.seats.proofs.Counting.{standing-is, standing-le}
-use Rattle.seats.proofs.Leaving.{length-leaves, leaves-out, leaves-others}
-use Rattle.seats.proofs.Joining.{length-joins, joins-seated}
-use Rattle.seats.proofs.Rule.{leaves-keeps}
+use Rattle.laws.specs.Seating.{In, AllSeated}
+use Rattle.laws.proofs.Seats.Counting.{standing-is, standing-le}
+use Rattle.laws.proofs.Seats.Leaving.{length-leaves, leaves-out, leaves-others}
+use Rattle.laws.proofs.Seats.Joining.{length-joins, joins-seated}
+use Rattle.laws.proofs.Seats.Rule.{leaves-keeps}
 use Rattle.histories.specs.Sound.{Ready, LineSound, Sound}
 use Rattle.histories.specs.History.{Event, after}
 use Rattle.histories.proofs.Moves.{seats-low, leaves-elsewhere, wake-elsewhere}

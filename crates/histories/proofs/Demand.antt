@@ -18,7 +18,7 @@ use Rattle.scope.specs.Fresh.{freshState}
 use Rattle.scope.proofs.Waiters.{countIn}
 use Rattle.scope.proofs.Counts.{less-below, less-negative, less-not-negative, less-more}
 use Rattle.laws.proofs.Branches.{true-false}
-use Rattle.tables.proofs.Laws.{found-below, found-live}
+use Rattle.laws.proofs.Tables.{found-below, found-live}
 use Rattle.histories.specs.Sound.{Sound}
 use Rattle.histories.specs.History.{Event, answerTo, after, total, SemaphoreAt, PoolAt}
 use Rattle.histories.specs.Books.{releases, grants, gets, returns, Counted, buffersOut}

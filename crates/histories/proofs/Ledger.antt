@@ -12,7 +12,7 @@ use Rattle.scope.specs.declared.Answer.{Answer}
 use Rattle.scope.specs.declared.Found.{Found}
 use Rattle.scope.specs.declared.Found.the-variants.{At, Deleted, Invalid}
 use Rattle.scope.specs.Identifiers.{found}
-use Rattle.tables.proofs.Laws.{found-slot}
+use Rattle.laws.proofs.Tables.{found-slot}
 use Rattle.histories.specs.Sound.{Sound}
 use Rattle.histories.specs.History.{Event, answerTo, after, total}
 use Rattle.histories.proofs.Stays.{step-keeps}

@@ -29,9 +29,9 @@ use Rattle.scope.specs.Answers.{answer, plain, badState, shows, wakesWith, deli
 use Rattle.scope.specs.Pools.{poolFound, poolBuffers, poolRow, poolFree, poolBorn, poolGone, withOut}
 use Rattle.laws.proofs.Arrays.{cleared}
 use Rattle.laws.proofs.Branches.{both-true, picked-yes, picked-no}
-use Rattle.tables.proofs.Laws.{found-names, usable-at, usable-free}
+use Rattle.laws.proofs.Tables.{found-names, usable-at, usable-free}
 pub use Rattle.scope.proofs.Marks.{free-or-out}
-use Rattle.areas.proofs.Marks.{out-below, take-free, back-free}
+use Rattle.laws.proofs.Areas.Marks.{out-below, take-free, back-free}
 use Rattle.histories.specs.Sound.{Sound}
 use Rattle.histories.specs.History.{Event, answerTo}
 use Rattle.histories.specs.Books.{answeredOK, gets, returns, buffersOut}

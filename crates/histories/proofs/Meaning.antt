@@ -25,10 +25,10 @@ use Rattle.laws.proofs.Arrays.{inside}
 use Rattle.scope.specs.Pools.{poolBuffers, poolRow}
 use Rattle.scope.proofs.Buffers.{buffers-few}
 use Rattle.scope.proofs.Places.{length-row}
-use Rattle.places.proofs.Orders.{order-says, order-right}
-use Rattle.seats.specs.Rule.{In, Sorted, AllSeated}
-use Rattle.seats.proofs.Rule.{queues-from-rule, rule-from-queues}
-use Rattle.seats.proofs.Sorting.{steps-from-sorted, sorted-from-steps}
+use Rattle.laws.proofs.Orders.{order-says, order-right}
+use Rattle.laws.specs.Seating.{In, Sorted, AllSeated}
+use Rattle.laws.proofs.Seats.Rule.{queues-from-rule, rule-from-queues}
+use Rattle.laws.proofs.Seats.Sorting.{steps-from-sorted, sorted-from-steps}
 use Rattle.histories.specs.Sound.{Waits, Ready, Stands, LineSound, TaskSound, TasksSound, SemSound, SemsSound, PoolsSound, QueuesSound, Sound, Sized}
 use Rattle.histories.proofs.Tests.{chosen-yes, chosen-no, choose, waits-is, waits-says, ready-says, idle-says, ready-right, start-says, start-right, wait-says, rest-says, wait-right, joined-says, joined-right, holds-says, holds-right}
 use Rattle.histories.proofs.Ruled.{Row, rows, row-holds, none, more, each-keeps, sound-keeps, keeps-sound}

@@ -21,14 +21,14 @@ use Rattle.scope.specs.Views.{withSeats, withWait}
 use Rattle.scope.specs.Waiting.{isTimeOut, queueKey, waits, wokenSeats, wokenRings, wake}
 use Rattle.laws.proofs.Branches.{lt-or-le, eq-or-not, picked-yes, picked-no, both, both-true, true-false}
 use Rattle.laws.proofs.Arrays.{inside}
-use Rattle.seats.specs.Rule.{In, Sorted, AllSeated}
-use Rattle.seats.proofs.Counting.{standing-is, standing-le}
-use Rattle.seats.proofs.Apart.{untouched-sorted}
-use Rattle.seats.proofs.Leaving.{length-leaves, leaves-out, leaves-nowhere, leaves-is, leaves-seated, leaves-sorted, leaves-others, leaves-others-sorted}
-use Rattle.seats.proofs.Joining.{length-joins, joins-is, joins-in, joins-sorted, joins-untouched, joins-others, joins-others-sorted}
+use Rattle.laws.specs.Seating.{In, Sorted, AllSeated}
+use Rattle.laws.proofs.Seats.Counting.{standing-is, standing-le}
+use Rattle.laws.proofs.Seats.Apart.{untouched-sorted}
+use Rattle.laws.proofs.Seats.Leaving.{length-leaves, leaves-out, leaves-nowhere, leaves-is, leaves-seated, leaves-sorted, leaves-others, leaves-others-sorted}
+use Rattle.laws.proofs.Seats.Joining.{length-joins, joins-is, joins-in, joins-sorted, joins-untouched, joins-others, joins-others-sorted}
 use Rattle.scope.proofs.Seats.{ahead-from}
-use Rattle.seats.proofs.Rule.{stands-in, leaves-keeps, joins-queues}
-use Rattle.seats.proofs.Rings.{queued-mask, rings-left, rings-ready}
+use Rattle.laws.proofs.Seats.Rule.{stands-in, leaves-keeps, joins-queues}
+use Rattle.laws.proofs.Seats.Rings.{queued-mask, rings-left, rings-ready}
 use Rattle.histories.specs.Sound.{Nowhere, Waits, Ready, Stands, LineSound}
 
 -- who leaves a seat below all rings leaves the rings as they are

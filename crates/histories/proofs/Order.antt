@@ -26,9 +26,9 @@ use Rattle.scope.specs.Step.{callerRefusal, answered, stepped}
 use Rattle.scope.specs.Fresh.{freshState, fresh}
 use Rattle.scope.proofs.Rows.{by-choice}
 use Rattle.laws.proofs.Branches.{lt-or-le, true-false, picked-yes, picked-no, first-fails, not-of-true}
-use Rattle.tables.proofs.Laws.{found-below}
-use Rattle.seats.specs.Rule.{In}
-use Rattle.seats.proofs.First.{first-is}
+use Rattle.laws.proofs.Tables.{found-below}
+use Rattle.laws.specs.Seating.{In}
+use Rattle.laws.proofs.Seats.First.{first-is}
 use Rattle.histories.specs.Sound.{Sound}
 use Rattle.histories.specs.History.{Event, answerTo, after, SemaphoreAt}
 use Rattle.histories.specs.Order.{Arrivals, arrives, arrivedAfter, noArrivals, arrivals, Ahead, WaitsFor, Precedes, InOrder, Grant}

@@ -12,9 +12,9 @@ use Rattle.scope.specs.Areas.{isOut, bufferAddress}
 use Rattle.scope.specs.Pools.{poolBuffers}
 use Rattle.scope.proofs.Buffers.{buffer-inside}
 use Rattle.laws.proofs.Branches.{true-false, lt-or-le, eq-or-not}
-use Rattle.areas.proofs.Marks.{out-below}
-use Rattle.areas.proofs.Bytes.{In, InPool, shares, no-byte}
-use Rattle.areas.proofs.Buffers.{buffers-apart}
+use Rattle.laws.proofs.Areas.Marks.{out-below}
+use Rattle.laws.proofs.Areas.Bytes.{In, InPool, shares, no-byte}
+use Rattle.laws.proofs.Areas.Buffers.{buffers-apart}
 use Rattle.histories.specs.Sound.{PoolsSound}
 use Rattle.histories.proofs.Pools.{row-says}
 

@@ -26,14 +26,14 @@ use Rattle.scope.specs.Rules.{admitted, poolRight, pairShares}
 use Rattle.laws.proofs.Arrays.{cleared}
 use Rattle.laws.proofs.Branches.{picked-yes, both, both-true, lt-or-le, eq-or-not, true-or-false}
 use Rattle.laws.proofs.Searches.{least-below}
-use Rattle.tables.proofs.Laws.{found-names}
+use Rattle.laws.proofs.Tables.{found-names}
 use Rattle.scope.proofs.Buffers.{buffers-few}
 use Rattle.scope.proofs.Places.{length-with, row-same, row-other}
 use Rattle.scope.proofs.Gets.{on-place}
-use Rattle.areas.proofs.Marks.{take-fits, back-below, out-below}
-use Rattle.areas.proofs.Bytes.{share-swap, apart-at, apart-all}
-use Rattle.places.specs.Order.{Ordered}
-use Rattle.places.proofs.Orders.{placed-free, first-found, leaves-ordered, joins-ordered, new-ordered, none-ordered}
+use Rattle.laws.proofs.Areas.Marks.{take-fits, back-below, out-below}
+use Rattle.laws.proofs.Areas.Bytes.{share-swap, apart-at, apart-all}
+use Rattle.laws.specs.Order.{Ordered}
+use Rattle.laws.proofs.Orders.{placed-free, first-found, leaves-ordered, joins-ordered, new-ordered, none-ordered}
 use Rattle.histories.specs.Sound.{PoolsSized, PoolsSound, Sound}
 use Rattle.histories.proofs.Tests.{chosen-yes}
 use Rattle.histories.specs.History.{Event}

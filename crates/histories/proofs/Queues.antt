@@ -26,12 +26,12 @@ use Rattle.scope.specs.Queues.{mostOf, longestOf, heldOf, storeOf, withStore, a
 use Rattle.scope.specs.Rules.{queueRight, messagesRight}
 use Rattle.laws.proofs.Arrays.{cleared as zeroed}
 use Rattle.laws.proofs.Branches.{lt-or-le, eq-or-not, both, both-true, picked-yes}
-use Rattle.tables.proofs.Laws.{found-below, found-live, usable-at, usable-free}
-use Rattle.seats.proofs.Counting.{standing-le}
-use Rattle.messages.proofs.Stores.{Sized}
-use Rattle.messages.proofs.Keeps.{InForm, lent-right}
-use Rattle.messages.proofs.Kept.{Kept, store-told, store-tells, append-kept, push-kept, take-kept, clear-kept}
-use Rattle.messages.proofs.Views.{length-cell}
+use Rattle.laws.proofs.Tables.{found-below, found-live, usable-at, usable-free}
+use Rattle.laws.proofs.Seats.Counting.{standing-le}
+use Rattle.laws.proofs.Messages.Stores.{Sized}
+use Rattle.laws.proofs.Messages.Keeps.{InForm, lent-right}
+use Rattle.laws.proofs.Messages.Kept.{Kept, store-told, store-tells, append-kept, push-kept, take-kept, clear-kept}
+use Rattle.laws.proofs.Messages.Views.{length-cell}
 use Rattle.histories.specs.Sound.{LineSound, QueuesSound, Sound}
 use Rattle.histories.specs.History.{Event}
 use Rattle.histories.proofs.Tests.{chosen-no}

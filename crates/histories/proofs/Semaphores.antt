@@ -24,9 +24,9 @@ use Rattle.scope.specs.Waiting.{isTimeOut, waits, wakeNext, noneWoken, wakeAll}
 use Rattle.scope.specs.Semaphores.{lastCount, semBorn, semGone, withUnits, semFound, semDeleteAt}
 use Rattle.laws.proofs.Arrays.{cleared}
 use Rattle.laws.proofs.Branches.{lt-or-le, eq-or-not, true-false, true-or-false, second-decides, not-of-false}
-use Rattle.tables.proofs.Laws.{found-below, found-live, usable-at, usable-free}
-use Rattle.seats.proofs.Counting.{standing-le}
-use Rattle.seats.proofs.First.{runner-ring}
+use Rattle.laws.proofs.Tables.{found-below, found-live, usable-at, usable-free}
+use Rattle.laws.proofs.Seats.Counting.{standing-le}
+use Rattle.laws.proofs.Seats.First.{runner-ring}
 use Rattle.histories.specs.Sound.{Ready, LineSound, TasksSound, SemSound, SemsSound, Sound}
 use Rattle.histories.proofs.Objects.{sem-live, sem-fifo, sem-stock, no-units, born-elsewhere, gone-elsewhere, units-elsewhere}
 use Rattle.histories.proofs.Moves.{waits-sound, queue-waits, ring-ready}

@@ -20,10 +20,10 @@ use Rattle.scope.specs.Views.{withWait}
 use Rattle.scope.specs.Waiting.{wokenSeats, wake, wakeNext, wakeAll}
 use Rattle.scope.specs.Ticks.{ticked, isDue, wakeDue}
 use Rattle.laws.proofs.Branches.{lt-or-le}
-use Rattle.seats.specs.Rule.{In, AllSeated}
-use Rattle.seats.proofs.Leaving.{Lowered, leaves-out, leaves-nowhere, leaves-is}
-use Rattle.seats.proofs.Joining.{joins-untouched}
-use Rattle.seats.proofs.Rule.{stands-in, leaves-keeps, joins-queues}
+use Rattle.laws.specs.Seating.{In, AllSeated}
+use Rattle.laws.proofs.Seats.Leaving.{Lowered, leaves-out, leaves-nowhere, leaves-is}
+use Rattle.laws.proofs.Seats.Joining.{joins-untouched}
+use Rattle.laws.proofs.Seats.Rule.{stands-in, leaves-keeps, joins-queues}
 
 -- seats that say queues, and none of them below the first queue
 pub record Good (q : List ℕ) : Type 0 where

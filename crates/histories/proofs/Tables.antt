@@ -15,7 +15,7 @@ use Rattle.scope.specs.declared.Found.the-variants.{At, Deleted, Invalid}
 use Rattle.scope.specs.Choice.{pick}
 use Rattle.scope.specs.Identifiers.{identifier, found, issued, isLive}
 use Rattle.laws.proofs.Branches.{true-false, true-or-false, eq-or-not, both, both-true}
-use Rattle.tables.proofs.Laws.{Names, found-names, found-current, found-identifier, identifier-found}
+use Rattle.laws.proofs.Tables.{Names, found-names, found-current, found-identifier, identifier-found}
 
 -- the columns of a table, and what they are later
 pub record Later (serial : List ℕ) (live : List Bool) (serial2 : List ℕ) (live2 : List Bool) : Type 0 where

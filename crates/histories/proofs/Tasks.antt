@@ -22,7 +22,7 @@ use Rattle.scope.specs.Objects.{Objects, objectsOf}
 use Rattle.scope.specs.Views.{withLine, withTasks, withSeats, withWait, readyWith, isReady}
 use Rattle.scope.specs.Tasks.{taskFound, taskBorn, taskGone, withStarted, withSuspended, withPriority}
 use Rattle.laws.proofs.Branches.{eq-or-not, both, both-true, second-fails, not-of-false, true-false, true-or-false}
-use Rattle.tables.proofs.Laws.{found-below, found-live, usable-at, usable-free}
+use Rattle.laws.proofs.Tables.{found-below, found-live, usable-at, usable-free}
 use Rattle.histories.specs.Sound.{Nowhere, Waits, Ready, LineSound, TaskRow, TaskSound, TasksSound, Sound}
 use Rattle.histories.specs.History.{Event}
 use Rattle.histories.proofs.Deeds.{newTask, TaskChange, task-created, waiter-suspended, waiter-resumed, priority-noted}

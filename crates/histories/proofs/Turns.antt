@@ -32,9 +32,9 @@ use Rattle.scope.specs.Queues.{queueFound, firstReceiver, queueDeleteAt}
 use Rattle.scope.specs.Ticks.{tick}
 use Rattle.scope.specs.Step.{stepped}
 use Rattle.laws.proofs.Branches.{eq-or-not, picked-yes, picked-no}
-use Rattle.tables.proofs.Laws.{found-below, found-live, usable-at, usable-free}
-use Rattle.seats.specs.Rule.{In}
-use Rattle.seats.proofs.Leaving.{leaves-out}
+use Rattle.laws.proofs.Tables.{found-below, found-live, usable-at, usable-free}
+use Rattle.laws.specs.Seating.{In}
+use Rattle.laws.proofs.Seats.Leaving.{leaves-out}
 use Rattle.histories.specs.Order.{Arrivals, arrival, arrives}
 use Rattle.histories.specs.Sound.{Sound}
 use Rattle.histories.specs.History.{Event}

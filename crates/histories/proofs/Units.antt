@@ -23,7 +23,7 @@ use Rattle.scope.specs.Views.{withSemaphores}
 use Rattle.scope.specs.Waiting.{wakeNext, noneWoken}
 use Rattle.scope.specs.Semaphores.{semFound, withUnits, semDeleteAt}
 use Rattle.laws.proofs.Branches.{both, first-fails, picked-yes, picked-no}
-use Rattle.tables.proofs.Laws.{found-names, usable-at, usable-free}
+use Rattle.laws.proofs.Tables.{found-names, usable-at, usable-free}
 use Rattle.histories.specs.Sound.{Sound}
 use Rattle.histories.specs.History.{Event, answerTo}
 use Rattle.histories.specs.Books.{answeredOK, releases, grants}

@@ -18,8 +18,8 @@ use Rattle.scope.specs.Seats.{queueSeats, firstOf, standing}
 use Rattle.scope.specs.Waiting.{wakeNext, wakeAll}
 use Rattle.laws.proofs.Branches.{lt-or-le, eq-or-not, true-false}
 use Rattle.laws.proofs.Arrays.{inside}
-use Rattle.seats.specs.Rule.{In, Sorted, AllSeated}
-use Rattle.seats.proofs.First.{on-seat, first-is}
+use Rattle.laws.specs.Seating.{In, Sorted, AllSeated}
+use Rattle.laws.proofs.Seats.First.{on-seat, first-is}
 use Rattle.histories.specs.Sound.{Waits, LineSound}
 use Rattle.histories.proofs.Objects.{Elsewhere}
 use Rattle.histories.proofs.Moves.{wake-sound, wake-standing, queue-waits}

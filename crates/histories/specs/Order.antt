@@ -15,7 +15,7 @@ use Rattle.scope.specs.Statuses.{PENDING}
 use Rattle.scope.specs.Identifiers.{identifier}
 use Rattle.scope.specs.Seats.{queueSeats}
 use Rattle.scope.specs.Objects.{objectsEnd, objectsOf}
-use Rattle.seats.specs.Rule.{In}
+use Rattle.laws.specs.Seating.{In}
 use Rattle.histories.specs.History.{Event, answerTo}
 
 -- for each task slot, the number of the event at which its task was last answered PENDING, and its priority at that moment

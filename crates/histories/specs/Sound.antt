@@ -19,8 +19,8 @@ use Rattle.scope.specs.Waiting.{isTimeOut}
 use Rattle.scope.specs.Pools.{poolBuffers, poolRow}
 use Rattle.scope.specs.Queues.{mostOf}
 use Rattle.scope.specs.Rules.{queueRight, messagesRight, poolRight, poolsApart}
-use Rattle.places.specs.Order.{Ordered}
-use Rattle.seats.specs.Rule.{In, Sorted, AllSeated}
+use Rattle.laws.specs.Order.{Ordered}
+use Rattle.laws.specs.Seating.{In, Sorted, AllSeated}
 
 -- The arrays have the sizes that document 01's room sets: true of every state that the code can hold.
 pub record LineSized (l : Line) : Type 0 where

@@ -16,8 +16,8 @@ use Rattle.scope.specs.Seats.{ringSeats, queueSeats, firstRing, standing, leave
 use Rattle.scope.specs.Objects.{objectsEnd, Objects}
 use Rattle.laws.proofs.Branches.{true-false, true-or-false, eq-or-not}
 use Rattle.laws.proofs.Arrays.{inside}
-use Rattle.seats.specs.Rule.{In, AllSeated}
-use Rattle.seats.proofs.Leaving.{leaves-out}
+use Rattle.laws.specs.Seating.{In, AllSeated}
+use Rattle.laws.proofs.Seats.Leaving.{leaves-out}
 use Rattle.histories.specs.Sound.{LineSound, TasksSound}
 use Rattle.histories.proofs.Moves.{seats-low, ring-ready}
 use Rattle.histories.proofs.Staying.{Good, leaves-good, ready-good}

@@ -17,8 +17,8 @@ use Rattle.scope.specs.Lists.{has, keep}
 use Rattle.scope.specs.Seats.{queueSeats, ringSeats, onSeat, standing, tasksFrom, queue, readyBelow, readyOrder}
 use Rattle.scope.specs.Objects.{objectsOf}
 use Rattle.laws.proofs.Branches.{lt-or-le, true-false}
-use Rattle.seats.specs.Rule.{In}
-use Rattle.seats.proofs.First.{on-seat}
+use Rattle.laws.specs.Seating.{In}
+use Rattle.laws.proofs.Seats.First.{on-seat}
 use Rattle.histories.specs.Sound.{Sound}
 use Rattle.histories.proofs.Objects.{live-object}
 use Rattle.lists.specs.Along.{queueAbove, firstIn}

@@ -16,10 +16,10 @@ use Rattle.scope.specs.Seats.{queueSeats, ringSeats, standing, aheadOf, seatBeh
 use Rattle.scope.proofs.Seats.{ahead-from}
 use Rattle.scope.specs.Objects.{objectsEnd}
 use Rattle.laws.proofs.Branches.{eq-or-not}
-use Rattle.seats.specs.Rule.{In, Seated, Sorted, AllSeated}
-use Rattle.seats.proofs.Counting.{standing-le}
-use Rattle.seats.proofs.Joining.{Raised, joins-is, joins-in, joins-behind, joins-before, joins-untouched, joins-others}
-use Rattle.seats.proofs.Rule.{joins-queues}
+use Rattle.laws.specs.Seating.{In, Seated, Sorted, AllSeated}
+use Rattle.laws.proofs.Seats.Counting.{standing-le}
+use Rattle.laws.proofs.Seats.Joining.{Raised, joins-is, joins-in, joins-behind, joins-before, joins-untouched, joins-others}
+use Rattle.laws.proofs.Seats.Rule.{joins-queues}
 use Rattle.lists.specs.Along.{queueAbove}
 use Rattle.lists.proofs.Plain.{same-list, along-turn, along-insert, has-insert, insert-new, insert-old, insert-past, insert-front, insert-last}
 use Rattle.lists.proofs.Members.{queue-rising, queue-says, queue-has}

@@ -12,10 +12,10 @@ use lib.Dec.{eqb}
 use Rattle.scope.specs.Lists.{without}
 use Rattle.scope.specs.Seats.{queueSeats, ringSeats, standing, leaves, queue, readyBelow, readyOrder}
 use Rattle.laws.proofs.Branches.{eq-or-not, lt-or-le}
-use Rattle.seats.specs.Rule.{In, Seated, AllSeated}
-use Rattle.seats.proofs.Apart.{Untouched}
-use Rattle.seats.proofs.Leaving.{leaves-is, leaves-untouched, leaves-others, leaves-nowhere}
-use Rattle.seats.proofs.Rule.{stands-in, leaves-queues}
+use Rattle.laws.specs.Seating.{In, Seated, AllSeated}
+use Rattle.laws.proofs.Seats.Apart.{Untouched}
+use Rattle.laws.proofs.Seats.Leaving.{leaves-is, leaves-untouched, leaves-others, leaves-nowhere}
+use Rattle.laws.proofs.Seats.Rule.{stands-in, leaves-queues}
 use Rattle.lists.specs.Along.{queueAbove}
 use Rattle.lists.proofs.Plain.{same-list, along-turn, along-keep, keep-append, has-without, without-has, without-none}
 use Rattle.lists.proofs.Members.{queue-rising, queue-says, queue-has}

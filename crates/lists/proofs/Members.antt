@@ -13,9 +13,9 @@ use borrow.Author.Tests.{lt-ltb, le-ltb}
 use Rattle.scope.specs.Lists.{has}
 use Rattle.scope.specs.Seats.{onSeat, tasksFrom}
 use Rattle.laws.proofs.Branches.{true-false, lt-or-le}
-use Rattle.seats.specs.Rule.{In, Seated}
-use Rattle.seats.proofs.Counting.{seated-le}
-use Rattle.seats.proofs.First.{on-seat, on-seat-hit, on-seat-is}
+use Rattle.laws.specs.Seating.{In, Seated}
+use Rattle.laws.proofs.Seats.Counting.{seated-le}
+use Rattle.laws.proofs.Seats.First.{on-seat, on-seat-hit, on-seat-is}
 use Rattle.lists.specs.Along.{Once, queueAbove}
 use Rattle.lists.proofs.Plain.{Rising, has-head, has-tail, has-says, along-turn}
 

@@ -22,11 +22,11 @@ use Rattle.scope.specs.Messages.{Store, shownOf, cellOf, cellRight, messageIn, 
 use Rattle.scope.specs.Queues.{mostOf, longestOf, heldOf, storeOf, withStore, areLimits, fitsQueue, firstReceiver, queueDeleteAt, queuePutAt, queueSendAt, queueJumpAt, queueReceiveAt}
 use Rattle.scope.specs.Rules.{queueRight}
 use Rattle.laws.proofs.Branches.{both-true, eq-or-not, true-or-false, not-of-true, picked-yes, picked-no}
-use Rattle.messages.proofs.Stores.{length-row, held-counts, append-messages, push-messages, take-messages, clear-messages, append-others, push-others, take-others, clear-others}
-use Rattle.messages.proofs.Views.{as-lent, length-cell}
-use Rattle.messages.proofs.Keeps.{AllRight, InForm, shows-length, shows-message}
-use Rattle.messages.proofs.Kept.{Kept}
-use Rattle.messages.proofs.OneForm.{one-cells, one-held}
+use Rattle.laws.proofs.Messages.Stores.{length-row, held-counts, append-messages, push-messages, take-messages, clear-messages, append-others, push-others, take-others, clear-others}
+use Rattle.laws.proofs.Messages.Views.{as-lent, length-cell}
+use Rattle.laws.proofs.Messages.Keeps.{AllRight, InForm, shows-length, shows-message}
+use Rattle.laws.proofs.Messages.Kept.{Kept}
+use Rattle.laws.proofs.Messages.OneForm.{one-cells, one-held}
 use Rattle.histories.specs.Sound.{Sound}
 use Rattle.histories.proofs.Queues.{in-form, limits-small}
 use Rattle.lists.specs.Rules.{queueIn}

@@ -17,9 +17,9 @@ use Rattle.scope.proofs.Gets.{on-place}
 use Rattle.laws.proofs.Branches.{lt-or-le, true-false, not-of-true}
 use Rattle.laws.proofs.Arrays.{inside}
 use Rattle.laws.proofs.Searches.{least-le, number-le}
-use Rattle.areas.proofs.Marks.{take-free, back-free}
-use Rattle.places.specs.Order.{Ordered}
-use Rattle.places.proofs.Orders.{placed-free, found-on, first-found, leaves-ordered, joins-ordered, new-ordered, new-place}
+use Rattle.laws.proofs.Areas.Marks.{take-free, back-free}
+use Rattle.laws.specs.Order.{Ordered}
+use Rattle.laws.proofs.Orders.{placed-free, found-on, first-found, leaves-ordered, joins-ordered, new-ordered, new-place}
 use Rattle.scope.proofs.Places.{leaves-at, joins-at, joins-other}
 use Rattle.lists.specs.Orders.{buffersFrom, freeOrder, ascending}
 

@@ -12,8 +12,8 @@ use lib.ListN.{getD}
 use Rattle.scope.specs.Lists.{has}
 use Rattle.scope.specs.Seats.{ringSeats, firstOf, standing, readyBelow, readyOrder, ringMask, runnerOf}
 use Rattle.laws.proofs.Branches.{true-false, lt-or-le}
-use Rattle.seats.specs.Rule.{In, Seated, AllSeated, Runs}
-use Rattle.seats.proofs.First.{first-is, first-none, runner-none, runs-runner}
+use Rattle.laws.specs.Seating.{In, Seated, AllSeated, Runs}
+use Rattle.laws.proofs.Seats.First.{first-is, first-none, runner-none, runs-runner}
 use Rattle.lists.specs.Along.{Along, Once, NeverRising, queueAbove, firstIn}
 use Rattle.lists.proofs.Plain.{along-append, along-turn, has-append, append-first, append-second}
 use Rattle.lists.proofs.Members.{from-yes, from-no, queue-rising, queue-once, queue-says, queue-below, queue-has}

@@ -19,7 +19,7 @@ use Rattle.scope.specs.Rules.{ringsRight, keeps, sound}
 use Rattle.scope.specs.Step.{stepped}
 use Rattle.laws.proofs.Branches.{picked-yes, picked-no, true-or-false}
 use Rattle.laws.proofs.Bits.{bits-at, bits-same}
-use Rattle.seats.proofs.Rings.{holds-standing}
+use Rattle.laws.proofs.Seats.Rings.{holds-standing}
 use Rattle.histories.specs.Sound.{Sound, Sized}
 use Rattle.histories.specs.History.{Event, after}
 use Rattle.histories.proofs.Stays.{step-keeps}

@@ -22,9 +22,9 @@ use Rattle.scope.proofs.Counts.{minus, natural, less-below, less-above, less-ne
 use Rattle.laws.proofs.Branches.{true-false, true-or-false, lt-or-le}
 use Rattle.laws.proofs.Searches.{every-yes, every-at}
 use Rattle.laws.proofs.Arrays.{past, inside}
-use Rattle.seats.specs.Rule.{In, Sorted, AllSeated}
-use Rattle.seats.proofs.Rule.{queues-from-rule}
-use Rattle.seats.proofs.Sorting.{steps-from-sorted, sorted-from-steps}
+use Rattle.laws.specs.Seating.{In, Sorted, AllSeated}
+use Rattle.laws.proofs.Seats.Rule.{queues-from-rule}
+use Rattle.laws.proofs.Seats.Sorting.{steps-from-sorted, sorted-from-steps}
 use Rattle.histories.specs.Sound.{Sized}
 use Rattle.histories.proofs.Ruled.{Row, rows, row-holds, none, more, each-keeps}
 use Rattle.histories.proofs.Tests.{waits-is, waits-says, ready-says, idle-says, ready-right, ready-started, start-says, start-right, wait-says, rest-says, wait-right, joined-says, joined-right, holds-says, holds-right, task-range}

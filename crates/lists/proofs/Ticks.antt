@@ -28,10 +28,10 @@ use Rattle.scope.proofs.Rows.{by-choice}
 use Rattle.scope.proofs.Seats.{ahead-from}
 use Rattle.scope.proofs.Times.{forever-stays, takes-one}
 use Rattle.laws.proofs.Branches.{both-true, first-fails, not-of-true, not-of-false, true-false, true-or-false, eq-or-not}
-use Rattle.seats.specs.Rule.{In}
-use Rattle.seats.proofs.Leaving.{leaves-is}
-use Rattle.seats.proofs.Joining.{joins-is}
-use Rattle.seats.proofs.Rule.{stands-in}
+use Rattle.laws.specs.Seating.{In}
+use Rattle.laws.proofs.Seats.Leaving.{leaves-is}
+use Rattle.laws.proofs.Seats.Joining.{joins-is}
+use Rattle.laws.proofs.Seats.Rule.{stands-in}
 use Rattle.histories.specs.Sound.{TasksSound, Sound}
 use Rattle.histories.proofs.Moves.{on-waits}
 use Rattle.histories.proofs.Staying.{Good}

@@ -20,8 +20,8 @@ use Rattle.scope.specs.Objects.{objectsEnd, objectsOf}
 use Rattle.scope.specs.Views.{withSeats}
 use Rattle.scope.specs.Waiting.{wakeNext, noneWoken, wakeAll, queueKey, waits}
 use Rattle.laws.proofs.Branches.{eq-or-not, true-or-false, picked-yes, picked-no}
-use Rattle.seats.specs.Rule.{In}
-use Rattle.seats.proofs.Counting.{standing-le}
+use Rattle.laws.specs.Seating.{In}
+use Rattle.laws.proofs.Seats.Counting.{standing-le}
 use Rattle.histories.specs.Sound.{Ready, Sound}
 use Rattle.histories.proofs.Staying.{Good}
 use Rattle.histories.proofs.Moves.{Out, agree-same, ready-gone}

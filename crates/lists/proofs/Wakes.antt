@@ -23,8 +23,8 @@ use Rattle.scope.specs.Waiting.{wokenSeats, wake, wakeNext, wakeAll}
 use Rattle.scope.specs.Replies.{Wake, wakesFrom}
 use Rattle.scope.proofs.Rows.{by-choice}
 use Rattle.laws.proofs.Branches.{lt-or-le, not-of-true, picked-no}
-use Rattle.seats.specs.Rule.{In}
-use Rattle.seats.proofs.First.{on-seat-le}
+use Rattle.laws.specs.Seating.{In}
+use Rattle.laws.proofs.Seats.First.{on-seat-le}
 use Rattle.histories.specs.Sound.{TasksSound}
 use Rattle.histories.proofs.Staying.{Good, leaves-good}
 use Rattle.lists.specs.Along.{Once, firstIn}

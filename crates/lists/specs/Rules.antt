@@ -16,7 +16,7 @@ use Rattle.scope.specs.Tasks.{lastPriority}
 use Rattle.scope.specs.Waiting.{isTimeOut}
 use Rattle.scope.specs.Semaphores.{lastCount}
 use Rattle.scope.specs.Rules.{seatsRight, tableRules, keeps}
-use Rattle.seats.specs.Rule.{In}
+use Rattle.laws.specs.Seating.{In}
 use Rattle.lists.specs.Along.{Once, NeverRising, queueAbove, firstIn}
 
 -- the ready order and the queue of object i

@@ -11,7 +11,7 @@ use lib.Dec.{ltb, leb}
 use borrow.Author.Tests.{lt-ltb, le-ltb, le-leb, lt-leb}
 use Rattle.laws.proofs.Branches.{pick-yes, pick-no, both, first-fails, second-fails}
 use Rattle.scope.specs.Messages.{shownOf, cellOf, cellsOf, withCells, atEnd, inFront, firstGone, firstShown, store, withQueue, appended, pushed, taken}
-use Rattle.messages.proofs.Parts.{drop-take, drop-zeros, pasted, in-middle, moved-up, moved-down}
+use Rattle.laws.proofs.Messages.Parts.{drop-take, drop-zeros, pasted, in-middle, moved-up, moved-down}
 
 -- a message lent, put into zeros
 pub shown-is : (m : List ℕ) (n : ℕ) → n ≤ 64 → paste (replicate 64 0) 0 m n ≡ shownOf m n

@@ -1,9 +1,2 @@
 pub mod Pasting
-pub mod Parts
 pub mod Cells
-pub mod Forms
-pub mod Views
-pub mod Stores
-pub mod Keeps
-pub mod OneForm
-pub mod Kept

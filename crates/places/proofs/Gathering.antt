@@ -23,9 +23,9 @@ use Rattle.scope.proofs.Seats.{number-more}
 use Rattle.laws.proofs.Branches.{both, both-true, picked-yes, picked-no, true-false, true-or-false, eq-or-not, lt-or-le}
 use Rattle.laws.proofs.Searches.{every-yes, every-at, number-le}
 use Rattle.laws.proofs.Bits.{bits-lt, bits-at, bits-past}
-use Rattle.places.specs.Order.{Free, Ordered}
+use Rattle.laws.specs.Order.{Free, Ordered}
 use Rattle.places.proofs.Words.{same-bits, lowest-set, lowest-clear, or-bit, bit-here, bit-other}
-use Rattle.places.proofs.Orders.{free-or-not, order-says, order-right}
+use Rattle.laws.proofs.Orders.{free-or-not, order-says, order-right}
 
 -- buffer k has a place
 abbrev pub placed : List ℕ → ℕ → Bool

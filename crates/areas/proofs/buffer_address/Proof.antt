@@ -2,7 +2,7 @@
 use borrow.Author.Needs.{needs}
 use native.Mathlib.Omega.{arith}
 use Rattle.scope.specs.Areas.{bufferAddress}
-use Rattle.areas.proofs.Sizes.{far}
+use Rattle.laws.proofs.Areas.Sizes.{far}
 use Rattle.areas.proofs.buffer_address.Statement.{statement}
 use Rattle.areas.proofs.buffer_address.Tie as tie
 

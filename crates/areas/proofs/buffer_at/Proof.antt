@@ -3,7 +3,7 @@ use borrow.Author.Needs.{needs}
 use borrow.Author.Tests.{lt-ltb, le-ltb}
 use mathlib.Core.Path.{refl}
 use Rattle.laws.proofs.Branches.{pick-yes, pick-no}
-use Rattle.areas.proofs.Sizes.{at-below, at-empty, at-inside, at-start}
+use Rattle.laws.proofs.Areas.Sizes.{at-below, at-empty, at-inside, at-start}
 use Rattle.areas.proofs.buffer_at.Statement.{statement}
 use Rattle.areas.proofs.buffer_at.Tie as tie
 

@@ -1,6 +1,6 @@
 -- `buffers_of` meets its contract, a law of Sizes for each return. Assumes nothing.
 use borrow.Author.Needs.{needs}
-use Rattle.areas.proofs.Sizes.{buffers-none, buffers-few, buffers-most}
+use Rattle.laws.proofs.Areas.Sizes.{buffers-none, buffers-few, buffers-most}
 use Rattle.areas.proofs.buffers_of.Statement.{statement}
 use Rattle.areas.proofs.buffers_of.Tie as tie
 

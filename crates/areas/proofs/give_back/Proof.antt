@@ -1,7 +1,7 @@
 -- `give_back` meets its contract: the bit is there, and is no more than the marks it is taken from. Assumes nothing.
 use borrow.Author.Needs.{needs}
 use native.Mathlib.Nat.{one-mul}
-use Rattle.areas.proofs.Marks.{bit-fits, back-fits}
+use Rattle.laws.proofs.Areas.Marks.{bit-fits, back-fits}
 use Rattle.areas.proofs.give_back.Statement.{statement}
 use Rattle.areas.proofs.give_back.Tie as tie
 

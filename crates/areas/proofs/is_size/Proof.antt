@@ -1,6 +1,6 @@
 -- `is_size` meets its contract, a law of Sizes for each return. Assumes nothing.
 use borrow.Author.Needs.{needs}
-use Rattle.areas.proofs.Sizes.{size-none, size-some, size-over}
+use Rattle.laws.proofs.Areas.Sizes.{size-none, size-some, size-over}
 use Rattle.areas.proofs.is_size.Statement.{statement}
 use Rattle.areas.proofs.is_size.Tie as tie
 

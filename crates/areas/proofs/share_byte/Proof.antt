@@ -1,7 +1,7 @@
 -- `share_byte` meets its contract, a law of Sizes for each return, the ends being sums that do not wrap. Assumes nothing.
 use borrow.Author.Needs.{needs}
 use native.Mathlib.Omega.{arith}
-use Rattle.areas.proofs.Sizes.{share-one, share-none}
+use Rattle.laws.proofs.Areas.Sizes.{share-one, share-none}
 use Rattle.areas.proofs.share_byte.Statement.{statement}
 use Rattle.areas.proofs.share_byte.Tie as tie
 

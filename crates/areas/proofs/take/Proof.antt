@@ -2,7 +2,7 @@
 use borrow.Author.Needs.{needs, fits-under}
 use mir.Syntax.{w64}
 use native.Mathlib.Nat.{one-mul}
-use Rattle.areas.proofs.Marks.{bit-fits, take-fits}
+use Rattle.laws.proofs.Areas.Marks.{bit-fits, take-fits}
 use Rattle.areas.proofs.take.Statement.{statement}
 use Rattle.areas.proofs.take.Tie as tie
 

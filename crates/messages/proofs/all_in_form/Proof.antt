@@ -7,7 +7,7 @@ use lib.ListN.{length, getD}
 use borrow.Author.Needs.{needs}
 use Rattle.laws.proofs.Testing.{Testing, testing-start, testing-more, testing-done}
 use Rattle.scope.specs.Messages.{cellsOf, rowRight, storeRight}
-use Rattle.messages.proofs.Forms.{none-held}
+use Rattle.laws.proofs.Messages.Forms.{none-held}
 use Rattle.messages.proofs.all_in_form.Statement.{statement}
 use Rattle.messages.proofs.all_in_form.Tie as tie
 

@@ -3,7 +3,7 @@
 use mathlib.Core.Path.{_≡_}
 use denote.Ref.{now}
 use lib.ListN.{length}
-use Rattle.messages.proofs.Forms.{cell-told}
+use Rattle.laws.proofs.Messages.Forms.{cell-told}
 use borrow.Author.Needs.{needs}
 use Rattle.messages.proofs.cell_right.Statement.{statement}
 use Rattle.messages.proofs.cell_right.Tie as tie

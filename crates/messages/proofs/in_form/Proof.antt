@@ -6,7 +6,7 @@ use denote.Ref.{now}
 use lib.ListN.{length}
 use Rattle.laws.proofs.Testing.{Testing, testing-start, testing-more, testing-done}
 use Rattle.scope.specs.Messages.{cellsOf, cellAt, cellRight}
-use Rattle.messages.proofs.Forms.{row-told, row-many}
+use Rattle.laws.proofs.Messages.Forms.{row-told, row-many}
 use borrow.Author.Needs.{needs}
 use Rattle.messages.proofs.in_form.Statement.{statement}
 use Rattle.messages.proofs.in_form.Tie as tie

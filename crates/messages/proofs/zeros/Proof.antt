@@ -3,7 +3,7 @@
 use Prim.Native.Nat.{_-_}
 use denote.Ref.{now}
 use borrow.Author.Needs.{needs}
-use Rattle.messages.proofs.Forms.{Zeroing, zeroing-start, zeroing-more, zeroing-done}
+use Rattle.laws.proofs.Messages.Forms.{Zeroing, zeroing-start, zeroing-more, zeroing-done}
 use Rattle.messages.proofs.zeros.Statement.{statement}
 use Rattle.messages.proofs.zeros.Tie as tie
 

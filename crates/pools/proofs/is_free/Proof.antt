@@ -4,7 +4,7 @@ use borrow.Author.Needs.{needs}
 use mathlib.Core.Path.{refl, sym, _∙_}
 use borrow.Author.Tests.{lt-ltb, le-ltb}
 use Rattle.laws.proofs.Branches.{first-fails, second-decides}
-use Rattle.areas.proofs.Marks.{free-as}
+use Rattle.laws.proofs.Areas.Marks.{free-as}
 use Rattle.pools.proofs.is_free.Statement.{statement}
 use Rattle.pools.proofs.is_free.Tie as tie
 

@@ -6,7 +6,7 @@ use lib.ListN.{length}
 use denote.Ref.{now}
 use borrow.Author.Needs.{fits-under}
 use Rattle.answers.proofs.Named.{on-at, on-deleted, on-invalid}
-use Rattle.tables.proofs.Laws.{named-below}
+use Rattle.laws.proofs.Tables.{named-below}
 use Rattle.pools.proofs.Laws.{slot-told, slot-given}
 use Rattle.pools.proofs.slot.Statement.{statement}
 use Rattle.pools.proofs.slot.Tie as tie

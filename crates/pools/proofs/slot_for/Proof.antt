@@ -5,7 +5,7 @@ use native.Mathlib.Omega.{arith}
 use mathlib.Core.Path.{_≡_, refl}
 use lib.ListN.{length}
 use denote.Ref.{now}
-use Rattle.tables.proofs.Laws.{serial-left}
+use Rattle.laws.proofs.Tables.{serial-left}
 use Rattle.pools.proofs.Laws.{create-refused, create-full, create-overlaps, create-given}
 use borrow.Author.Needs.{fits-under}
 use Rattle.pools.proofs.Laws.{few-statuses}

@@ -4,7 +4,7 @@ use native.Mathlib.Omega.{arith}
 use mathlib.Core.Path.{_≡_, refl}
 use lib.ListN.{length}
 use denote.Ref.{now}
-use Rattle.tables.proofs.Laws.{named-below}
+use Rattle.laws.proofs.Tables.{named-below}
 use Rattle.queues.specs.Handing.{slotOf}
 use borrow.Author.Needs.{needs}
 use Rattle.queues.proofs.named.Statement.{statement}

@@ -5,7 +5,7 @@ use native.Mathlib.Omega.{arith}
 use denote.Ref.{now}
 use Rattle.answers.specs.Columns.{lentQueues}
 use Rattle.answers.proofs.Outcomes.{plain-of, tells-of}
-use Rattle.seats.proofs.Counting.{standing-le}
+use Rattle.laws.proofs.Seats.Counting.{standing-le}
 use Rattle.queues.proofs.Laws.{slot-found, slot-refused}
 use Rattle.scope.specs.Queues.{queueInfoAt}
 use borrow.Author.Needs.{needs}

@@ -7,7 +7,7 @@ use denote.Ref.{now}
 use borrow.Author.Tests.{lt-ltb, le-ltb, not-true, not-false}
 use Rattle.laws.proofs.Arrays.{pick-outside, pick-inside}
 use Rattle.laws.proofs.Branches.{pick-yes, pick-no, not-of-true, not-of-false}
-use Rattle.tables.proofs.Laws.{serial-left}
+use Rattle.laws.proofs.Tables.{serial-left}
 use Rattle.queues.proofs.Laws.{limits-told}
 use Rattle.queues.specs.Handing.{roomOf}
 use borrow.Author.Needs.{needs}

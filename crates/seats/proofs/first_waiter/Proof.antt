@@ -4,7 +4,7 @@ use native.Mathlib.Omega.{arith}
 use mathlib.Core.Path.{sym, ap, _∙_}
 use borrow.Author.Needs.{needs}
 use Rattle.scope.specs.Seats.{onSeat}
-use Rattle.seats.proofs.First.{on-seat-none}
+use Rattle.laws.proofs.Seats.First.{on-seat-none}
 use Rattle.seats.proofs.first_waiter.Statement.{statement}
 use Rattle.seats.proofs.first_waiter.Tie as tie
 

@@ -8,7 +8,7 @@ use lib.ListN.{getD, length, length-map}
 use borrow.Author.Needs.{needs}
 use Rattle.laws.proofs.Arrays.{Changing, changing-start, changing-more, mapping-done, getD-map}
 use Rattle.scope.specs.Seats.{lower, seatsEnd}
-use Rattle.seats.proofs.Joining.{joins-end}
+use Rattle.laws.proofs.Seats.Joining.{joins-end}
 use Rattle.seats.proofs.Laws.{Nearest, nearest-start, nearest-more}
 use Rattle.seats.proofs.move_up.Statement.{statement}
 use Rattle.seats.proofs.move_up.Tie as tie

@@ -6,7 +6,7 @@ use mathlib.Core.Path.{_≡_, refl}
 use lib.ListN.{length}
 use borrow.Author.Needs.{needs}
 use Rattle.seats.proofs.Laws.{small}
-use Rattle.seats.proofs.Joining.{joins-end}
+use Rattle.laws.proofs.Seats.Joining.{joins-end}
 use Rattle.seats.proofs.seat_behind.Statement.{statement}
 use Rattle.seats.proofs.seat_behind.Tie as tie
 

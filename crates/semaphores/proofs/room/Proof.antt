@@ -7,7 +7,7 @@ use denote.Ref.{now}
 use borrow.Author.Tests.{lt-ltb, le-ltb}
 use Rattle.laws.proofs.Arrays.{pick-outside, pick-inside}
 use Rattle.laws.proofs.Branches.{pick-yes, pick-no}
-use Rattle.tables.proofs.Laws.{serial-left}
+use Rattle.laws.proofs.Tables.{serial-left}
 use Rattle.semaphores.specs.Deciding.{roomOf}
 use borrow.Author.Needs.{needs}
 use Rattle.semaphores.proofs.room.Statement.{statement}

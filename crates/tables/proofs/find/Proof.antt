@@ -1,7 +1,7 @@
 -- `tables::find` meets its contract: each of its answers is the definition's by the tests on the way, a law for each.
 -- Assumes nothing.
 use mathlib.Core.Path.{sym, _∙_}
-use Rattle.tables.proofs.Laws.{found-outside, found-zero, found-later, found-current, found-earlier, found-gone}
+use Rattle.laws.proofs.Tables.{found-outside, found-zero, found-later, found-current, found-earlier, found-gone}
 use borrow.Author.Needs.{needs}
 use Rattle.tables.proofs.find.Statement.{statement}
 use Rattle.tables.proofs.find.Tie as tie

@@ -6,7 +6,7 @@ use native.Mathlib.Omega.{arith}
 use mathlib.Core.Path.{_≡_}
 use lib.ListN.{length}
 use denote.Ref.{now}
-use Rattle.tables.proofs.Laws.{serial-left}
+use Rattle.laws.proofs.Tables.{serial-left}
 use Rattle.tasks.proofs.Laws.{create-unfit, create-full, creates}
 use Rattle.scope.specs.declared.State.{State}
 use Rattle.answers.specs.Columns.{lentTasks}

@@ -7,7 +7,7 @@ use mathlib.Core.List.{List, [], _∷_, _++_, map}
 use lib.ListN.{length, take, drop, replicate, length-append, length-drop, length-map, length-replicate, take-append-drop}
 use lib.Seq.{length-take-le, take-append-le, drop-append-le, take-at, drop-at}
 use Rattle.scope.specs.Messages.{cellOf, shownOf, atEnd, inFront, firstGone, cellsIn, messageIn, messagesIn}
-use Rattle.messages.proofs.Parts.{drop-take}
+use Rattle.laws.proofs.Messages.Parts.{drop-take}
 
 -- the first h cells lie in the first h * 65 bytes
 cells-front : (h : ℕ) (a b : List ℕ) → length a ≡ h * 65 → cellsIn (a ++ b) h ≡ cellsIn a h

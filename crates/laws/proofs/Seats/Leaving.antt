@@ -11,12 +11,12 @@ use lib.ListN.{length, getD, length-map, List·getD-map}
 use lib.Seq.{ext-getD}
 use lib.Dec.{ltb, eqb}
 use borrow.Author.Tests.{ltb-true, ltb-false, eqb-true, eqb-false, eq-eqb}
 use Rattle.laws.proofs.Branches.{lt-or-le}
 use Rattle.scope.specs.Choice.{pick}
 use Rattle.scope.specs.Seats.{lower, leaves, seatsEnd}
-use Rattle.seats.specs.Rule.{In, Seated, Sorted}
-use Rattle.seats.proofs.Counting.{seated-le}
-use Rattle.seats.proofs.Apart.{Untouched, Apart, apart, untouched-seated, untouched-sorted}
+use Rattle.laws.specs.Seating.{In, Seated, Sorted}
+use Rattle.laws.proofs.Seats.Counting.{seated-le}
+use Rattle.laws.proofs.Seats.Apart.{Untouched, Apart, apart, untouched-seated, untouched-sorted}
 
 -- what becomes of seat y when seat x, of a queue that ends before e, is left
 abbrev pub Lowered : ℕ → ℕ → ℕ → ℕ → Type 0

@@ -18,11 +18,11 @@ use Rattle.scope.specs.Places.{onPlace, longestFree, firstLeaves, joinsLast, ne
 use Rattle.scope.specs.Rules.{placeRight, orderRight}
 use Rattle.scope.proofs.Gets.{on-place}
 use Rattle.scope.proofs.Places.{leaves-at, length-leaves, joins-at, joins-other, length-joins, length-new, new-at}
 use Rattle.laws.proofs.Arrays.{inside}
 use Rattle.laws.proofs.Branches.{both, both-true, picked-yes, picked-no, true-false, true-or-false, eq-or-not, lt-or-le, not-of-true}
 use Rattle.laws.proofs.Searches.{every-yes, every-at, least-upto}
-use Rattle.areas.proofs.Marks.{take-free, back-free, take-free-other, take-same, back-same, back-other}
-use Rattle.places.specs.Order.{Free, Ordered}
+use Rattle.laws.proofs.Areas.Marks.{take-free, back-free, take-free-other, take-same, back-same, back-other}
+use Rattle.laws.specs.Order.{Free, Ordered}
 
 -- a buffer is free or not
 pub free-or-not : (out n k : ℕ) → Free out n k ⊎ (Free out n k → ⊥)

@@ -8,9 +8,9 @@ use mathlib.Core.List.{List, [], _∷_, _++_, map}
 use lib.ListN.{length, getD, take, drop, length-drop, replicate, take-append-drop}
 use lib.Seq.{length-take-le, drop-drop, getD-take, getD-drop, ext-getD}
 use Rattle.scope.specs.Messages.{cellOf, cellsOf, cellsIn, messageIn, messagesIn, Store, store, heldIn, rowIn, messagesOf}
-use Rattle.messages.proofs.Views.{count-messages}
-use Rattle.messages.proofs.Stores.{Sized, length-row}
-use Rattle.messages.proofs.Keeps.{AllRight, InForm, cell-of-message}
+use Rattle.laws.proofs.Messages.Views.{count-messages}
+use Rattle.laws.proofs.Messages.Stores.{Sized, length-row}
+use Rattle.laws.proofs.Messages.Keeps.{AllRight, InForm, cell-of-message}
 
 -- the cells, by the messages
 abbrev whole : List ℕ → List ℕ

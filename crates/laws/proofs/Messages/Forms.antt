@@ -11,12 +11,12 @@ use lib.Seq.{length-take-le, take-take, drop-drop, getD-take, getD-drop}
 use lib.Dec.{leb, eqb}
 use lib.Bits.{bitOr, bitAnd, or-add-and, and-le-l, and-le-r}
 use borrow.Author.Tests.{le-leb, lt-leb, eq-eqb, ne-eqb, eqb-true, eqb-false}
 use Rattle.laws.proofs.Branches.{first-fails, second-decides}
 use Rattle.laws.proofs.Searches.{every-at, every-yes}
 use Rattle.laws.proofs.Testing.{Testing, testing-start, testing-more, testing-done}
 use Rattle.scope.specs.Choice.{every}
 use Rattle.scope.specs.Messages.{cellsOf, isZeros, cellAt, cellRight, rowRight, store, storeRight}
-use Rattle.messages.proofs.Parts.{drop-take}
+use Rattle.laws.proofs.Messages.Parts.{drop-take}
 
 -- two numbers together have no bit exactly if neither has one
 or-none : (a x : ℕ) → eqb (bitOr a x) 0 ≡ (eqb x 0 && eqb a 0)

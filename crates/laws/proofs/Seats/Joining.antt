@@ -12,14 +12,14 @@ use lib.ListN.{length, getD, set, length-map, length-set, List·getD-map}
 use lib.Seq.{getD-set-same, getD-set-other, ext-getD}
 use lib.Dec.{ltb, leb}
 use borrow.Author.Tests.{ltb-true, ltb-false, leb-true, leb-false}
 use Rattle.laws.proofs.Branches.{lt-or-le, eq-or-not}
 use Rattle.laws.proofs.Arrays.{inside}
 use Rattle.scope.specs.Choice.{pick}
 use Rattle.scope.specs.Seats.{raise, joins, laterOf, aheadOf, seatBehind}
-use Rattle.seats.specs.Rule.{In, Seated, Sorted}
+use Rattle.laws.specs.Seating.{In, Seated, Sorted}
 use Rattle.scope.proofs.Seats.{later-from, ahead-from, mapped}
-use Rattle.seats.proofs.Counting.{seated-le}
-use Rattle.seats.proofs.Apart.{Untouched, Apart, apart, untouched-seated, untouched-sorted, sorted-without}
+use Rattle.laws.proofs.Seats.Counting.{seated-le}
+use Rattle.laws.proofs.Seats.Apart.{Untouched, Apart, apart, untouched-seated, untouched-sorted, sorted-without}
 
 -- what becomes of seat y when seat x, of a queue that ends before e, is taken
 abbrev pub Raised : ℕ → ℕ → ℕ → ℕ → Type 0

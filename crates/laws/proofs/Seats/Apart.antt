@@ -7,9 +7,9 @@ use mathlib.Core.Logic.{_⊎_, inl, inr, ⊎-elim}
 use mathlib.Core.List.{List}
 use lib.ListN.{length, getD, set}
 use lib.Seq.{getD-set-other}
 use Rattle.laws.proofs.Branches.{lt-or-le}
-use Rattle.seats.specs.Rule.{In, Seated, Sorted}
-use Rattle.seats.proofs.Counting.{seated-le}
+use Rattle.laws.specs.Seating.{In, Seated, Sorted}
+use Rattle.laws.proofs.Seats.Counting.{seated-le}
 
 -- whoever stands in the queue, before or after, has the seat that it had
 abbrev pub Untouched : List ℕ → List ℕ → ℕ → Type 0

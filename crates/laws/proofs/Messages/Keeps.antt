@@ -11,13 +11,13 @@ use lib.ListN.{length, getD, take, drop, replicate, length-append, length-drop, 
 use lib.Seq.{length-take-le, take-take, drop-at, drop-drop, getD-take, ext-getD}
 use lib.Dec.{leb, eqb}
 use borrow.Author.Tests.{le-leb, leb-true, eq-eqb, eqb-true}
 use Rattle.laws.proofs.Branches.{both, both-true}
 use Rattle.laws.proofs.Searches.{every-at, every-yes}
 use Rattle.scope.specs.Choice.{every}
 use Rattle.scope.specs.Messages.{shownOf, cellOf, atEnd, inFront, firstGone, firstLength, firstShown, cellsIn, messageIn, isZeros, cellAt, cellRight, rowRight}
-use Rattle.messages.proofs.Parts.{drop-take, drop-zeros}
-use Rattle.messages.proofs.Forms.{zeros-are}
-use Rattle.messages.proofs.Views.{end-cells, front-cells, rest-cells}
+use Rattle.laws.proofs.Messages.Parts.{drop-take, drop-zeros}
+use Rattle.laws.proofs.Messages.Forms.{zeros-are}
+use Rattle.laws.proofs.Messages.Views.{end-cells, front-cells, rest-cells}
 
 -- zeros are one list of a length
 pub zeros-told : (xs : List ℕ) (n : ℕ) → length xs ≡ n → isZeros xs ≡ true → xs ≡ replicate n 0

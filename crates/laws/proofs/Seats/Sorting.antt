@@ -6,8 +6,8 @@ use mathlib.Core.Path.{_≡_, subst, ap, _∙_}
 use mathlib.Core.List.{List}
 use lib.ListN.{length, getD}
 use Rattle.scope.specs.Seats.{onSeat}
-use Rattle.seats.specs.Rule.{In, Seated, Sorted}
-use Rattle.seats.proofs.First.{on-seat, on-seat-hit, on-seat-is}
+use Rattle.laws.specs.Seating.{In, Seated, Sorted}
+use Rattle.laws.proofs.Seats.First.{on-seat, on-seat-hit, on-seat-is}
 
 -- nobody in the queue has a greater key than who sits directly ahead
 abbrev pub Steps : List ℕ → List ℕ → ℕ → Type 0

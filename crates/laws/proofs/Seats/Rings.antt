@@ -10,16 +10,16 @@ use mathlib.Core.List.{List, [], _∷_}
 use lib.ListN.{getD}
 use lib.Dec.{ltb}
 use borrow.Author.Tests.{lt-ltb, le-ltb}
 use Rattle.laws.proofs.Branches.{picked-yes, picked-no, lt-or-le, eq-or-not, true-or-false}
 use Rattle.laws.proofs.Bits.{bits-past, bits-at, bits-same, bits-turned}
 use Rattle.scope.specs.Choice.{hasBit, bits}
 use Rattle.scope.specs.Seats.{standing, leaves, joins, ringSeats, holdsTask, ringMask, maskFilled, maskEmptied, maskLeft, ringOf, ringsLeft, ringsReady}
-use Rattle.seats.specs.Rule.{In, AllSeated}
-use Rattle.seats.proofs.Counting.{standing-is}
-use Rattle.seats.proofs.Leaving.{length-leaves, leaves-nowhere, leaves-others}
-use Rattle.seats.proofs.Joining.{length-joins, joins-seated, joins-others}
-use Rattle.seats.proofs.First.{first-test}
-use Rattle.seats.proofs.Rule.{stands-in, leaves-keeps, joins-queues}
+use Rattle.laws.specs.Seating.{In, AllSeated}
+use Rattle.laws.proofs.Seats.Counting.{standing-is}
+use Rattle.laws.proofs.Seats.Leaving.{length-leaves, leaves-nowhere, leaves-others}
+use Rattle.laws.proofs.Seats.Joining.{length-joins, joins-seated, joins-others}
+use Rattle.laws.proofs.Seats.First.{first-test}
+use Rattle.laws.proofs.Seats.Rule.{stands-in, leaves-keeps, joins-queues}
 
 -- a ring holds a task just if somebody stands in it
 pub holds-standing : (q : List ℕ) → AllSeated q → (p : ℕ) → holdsTask q p ≡ ltb 0 (standing q (ringSeats p))

@@ -11,13 +11,13 @@ use mathlib.Core.List.{List}
 use lib.ListN.{length, getD}
 use lib.Dec.{ltb}
 use borrow.Author.Tests.{lt-ltb, le-ltb}
 use Rattle.laws.proofs.Branches.{picked-no, both, first-fails, second-fails, lt-or-le}
 use Rattle.laws.proofs.Searches.{number-hit, number-le}
 use Rattle.laws.proofs.Arrays.{inside}
 use Rattle.scope.specs.Choice.{pick, number}
 use Rattle.scope.specs.Seats.{standsIn, standing}
 use Rattle.scope.proofs.Seats.{number-more}
-use Rattle.seats.specs.Rule.{Seated}
+use Rattle.laws.specs.Seating.{Seated}
 
 -- nothing passes
 number-none : (p : ℕ → Bool) (n : ℕ) → ((t : ℕ) → p t ≡ false) → number p n ≡ 0

@@ -10,18 +10,18 @@ use mathlib.Core.List.{List}
 use lib.ListN.{length, getD}
 use lib.Dec.{ltb, leb, eqb}
 use borrow.Author.Tests.{ltb-true, leb-true, leb-false, eqb-true, eq-eqb, ne-eqb, lt-ltb}
 use Rattle.laws.proofs.Branches.{picked-yes, picked-no, both, both-true, lt-or-le, eq-or-not}
 use Rattle.laws.proofs.Searches.{least-true, least-below, every-yes, every-at}
 use Rattle.laws.proofs.Arrays.{inside}
 use Rattle.scope.specs.Choice.{pick, least, number}
 use Rattle.scope.specs.Seats.{isOn, onSeat, standing, leaves, joins, aheadOf}
 use Rattle.scope.specs.Rules.{seatRight, seatsRight}
-use Rattle.seats.specs.Rule.{In, Seated, AllSeated}
-use Rattle.seats.proofs.Counting.{number-one, number-only, standing-is, standing-le}
+use Rattle.laws.specs.Seating.{In, Seated, AllSeated}
+use Rattle.laws.proofs.Seats.Counting.{number-one, number-only, standing-is, standing-le}
 use Rattle.scope.proofs.Seats.{ahead-from}
-use Rattle.seats.proofs.First.{on-seat, on-seat-hit}
-use Rattle.seats.proofs.Leaving.{length-leaves, leaves-is, leaves-nowhere, leaves-seated, leaves-others}
-use Rattle.seats.proofs.Joining.{length-joins, joins-is, joins-in, joins-seated, joins-others}
+use Rattle.laws.proofs.Seats.First.{on-seat, on-seat-hit}
+use Rattle.laws.proofs.Seats.Leaving.{length-leaves, leaves-is, leaves-nowhere, leaves-seated, leaves-others}
+use Rattle.laws.proofs.Seats.Joining.{length-joins, joins-is, joins-in, joins-seated, joins-others}
 
 -- what the test of one seat says
 abbrev SeatRight : List ℕ → ℕ → Type 0

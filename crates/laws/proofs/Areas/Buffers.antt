@@ -11,9 +11,9 @@ use lib.Dec.{leb, ltb}
 use borrow.Author.Tests.{lt-ltb, le-ltb, leb-true}
 use Rattle.scope.specs.Areas.{isArea, isSize, buffersOf, shareByte, bufferAddress, bufferAt}
 use Rattle.scope.proofs.Buffers.{buffers-in-order}
 use Rattle.laws.proofs.Branches.{both-true, pick-yes, pick-no, picked-yes, lt-or-le, eq-or-not}
-use Rattle.areas.proofs.Sizes.{at-below, at-inside, at-start}
-use Rattle.areas.proofs.Bytes.{share-swap, before-apart}
+use Rattle.laws.proofs.Areas.Sizes.{at-below, at-inside, at-start}
+use Rattle.laws.proofs.Areas.Bytes.{share-swap, before-apart}
 
 module _ (address length size : ℕ) (area : isArea address length ≡ true) (sized : isSize length size ≡ true) where
   fits : address + length ≤ 4294967296

@@ -10,12 +10,12 @@ use mathlib.Core.List.{List, []}
 use lib.ListN.{length, getD, replicate, length-replicate}
 use lib.Dec.{ltb, leb}
 use borrow.Author.Tests.{ltb-true, leb-true}
 use Rattle.laws.proofs.Branches.{eq-or-not, both-true}
 use Rattle.laws.proofs.Searches.{every-at, every-yes}
 use Rattle.scope.specs.Choice.{pick}
 use Rattle.scope.specs.Messages.{atEnd, inFront, firstGone, cellRight, rowRight, storeRight, Store, heldIn, rowIn, withQueue, appended, pushed, taken, cleared}
-use Rattle.messages.proofs.Stores.{Sized, length-row, with-sized, with-row, with-held, other-row, other-held, length-end, length-front, length-gone}
-use Rattle.messages.proofs.Keeps.{InForm, form-told, form-tells, end-keeps, front-keeps, gone-keeps, none-keeps}
+use Rattle.laws.proofs.Messages.Stores.{Sized, length-row, with-sized, with-row, with-held, other-row, other-held, length-end, length-front, length-gone}
+use Rattle.laws.proofs.Messages.Keeps.{InForm, form-told, form-tells, end-keeps, front-keeps, gone-keeps, none-keeps}
 
 -- every queue is in form; `longest` says how long a queue's messages may be
 pub record Kept (longest : ℕ → ℕ) (s : Store) : Type 0 where

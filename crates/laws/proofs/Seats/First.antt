@@ -11,14 +11,14 @@ use mathlib.Core.List.{List}
 use lib.ListN.{length, getD}
 use lib.Dec.{ltb}
 use borrow.Author.Tests.{ltb-true, ltb-false, eqb-true, eq-eqb, ne-eqb, lt-ltb, le-ltb}
 use Rattle.laws.proofs.Branches.{picked-yes, picked-no, lt-or-le, eq-or-not, true-false, true-or-false}
 use Rattle.laws.proofs.Bits.{bits-none, bits-zero, bits-top, Greatest}
 use Rattle.laws.proofs.Searches.{least-true, least-upto, least-le}
 use Rattle.laws.proofs.Arrays.{inside}
 use Rattle.scope.specs.Choice.{bits}
 use Rattle.scope.specs.Seats.{isOn, onSeat, firstOf, leaves, ringSeats, holdsTask, ringMask, mostUrgent, runnerOf}
-use Rattle.seats.specs.Rule.{In, Seated, AllSeated, Runs}
-use Rattle.seats.proofs.Leaving.{leaves-behind}
+use Rattle.laws.specs.Seating.{In, Seated, AllSeated, Runs}
+use Rattle.laws.proofs.Seats.Leaving.{leaves-behind}
 
 -- the task found sits on the seat
 pub on-seat : (q : List ℕ) (x : ℕ) → onSeat q x < 32 → getD q (onSeat q x) 0 ≡ x

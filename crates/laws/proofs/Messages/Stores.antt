@@ -12,11 +12,11 @@ use lib.ListN.{length, take, drop, replicate, length-append, length-drop, length
 use lib.Seq.{length-take-le, take-append-le, drop-append-le, drop-append-add, take-at, drop-at, take-take, drop-drop, getD-set-same, getD-set-other}
 use lib.Dec.{ltb, leb}
 use borrow.Author.Tests.{lt-ltb, le-ltb, le-leb, ltb-true, leb-true}
 use Rattle.laws.proofs.Branches.{lt-or-le, picked-yes, picked-no, both, both-true}
 use Rattle.scope.specs.Choice.{pick}
 use Rattle.scope.specs.Messages.{cellsOf, withCells, atEnd, inFront, firstGone, cellsIn, messageIn, messagesIn, Store, heldIn, rowIn, messagesOf, withQueue, appended, pushed, taken, cleared}
-use Rattle.messages.proofs.Parts.{drop-take}
-use Rattle.messages.proofs.Views.{count-messages, end-messages, front-messages, rest-messages}
+use Rattle.laws.proofs.Messages.Parts.{drop-take}
+use Rattle.laws.proofs.Messages.Views.{count-messages, end-messages, front-messages, rest-messages}
 
 pub record Sized (s : Store) : Type 0 where
   pub cells : length (s .cells) ≡ 8320
