@@ -63,7 +63,7 @@ use Rattle.scope.specs.Rules.{{sound as isSound}}
 use Rattle.scope.specs.Step.{{answered}}
 use Rattle.scope.specs.Views.{{runningTask}}
 use Rattle.image.specs.Reading.{{stateFrom}}
-use Rattle.{CRATE}.specs.Told.{{ToldBy}}
+use Rattle.replies.specs.Told.{{ToldBy}}
 use Rattle.{CRATE}.specs.declared.Taken.{{Taken}}
 use Rattle.{CRATE}.proofs.Taken as TK
 use Rattle.{CRATE}.proofs.Taken.Laws as TK′

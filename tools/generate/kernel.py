@@ -491,8 +491,8 @@ use Rattle.answers.specs.Outcomes.{{answerShown, outcome}}
 use Rattle.answers.proofs.Outcome as O
 use Rattle.answers.proofs.Outcome.Laws as O′
 use Rattle.lending.proofs.Lending.{{Col, Keys, tokens, lasts, lie, refs, kept, lends, backs}}
-use Rattle.{CRATE}.specs.Steps.{{Steps}}
-use Rattle.{CRATE}.proofs.Laws.{{steps-sound, steps-broken}}
+use Rattle.answers.specs.Steps.{{Steps}}
+use Rattle.answers.proofs.Steps.{{steps-sound, steps-broken}}
 ''' + ''.join(callee(*c) for c in CALLEES) + outer(CRATE, 'step') + '''true-is : (y : Bool) → T y → y ≡ true
 true-is true z = refl
 true-is false z = absurd z

@@ -6,7 +6,7 @@ from walk import Walk, chain, path, runner_ghost, runner_walk
 PERFORM = ('mixes', 'performing', 'perform', '''use Rattle.scope.specs.Step.{answered}
 use Rattle.answers.specs.Outcomes.{answerShown}
 ''', '(answerShown (z .0) (z .1 .0) (z .1 .1 .0) r ≡ answered d {xs} ys) × (z .0 .running ≡ r .runs)')
-STEP = ('mixes_checked', 'kernel', 'step', '''use Rattle.kernel.specs.Steps.{Steps}
+STEP = ('mixes_checked', 'kernel', 'step', '''use Rattle.answers.specs.Steps.{Steps}
 ''', 'Steps d {xs} ys (z .0) (z .1 .0) (z .1 .1 .0) r')
 
 

@@ -1,2 +1,4 @@
 pub mod Named
 pub mod Outcomes
+pub mod Steps
+pub mod One

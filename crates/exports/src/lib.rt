@@ -2,7 +2,7 @@
 ghost use mathlib.Core.Path.{_≡_};
 ghost use Rattle.scope.specs.Listing.{listing};
 ghost use Rattle.watching.specs.Watched.{Gridded};
-ghost use Rattle.stepping.specs.Steps.{stepsOn, freshes};
+ghost use Rattle.replies.specs.Steps.{stepsOn, freshes};
 ghost use Rattle.lines.specs.Lines.{lineIn, tells};
 
 // The image of the fresh state, at the start of `image`: 0, or 19 with that of priority 0; 31 and nothing where `image` is too short.

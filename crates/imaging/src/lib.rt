@@ -9,7 +9,7 @@ ghost use Rattle.scope.specs.Step.{answered};
 ghost use Rattle.scope.specs.Fresh.{fresh};
 ghost use Rattle.image.specs.Image.{imageOf, imageSize};
 ghost use Rattle.image.specs.Reading.{stateFrom};
-ghost use Rattle.imaging.specs.Told.{ToldBy};
+ghost use Rattle.replies.specs.Told.{ToldBy};
 
 // What a step makes of an image: whether its state keeps the rules, the running task after the step, and the outcome.
 pub struct Taken {

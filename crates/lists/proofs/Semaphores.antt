@@ -1,7 +1,7 @@
 -- The semaphore calls on a sound state, over the paper's lists: delete wakes the queue, from its first to its last; release wakes its
 -- first; a claim answered PENDING takes the caller out of the ready order and puts it in the queue, by the queue's rule.
 -- Assumes nothing.
-use Prim.Native.Nat.{ℕ, _<_}
+use Prim.Native.Nat.{ℕ, _<_, _-_}
 use native.Mathlib.Omega.{arith}
 use mathlib.Core.Path.{_≡_, refl, sym, subst, ap, _∙_}
 use mathlib.Core.Bool.{Bool, true, false, not, _&&_}
@@ -11,14 +11,16 @@ use lib.Dec.{ltb, leb, eqb}
 use borrow.Author.Tests.{ltb-true, lt-ltb, leb-true}
 use Rattle.scope.specs.declared.State.{State}
 use Rattle.scope.specs.declared.Answer.{Answer}
+use Rattle.scope.specs.declared.Semaphores.{Semaphores}
 use Rattle.scope.specs.Lists.{without}
 use Rattle.scope.specs.Statuses.{OK, PENDING, INVALID-PARAMETER, INVALID-OPTIONS, SEMAPHORE-NOT-AVAILABLE, SEMAPHORE-DELETED, NO-CALLER}
 use Rattle.scope.specs.Seats.{queueSeats, firstOf}
 use Rattle.scope.specs.Objects.{objectsEnd}
 use Rattle.scope.specs.Answers.{answer, plain, wakesWith}
+use Rattle.scope.specs.Views.{withSemaphores}
 use Rattle.scope.specs.Replies.{wakeList}
 use Rattle.scope.specs.Waiting.{isTimeOut, wakeNext, noneWoken}
-use Rattle.scope.specs.Semaphores.{semDeleteAt, semWaitAt, semClaimAt, semReleaseAt}
+use Rattle.scope.specs.Semaphores.{withUnits, semDeleteAt, semWaitAt, semClaimAt, semReleaseAt}
 use Rattle.scope.proofs.Rows.{by-choice}
 use Rattle.laws.proofs.Branches.{first-fails, not-of-true, picked-yes, picked-no}
 use Rattle.histories.specs.Sound.{Sound}
@@ -115,18 +117,20 @@ module _ (s : State) (ok : Sound s) (i : ℕ) (hi : i < 16) where
   abbrev Stays : Answer → Type 0
   Stays a = (a .status ≡ PENDING → ⊥) → ListsAfter a (readyOf s) (queueIn s)
 
-  still : (x : ℕ) → Stays (plain s x)
+  -- (the units of a semaphore are no list of tasks)
+  still : (k : Semaphores) (x : ℕ) → Stays (plain (withSemaphores s k) x)
   unfolding plain answer
-  still x e = record { ready = refl; waiting = λ j h. refl }
+  still k x e = record { ready = refl; waiting = λ j h. refl }
 
   wait-stays : (ticks : ℕ) → Stays (semWaitAt s ticks i)
   unfolding semWaitAt plain answer
-  wait-stays ticks = by-choice Stays (leb 32 (s .running)) (λ r. still NO-CALLER) (λ r e. absurd (e refl))
+  wait-stays ticks = by-choice Stays (leb 32 (s .running)) (λ r. still (s .semaphores) NO-CALLER) (λ r e. absurd (e refl))
 
   pub sem-claim-stays : (options ticks : ℕ) → (semClaimAt s options ticks i .status ≡ PENDING → ⊥) → ListsAfter (semClaimAt s options ticks i) (readyOf s) (queueIn s)
-  unfolding semClaimAt plain answer
+  unfolding semClaimAt
   sem-claim-stays options ticks =
-      by-choice Stays (ltb 1 options) (λ y. still INVALID-OPTIONS)
-      (λ y. by-choice Stays (eqb options 0 && not (isTimeOut ticks)) (λ z. still INVALID-PARAMETER)
-      (λ z. by-choice Stays (eqb options 1 && not (ltb 0 (getD (s .semaphores .units) i 0))) (λ w. still SEMAPHORE-NOT-AVAILABLE)
-      (λ w. by-choice Stays (ltb 0 (getD (s .semaphores .units) i 0)) (λ v e. record { ready = refl; waiting = λ j h. refl }) (λ v. wait-stays ticks))))
+      by-choice Stays (ltb 1 options) (λ y. still (s .semaphores) INVALID-OPTIONS)
+      (λ y. by-choice Stays (eqb options 0 && not (isTimeOut ticks)) (λ z. still (s .semaphores) INVALID-PARAMETER)
+      (λ z. by-choice Stays (eqb options 1 && not (ltb 0 (getD (s .semaphores .units) i 0))) (λ w. still (s .semaphores) SEMAPHORE-NOT-AVAILABLE)
+      (λ w. by-choice Stays (ltb 0 (getD (s .semaphores .units) i 0)) (λ v. still (withUnits (s .semaphores) i (getD (s .semaphores .units) i 0 - 1)) OK)
+      (λ v. wait-stays ticks))))

@@ -1,6 +1,5 @@
 // The kernel for C, on numbers and bytes: a fresh image, and a step that changes an image in place and gives its answer as bytes.
-// (specs/Steps.antt, specs/Answers.antt.)
-use answers::Outcome;
+// (specs/Steps.antt and specs/Answers.antt of `replies`.)
 use scope::State;
 ghost use mathlib.Core.Path.{_≡_};
 ghost use Prim.Native.Nat.{_≤_};
@@ -9,53 +8,9 @@ ghost use lib.Seq.{sets};
 ghost use Rattle.scope.specs.Fresh.{fresh};
 ghost use Rattle.fields.specs.Columns.{part};
 ghost use Rattle.image.specs.Image.{imageSize};
-ghost use Rattle.stepping.specs.Answers.{answerBytes, numbersBy};
-ghost use Rattle.stepping.specs.Steps.{StepsTo, badAnswer, stepsOn, freshes, writes};
+ghost use Rattle.replies.specs.Steps.{StepsTo, stepsOn, freshes, writes};
 
 const NO_ROOM: u32 = 31;
-
-const BAD_IMAGE: u32 = 32;
-
-// The numbers of an answer, in their order.
-fn numbers_of(o: Outcome, running: u32) -> [u32; 11]
-    requires { ⌜ o .woken ≤ 32 ⌝ }
-    ensures { λ r. ⌜ r ≡ numbersBy o running ⌝ }
-{
-    let v = o.values;
-    [
-        o.status,
-        v[0],
-        v[1],
-        v[2],
-        v[3],
-        answers::bit(o.negative),
-        running,
-        o.woken as u32,
-        o.why,
-        answers::bit(o.delivers),
-        o.length,
-    ]
-}
-
-// An answer's bytes.
-fn put_answer(answer: &mut [u8; 236], numbers: &[u32; 11], wakes: &[u32; 32], shown: &[u8; 64])
-    ensures { λ _. ⌜ now (answer .exit) ≡ answerBytes (now (numbers .entry)) (now (wakes .entry)) (now (shown .entry)) ⌝ }
-{
-    columns::put_u32s(answer, 0, 4, numbers);
-    columns::put_u32s(answer, 44, 4, wakes);
-    columns::put_rows(answer, 172, 64, 1, 64, shown);
-}
-
-// 32: a status, and nobody runs.
-fn refuse(answer: &mut [u8; 236]) -> u32
-    ensures { λ r. ⌜ (now (answer .exit) ≡ badAnswer) × (r ≡ 32) ⌝ }
-{
-    let wakes = [0u32; 32];
-    let shown = [0u8; 64];
-    let numbers = [BAD_IMAGE, 0, 0, 0, 0, 0, 0, 0, 0, 0, 0];
-    put_answer(answer, &numbers, &wakes, &shown);
-    BAD_IMAGE
-}
 
 // The step through an image that has its own bytes. They are left as the step leaves them where they are an image, and as anything else
 // where they are none.
@@ -92,11 +47,11 @@ fn step_own(
     );
     if t.good & written {
         let o = t.outcome;
-        let numbers = numbers_of(o, t.running);
-        put_answer(answer, &numbers, &wakes, &shown);
+        let numbers = replies::numbers_of(o, t.running);
+        replies::put_answer(answer, &numbers, &wakes, &shown);
         return o.status;
     }
-    refuse(answer)
+    replies::refuse(answer)
 }
 
 // The first bytes of a slice, as many as an image has.
@@ -135,7 +90,7 @@ pub fn step(
         ≡ stepsOn (now (image .entry)) call mark a b c d e (now (message .entry)) ⌝ }
 {
     if image.len() < 9920 {
-        return refuse(answer);
+        return replies::refuse(answer);
     }
     let mut own = front(image);
     let status = step_own(&mut own, message, answer, call, mark, a, b, c, d, e);

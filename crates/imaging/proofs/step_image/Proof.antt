@@ -60,7 +60,7 @@ use Rattle.scope.specs.Rules.{sound as isSound}
 use Rattle.scope.specs.Step.{answered}
 use Rattle.scope.specs.Views.{runningTask}
 use Rattle.image.specs.Reading.{stateFrom}
-use Rattle.imaging.specs.Told.{ToldBy}
+use Rattle.replies.specs.Told.{ToldBy}
 use Rattle.imaging.specs.declared.Taken.{Taken}
 use Rattle.imaging.proofs.Taken as TK
 use Rattle.imaging.proofs.Taken.Laws as TK′

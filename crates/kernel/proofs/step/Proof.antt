@@ -56,8 +56,8 @@ use Rattle.answers.specs.Outcomes.{answerShown, outcome}
 use Rattle.answers.proofs.Outcome as O
 use Rattle.answers.proofs.Outcome.Laws as O′
 use Rattle.lending.proofs.Lending.{Col, Keys, tokens, lasts, lie, refs, kept, lends, backs}
-use Rattle.kernel.specs.Steps.{Steps}
-use Rattle.kernel.proofs.Laws.{steps-sound, steps-broken}
+use Rattle.answers.specs.Steps.{Steps}
+use Rattle.answers.proofs.Steps.{steps-sound, steps-broken}
 use Rattle.checking.proofs.is_sound as so
 use Rattle.checking.proofs.is_sound.Symbol as so-def
 use Rattle.checking.proofs.is_sound.Symbol.{name as #so}

@@ -49,7 +49,7 @@ use Rattle.scope.specs.declared.State.{State}
 use Rattle.answers.specs.declared.Outcome.{Outcome}
 use Rattle.text.specs.declared.Record.{Record}
 use Rattle.scope.specs.Views.{runningTask}
-use Rattle.kernel.specs.Steps.{Steps}
+use Rattle.answers.specs.Steps.{Steps}
 use Rattle.mixes_checked.specs.declared.Played.{Played}
 use Rattle.answers.proofs.Outcome as O
 use Rattle.answers.proofs.Outcome.Laws as O′

@@ -1,6 +1,6 @@
 -- `stepping::fresh`: 31 where there is no room; else the image of the fresh state, copied over the front of the slice.
 -- Assumes nothing.
-use Rattle.stepping.proofs.Laws.{fresh-full, fresh-done}
+use Rattle.replies.proofs.Laws.{fresh-full, fresh-done}
 use borrow.Author.Needs.{needs}
 use Rattle.stepping.proofs.fresh.Statement.{statement}
 use Rattle.stepping.proofs.fresh.Tie as tie

@@ -2,7 +2,7 @@
 -- Assumes nothing.
 use Prim.Native.Nat.{ℕ}
 use lib.ListN.{length-replicate}
-use Rattle.stepping.proofs.Laws.{fronted}
+use Rattle.replies.proofs.Laws.{fronted}
 use borrow.Author.Needs.{needs}
 use Rattle.stepping.proofs.front.Statement.{statement}
 use Rattle.stepping.proofs.front.Tie as tie

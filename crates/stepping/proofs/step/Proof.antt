@@ -1,6 +1,6 @@
 -- `stepping::step`: 32 where the bytes are too few; else the step through the front of them, which is copied back unless it is refused.
 -- Assumes nothing.
-use Rattle.stepping.proofs.Laws.{own-length, short-step, kept-step, copied-step}
+use Rattle.replies.proofs.Laws.{own-length, short-step, kept-step, copied-step}
 use denote.Ref.{now}
 use borrow.Author.Needs.{needs}
 use Rattle.stepping.proofs.step.Statement.{statement}

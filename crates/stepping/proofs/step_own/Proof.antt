@@ -1,7 +1,7 @@
 -- `stepping::step_own`: the two tests are whether the bytes are an image; then the answer is the step's, and else it is 32.
 -- Assumes nothing.
 use mathlib.Core.Path.{_≡_, _∙_}
-use Rattle.stepping.proofs.Laws.{tested, step-refused, few-woken, step-done}
+use Rattle.replies.proofs.Laws.{tested, step-refused, few-woken, step-done}
 use borrow.Author.Needs.{needs}
 use Rattle.stepping.proofs.step_own.Statement.{statement}
 use Rattle.stepping.proofs.step_own.Tie as tie

@@ -1,6 +1,6 @@
 -- `stepping::write`: 26 for a bad state, then 31 where there is no room, and else the image copied over the front of the slice.
 -- Assumes nothing.
-use Rattle.stepping.proofs.Laws.{bad-unwritten, no-room, state-written}
+use Rattle.replies.proofs.Laws.{bad-unwritten, no-room, state-written}
 use borrow.Author.Needs.{needs}
 use Rattle.stepping.proofs.write.Statement.{statement}
 use Rattle.stepping.proofs.write.Tie as tie

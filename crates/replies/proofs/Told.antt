@@ -19,7 +19,7 @@ use Rattle.text.specs.Lines.{replyBy}
 use Rattle.fields.specs.Numbers.{isOn}
 use Rattle.fields.specs.Fields.{Table, AllFine, TablesRead, bytesOf, sizeOf}
 use Rattle.fields.proofs.Tables.{size-is, read-back}
-use Rattle.stepping.specs.Answers.{numbersOf, answerTables, answerBytes, bytesOfAnswer}
+use Rattle.replies.specs.Answers.{numbersOf, answerTables, answerBytes, bytesOfAnswer}
 use Rattle.lines.specs.Lines.{wakesIn, shownIn, atMost32, outcomeIn, replyIn, lineIn}
 
 on-bit : (b : Bool) → isOn (bitOf b) ≡ b

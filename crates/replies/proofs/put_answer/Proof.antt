@@ -1,11 +1,11 @@
--- `stepping::put_answer`: the three columns, put one after the other over as many bytes, are the answer's.
+-- `replies::put_answer`: the three columns, put one after the other over as many bytes, are the answer's.
 -- Assumes nothing.
 use mathlib.Core.Path.{refl}
 use Rattle.image.proofs.Calls.{put-after}
-use Rattle.stepping.proofs.Laws.{answer-put}
+use Rattle.replies.proofs.Laws.{answer-put}
 use borrow.Author.Needs.{needs}
-use Rattle.stepping.proofs.put_answer.Statement.{statement}
-use Rattle.stepping.proofs.put_answer.Tie as tie
+use Rattle.replies.proofs.put_answer.Statement.{statement}
+use Rattle.replies.proofs.put_answer.Tie as tie
 
 put-u32s-requires : tie.Need-put-u32s-requires
 put-u32s-requires c κs = search needs

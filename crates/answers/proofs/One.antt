@@ -8,10 +8,10 @@ use Rattle.scope.specs.declared.Answer.{Answer}
 use Rattle.scope.specs.Choice.{pick}
 use Rattle.scope.specs.Rules.{sound}
 use Rattle.scope.specs.Step.{answered}
 use Rattle.answers.specs.declared.Outcome.{Outcome}
 use Rattle.answers.specs.Outcomes.{answerShown}
 use Rattle.answers.proofs.Outcomes.{runs-so, outcome-one}
-use Rattle.kernel.specs.Steps.{Steps}
+use Rattle.answers.specs.Steps.{Steps}
 
 module _ (s : State) (call mark a b c d e : ℕ) (m : List ℕ) (n n′ : State) (wakes wakes′ shown shown′ : List ℕ) (r r′ : Outcome) where
   abbrev Performs : State → List ℕ → List ℕ → Outcome → Type 0

@@ -31,9 +31,9 @@ use Rattle.image.specs.Reading.{NO-ROOM, Wrote, puts, stateFrom, sameBytes, isI
 use Rattle.image.proofs.Image.{from-image}
 use Rattle.image.proofs.Front.{state-front}
 use Rattle.images.proofs.Laws.{copied}
-use Rattle.imaging.specs.Told.{ToldBy}
-use Rattle.stepping.specs.Answers.{numbersBy, answerTables, answerBytes, bytesOfAnswer}
-use Rattle.stepping.specs.Steps.{StepsTo, Stepped, badAnswer, badImage, answersOn, stepsOn, freshes, writes}
+use Rattle.replies.specs.Told.{ToldBy}
+use Rattle.replies.specs.Answers.{numbersBy, answerTables, answerBytes, bytesOfAnswer}
+use Rattle.replies.specs.Steps.{StepsTo, Stepped, badAnswer, badImage, answersOn, stepsOn, freshes, writes}
 
 -- ---- the answer's bytes
 

@@ -18,7 +18,7 @@ use Rattle.scope.specs.Rules.{sound}
 use Rattle.scope.specs.Step.{answered}
 use Rattle.image.specs.Image.{imageOf, imageSize}
 use Rattle.image.specs.Reading.{NO-ROOM, Wrote, puts, stateFrom, isImage}
-use Rattle.stepping.specs.Answers.{numbersOf, answerBytes, bytesOfAnswer}
+use Rattle.replies.specs.Answers.{numbersOf, answerBytes, bytesOfAnswer}
 
 abbrev pub BAD-IMAGE : ℕ
 BAD-IMAGE = 32

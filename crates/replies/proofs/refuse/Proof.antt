@@ -1,12 +1,12 @@
--- `stepping::refuse`: the numbers of the refusal, nobody woken, no message.
+-- `replies::refuse`: the numbers of the refusal, nobody woken, no message.
 -- Assumes nothing.
 use mathlib.Core.Path.{refl}
 use Rattle.scope.specs.Choice.{pick}
 use Rattle.scope.specs.Answers.{bitOf}
-use Rattle.stepping.specs.Steps.{badAnswer}
+use Rattle.replies.specs.Steps.{badAnswer}
 use borrow.Author.Needs.{needs}
-use Rattle.stepping.proofs.refuse.Statement.{statement}
-use Rattle.stepping.proofs.refuse.Tie as tie
+use Rattle.replies.proofs.refuse.Statement.{statement}
+use Rattle.replies.proofs.refuse.Tie as tie
 
 put-answer-requires : tie.Need-put-answer-requires
 put-answer-requires c κs = search needs

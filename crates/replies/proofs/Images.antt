@@ -26,9 +26,9 @@ use Rattle.image.specs.Image.{Fits, imageOf, imageSize}
 use Rattle.image.specs.Reading.{Wrote, stateFrom, isImage}
 use Rattle.image.proofs.Image.{accepted, from-image}
 use Rattle.image.proofs.Back.{state-back}
-use Rattle.stepping.specs.Steps.{Stepped, answersOn, stepsOn, freshes}
-use Rattle.stepping.proofs.Laws.{on-image}
-use Rattle.stepping.proofs.Fitting.{fits-always}
+use Rattle.replies.specs.Steps.{Stepped, answersOn, stepsOn, freshes}
+use Rattle.replies.proofs.Laws.{on-image}
+use Rattle.replies.proofs.Fitting.{fits-always}
 
 -- ---- what is read has the sizes of a state
 
