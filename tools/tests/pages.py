@@ -41,8 +41,8 @@ def test_quotes(bench):
         bench.equal("what %s quotes from %s" % (name, path), missing, [])
 
 
-# what the gate tries, and what it leaves to tools/edits
-EDITS = ("must-fail", "left-out")
+# what rt tries itself, from nothing, and what tools/edits tries
+EDITS = ("must-fail", "edits")
 
 
 def test_edit_texts(bench):
