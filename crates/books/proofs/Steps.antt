@@ -23,7 +23,7 @@ use Rattle.scope.specs.Objects.{objectsEnd, objectsOf}
 use Rattle.scope.specs.Views.{runningTask}
 use Rattle.scope.specs.Answers.{wakesWith}
 use Rattle.scope.specs.Waiting.{noneWoken}
-use Rattle.scope.specs.Ticks.{wakeDue, takesOne, tick}
+use Rattle.scope.specs.Ticks.{ticked, wakeDue, tick}
 use Rattle.scope.specs.Tasks.{taskFound}
 use Rattle.scope.specs.Replies.{Wake, wakesFrom, wakeList}
 use Rattle.laws.proofs.Branches.{both, true-false, true-or-false, eq-or-not, picked-yes, picked-no}
@@ -39,7 +39,7 @@ use Rattle.histories.proofs.Turns.{good}
 use Rattle.books.specs.Past.{Turn, isAnswer, isAnswerOf, value, runningIn}
 use Rattle.books.specs.Waiting.{Kind, aSemaphore, aQueue, creation, optionsOf, deletion, waitCall, fifoOf, target, doneTo, priorityIn, wakes, endsWait}
 use Rattle.books.proofs.Granting.{nobody}
-use Rattle.books.proofs.Woken.{wakes-at, at-wakes, Woke, none-woke, due-woke, taken-woke}
+use Rattle.books.proofs.Woken.{wakes-at, at-wakes, Woke, none-woke, due-woke}
 use Rattle.books.proofs.Agreeing.{turnOf, Waiters, Options, Agrees, options-of, waiters-of, object-room, kind-room, not-call, not-status, is-answer}
 use Rattle.books.proofs.Agreeing.{not-creates, not-new, is-new, not-of, not-on, not-done, done-other, is-done, waiters-fewer}
 use Rattle.books.proofs.Claiming.{apart-slots, waits-room}
@@ -190,12 +190,12 @@ moves-woke s ok l w why same fewer woke =
 pub tick-moves : (s : State) → Sound s → Moves s (tick s)
 unfolding tick wakesWith
 tick-moves s ok =
-    let start : Waking = noneWoken (s .line) in
+    let line : Line = ticked (s .line) in
+    let start : Waking = noneWoken line in
     record {
-      leave = moves-woke s ok (s .line) (takesOne (wakeDue (s .tasks) 32 0 start)) TIME-OUT refl
-          (fewer-then (s .line) _ _ (due-fewer (s .tasks) 32 0 start (omega arith) (good s ok)) (ticked-fewer _))
-          (taken-woke (s .tasks) (s .line) _
-          (due-woke (s .tasks) (s .line) 32 0 start (omega arith) (omega arith) (none-woke (s .tasks) (s .line) (good s ok))));
+      leave = moves-woke s ok line (wakeDue (s .tasks) (s .line) 32 0 start) TIME-OUT refl
+          (fewer-then (s .line) line _ (ticked-fewer (s .line)) (due-fewer (s .tasks) (s .line) 32 0 start (omega arith) (good s ok)))
+          (due-woke (s .tasks) line (s .line) 32 0 start (omega arith) (omega arith) (none-woke (s .tasks) line (good s ok)));
     }
 
 -- a turn at which nobody arrives, by its parts

@@ -2,14 +2,13 @@
 -- way: what is left of a waiter's time_out and the ticks since its claim or receive make up the time_out that it asked for. So while it waits
 -- there were fewer, and the next tick wakes it with 13 exactly if it is the n-th.
 -- Assumes nothing.
-use Prim.Native.Nat.{ℕ, zero, suc, _+_, _-_, _≤_, _<_}
+use Prim.Native.Nat.{ℕ, zero, suc, _+_, _≤_, _<_}
 use native.Mathlib.Omega.{arith}
 use mathlib.Core.Path.{_≡_, refl, sym, subst, ap, _∙_}
-use mathlib.Core.Logic.{_⊎_, ⊎-elim}
+use mathlib.Core.Logic.{⊎-elim}
 use mathlib.Core.Bool.{Bool, true, false, not, _&&_}
 use mathlib.Core.List.{List, []}
-use lib.ListN.{getD, set}
-use lib.Seq.{getD-set-other}
+use lib.ListN.{getD}
 use lib.Dec.{eqb}
 use borrow.Author.Tests.{eq-eqb, ne-eqb, eqb-true}
 use Rattle.scope.specs.declared.State.{State}
@@ -20,14 +19,15 @@ use Rattle.scope.specs.declared.Answer.{Answer}
 use Rattle.scope.specs.Choice.{pick}
 use Rattle.scope.specs.Statuses.{OK, TIME-OUT}
 use Rattle.scope.specs.Lists.{has}
-use Rattle.scope.specs.Seats.{queueSeats, waitsOn}
+use Rattle.scope.specs.Seats.{queueSeats}
 use Rattle.scope.specs.Objects.{objectsEnd}
 use Rattle.scope.specs.Answers.{wakesWith}
-use Rattle.scope.specs.Waiting.{FOREVER, wake, wakeNext, noneWoken}
-use Rattle.scope.specs.Ticks.{isDue, wakeDue, tick}
+use Rattle.scope.specs.Waiting.{FOREVER, wakeNext, noneWoken}
+use Rattle.scope.specs.Ticks.{ticked, isDue, wakeDue, tick}
 use Rattle.scope.specs.Replies.{wakesFrom, wakeList, replyOf}
 use Rattle.scope.specs.Fresh.{freshState}
-use Rattle.scope.proofs.Times.{tick-takes-one}
+use Rattle.scope.proofs.Rows.{tested}
+use Rattle.scope.proofs.Times.{due-has-one, tick-takes-one}
 use Rattle.laws.proofs.Branches.{both, both-true, first-fails, second-fails, not-of-true, not-of-false, eq-or-not, picked-yes}
 use Rattle.laws.specs.Seating.{In}
 use Rattle.histories.specs.Sound.{Sound}
@@ -49,36 +49,20 @@ use Rattle.books.proofs.Told.{fresh-idle, fresh-agrees, history-agrees}
 use Rattle.books.proofs.Clocks.{Runs, Clocked, some-left, tick-done, clocked-after}
 
 -- The tick itself: it passes by who has more than one left.
-due-left : (l : Line) (t : ℕ) → isDue l t ≡ true → getD (l .left) t 0 ≡ 1
-unfolding isDue
-due-left l t e = eqb-true _ _ (both-true (waitsOn (getD (l .seat) t 0)) _ e .1)
-
-next-left : (k : Tasks) (w : Waking) (t : ℕ) → wakeNext k w t .line .left ≡ set (w .line .left) t 0
-unfolding wakeNext wake
-next-left k w t = refl
-
 pub next-others : (k : Tasks) (w : Waking) (t : ℕ) → t < 32 → Good (w .line .seat) → Left (w .line .seat) (wakeNext k w t .line .seat) t
 unfolding wakeNext
 next-others k w t h good = wake-left (w .line) good (getD (k .suspended) t false) (getD (k .priority) t 0) t h
 
-module _ (k : Tasks) (u i : ℕ) (hi : i < objectsEnd) where
-  due-spares : (n t : ℕ) (w : Waking) → n + t ≤ 32 → Good (w .line .seat) → (getD (w .line .left) u 0 ≡ 1 → ⊥)
-      → In (w .line .seat) (queueSeats i) u → In (wakeDue k n t w .line .seat) (queueSeats i) u
+module _ (k : Tasks) (l : Line) (u i : ℕ) (hi : i < objectsEnd) (more : getD (l .left) u 0 ≡ 1 → ⊥) where
+  due-spares : (n t : ℕ) (w : Waking) → n + t ≤ 32 → Good (w .line .seat) → In (w .line .seat) (queueSeats i) u → In (wakeDue k l n t w .line .seat) (queueSeats i) u
   unfolding wakeDue
-  due-spares zero t w h good some at = at
-  due-spares (suc n) t w h good some at = go (λ v g m b. due-spares n (suc t) v (omega arith) g m b) (isDue (w .line) t) refl
-    where
-      go : ((v : Waking) → Good (v .line .seat) → (getD (v .line .left) u 0 ≡ 1 → ⊥) → In (v .line .seat) (queueSeats i) u
-          → In (wakeDue k n (suc t) v .line .seat) (queueSeats i) u)
-          → (b : Bool) → isDue (w .line) t ≡ b
-          → In (elim b as (λ x. Waking) [ true ↦ wakeDue k n (suc t) (wakeNext k w t) | false ↦ wakeDue k n (suc t) w ] .line .seat) (queueSeats i) u
-      go rec true d =
-          let ne : u ≡ t → ⊥ = λ e. some (ap (λ (v : ℕ). getD (w .line .left) v 0) e ∙ due-left (w .line) t d) in
-          let step : Left (w .line .seat) (wakeNext k w t .line .seat) t = next-others k w t (omega arith) good in
-          rec (wakeNext k w t) (step .good)
-          (λ z. some (sym (ap (λ (v : List ℕ). getD v u 0) (next-left k w t) ∙ getD-set-other (w .line .left) t u 0 0 ne) ∙ z))
-          (step .others i hi u ne at)
-      go rec false d = rec w good some at
+  due-spares zero t w h good at = at
+  due-spares (suc n) t w h good at =
+      tested (λ (v : Waking). In (v .line .seat) (queueSeats i) u) (isDue l t) _ _
+      (λ d. let step : Left (w .line .seat) (wakeNext k w t .line .seat) t = next-others k w t (omega arith) good in
+      due-spares n (suc t) (wakeNext k w t) (omega arith) (step .good)
+      (step .others i hi u (λ e. more (ap (λ (v : ℕ). getD (l .left) v 0) e ∙ due-has-one l t d)) at))
+      (λ d. due-spares n (suc t) w (omega arith) good at)
 
 -- all of a wake list have its status
 pub wakes-as : (n k : ℕ) (tasks : List ℕ) (why z : ℕ) → wakesAs why (wakesFrom n k tasks why) z ≡ wakes (wakesFrom n k tasks why) z
@@ -93,7 +77,7 @@ wakes-as (suc n) k tasks why z = go (eqb (getD tasks k 0) z) (eqb why why) (eq-e
 module _ (s : State) (ok : Sound s) where
   tick-spares : (i : ℕ) → i < objectsEnd → (t : ℕ) → WaitsFor s i t → (getD (s .line .left) t 0 ≡ 1 → ⊥) → WaitsFor (tick s .state) i t
   unfolding tick wakesWith
-  tick-spares i h t w more = due-spares (s .tasks) t i h 32 0 (noneWoken (s .line)) (omega arith) (good s ok) more w
+  tick-spares i h t w more = due-spares (s .tasks) (s .line) t i h more 32 0 (noneWoken (ticked (s .line))) (omega arith) (good s ok) w
 
   as-woken : (z : ℕ) → wakesAs TIME-OUT (wakeList (tick s)) z ≡ wakes (wakeList (tick s)) z
   unfolding tick wakesWith

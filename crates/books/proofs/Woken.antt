@@ -19,8 +19,9 @@ use Rattle.scope.specs.Identifiers.{identifier}
 use Rattle.scope.specs.Seats.{queueSeats, ringSeats, firstOf, leaves, becomesReady}
 use Rattle.scope.specs.Objects.{objectsEnd}
 use Rattle.scope.specs.Waiting.{wokenSeats, wake, wakeNext, wakeAll, noneWoken}
-use Rattle.scope.specs.Ticks.{isDue, wakeDue, takesOne}
+use Rattle.scope.specs.Ticks.{isDue, wakeDue}
 use Rattle.scope.specs.Replies.{wakesFrom}
+use Rattle.scope.proofs.Rows.{branch}
 use Rattle.laws.proofs.Branches.{lt-or-le, eq-or-not, true-false, true-or-false, picked-yes, picked-no}
 use Rattle.laws.specs.Seating.{In}
 use Rattle.laws.proofs.Seats.Leaving.{leaves-out, leaves-nowhere, leaves-is}
@@ -180,17 +181,11 @@ all-woke k l i (suc n) w h ok = go (λ v a g. all-woke k l i n v a g) (ltb t 32)
     go rec true e = rec (wakeNext k w t) (omega (arith, more-woken k w t)) (next-woke k l w t (ltb-true t 32 e) (omega arith) ok)
     go rec false e = ok
 
--- all who are due are woken
-pub due-woke : (k : Tasks) (l : Line) (n t : ℕ) (w : Waking) → n + t ≤ 32 → w .woken ≤ t → Woke k l w → Woke k l (wakeDue k n t w)
+-- all who were due are woken
+pub due-woke : (k : Tasks) (l before : Line) (n t : ℕ) (w : Waking) → n + t ≤ 32 → w .woken ≤ t → Woke k l w → Woke k l (wakeDue k before n t w)
 unfolding wakeDue
-due-woke k l zero t w h a ok = ok
-due-woke k l (suc n) t w h a ok = go (λ v b g. due-woke k l n (suc t) v (omega arith) b g) (isDue (w .line) t)
-  where
-    go : ((v : Waking) → v .woken ≤ suc t → Woke k l v → Woke k l (wakeDue k n (suc t) v)) → (b : Bool)
-        → Woke k l (elim b as (λ x. Waking) [ true ↦ wakeDue k n (suc t) (wakeNext k w t) | false ↦ wakeDue k n (suc t) w ])
-    go rec true = rec (wakeNext k w t) (omega (arith, more-woken k w t)) (next-woke k l w t (omega arith) (omega arith) ok)
-    go rec false = rec w (omega arith) ok
-
--- to take from the time_outs moves nobody
-pub taken-woke : (k : Tasks) (l : Line) (w : Waking) → Woke k l w → Woke k l (takesOne w)
-taken-woke k l w ok = record { size = ok .size; good = ok .good; out = ok .out; left = ok .left }
+due-woke k l before zero t w h a ok = ok
+due-woke k l before (suc n) t w h a ok =
+    branch (λ (v : Waking). Woke k l v) (isDue before t) _ _
+    (due-woke k l before n (suc t) (wakeNext k w t) (omega arith) (omega (arith, more-woken k w t)) (next-woke k l w t (omega arith) (omega arith) ok))
+    (due-woke k l before n (suc t) w (omega arith) (omega arith) ok)

@@ -69,16 +69,16 @@ module _ (l : Line) (k : Tasks) (m : Objects) (ok : LineSound l k m) (i : ℕ) (
       (leaves-others (l .seat) (ringSeats (getD (k .priority) t 0)) t (omega arith) (ready .stands) (queueSeats i) (omega arith)
       (λ e. omega arith) (standing (l .seat) (queueSeats i)) (ok .queues .tasks) (ok .queues .seated (queueSeats i) (omega arith))))
 
--- "timed out": at its slot a tick finds the last one of its time_out
-pub timed-out-count : (k : Tasks) (m : Semaphores) (u : Queues) (w : Waking) (i t : ℕ) → LineSound (w .line) k (objects m u) → i < 16 → t < 32 → In (w .line .seat) (queueSeats i) t
-    → isDue (w .line) t ≡ true → count (wakeDue k 1 t w .line) m i ≡ plusOne (count (w .line) m i)
-timed-out-count k m u w i t ok hi h at due = waiters.timed-out-gives-back k m w i t (waiter (w .line) k (objects m u) ok i hi t h at) due
+-- "timed out": it was due before the tick, which comes to its slot
+pub timed-out-count : (k : Tasks) (m : Semaphores) (u : Queues) (before : Line) (w : Waking) (i t : ℕ) → LineSound (w .line) k (objects m u) → i < 16 → t < 32
+    → In (w .line .seat) (queueSeats i) t → isDue before t ≡ true → count (wakeDue k before 1 t w .line) m i ≡ plusOne (count (w .line) m i)
+timed-out-count k m u before w i t ok hi h at due = waiters.timed-out-gives-back k m before w i t (waiter (w .line) k (objects m u) ok i hi t h at) due
 
 -- M-100: who waited for a queue gives nothing back to a semaphore, though one identifier may name both
-pub receiver-timed-out : (k : Tasks) (m : Semaphores) (u : Queues) (w : Waking) (i j t : ℕ) → LineSound (w .line) k (objects m u) → i < 16 → t < 32
-    → In (w .line .seat) (queueSeats (queueObject j)) t → isDue (w .line) t ≡ true → count (wakeDue k 1 t w .line) m i ≡ count (w .line) m i
+pub receiver-timed-out : (k : Tasks) (m : Semaphores) (u : Queues) (before : Line) (w : Waking) (i j t : ℕ) → LineSound (w .line) k (objects m u) → i < 16
+    → t < 32 → In (w .line .seat) (queueSeats (queueObject j)) t → isDue before t ≡ true → count (wakeDue k before 1 t w .line) m i ≡ count (w .line) m i
 unfolding wakeDue wakeNext
-receiver-timed-out k m u w i j t ok hi h at due =
+receiver-timed-out k m u before w i j t ok hi h at due =
     rw (wakeDue, due)
     (ap (λ (n : ℕ). less (getD (m .units) i 0) n)
     (wake-elsewhere (w .line) k (objects m u) ok t h (getD (k .suspended) t false) (getD (k .priority) t 0) i (queueObject j) (omega arith) at (λ e. omega arith)))

@@ -19,6 +19,7 @@ use Rattle.scope.specs.Seats.{queueSeats, ringSeats, firstOf, leaves, becomesRe
 use Rattle.scope.specs.Views.{withWait}
 use Rattle.scope.specs.Waiting.{wokenSeats, wake, wakeNext, wakeAll}
 use Rattle.scope.specs.Ticks.{ticked, isDue, wakeDue}
+use Rattle.scope.proofs.Rows.{branch}
 use Rattle.laws.proofs.Branches.{lt-or-le}
 use Rattle.laws.specs.Seating.{In, AllSeated}
 use Rattle.laws.proofs.Seats.Leaving.{Lowered, leaves-out, leaves-nowhere, leaves-is}
@@ -169,17 +170,15 @@ all-fewer k i (suc n) w good = go (λ v g. all-fewer k i n v g) (ltb (firstOf (w
         fewer-then (w .line) (wakeNext k w t .line) _ (next-fewer k w t h good) (rec (wakeNext k w t) (next-good k w t h good))
     go rec false e = fewer-same (w .line)
 
--- all who are due are woken
-pub due-fewer : (k : Tasks) (n t : ℕ) (w : Waking) → n + t ≤ 32 → Good (w .line .seat) → Fewer (w .line) (wakeDue k n t w .line)
+-- all who were due are woken
+pub due-fewer : (k : Tasks) (l : Line) (n t : ℕ) (w : Waking) → n + t ≤ 32 → Good (w .line .seat) → Fewer (w .line) (wakeDue k l n t w .line)
 unfolding wakeDue
-due-fewer k zero t w h good = fewer-same (w .line)
-due-fewer k (suc n) t w h good = go (λ v g. due-fewer k n (suc t) v (omega arith) g) (isDue (w .line) t)
-  where
-    go : ((v : Waking) → Good (v .line .seat) → Fewer (v .line) (wakeDue k n (suc t) v .line)) → (b : Bool)
-        → Fewer (w .line) (elim b as (λ x. Waking) [ true ↦ wakeDue k n (suc t) (wakeNext k w t) | false ↦ wakeDue k n (suc t) w ] .line)
-    go rec true =
-        fewer-then (w .line) (wakeNext k w t .line) _ (next-fewer k w t (omega arith) good) (rec (wakeNext k w t) (next-good k w t (omega arith) good))
-    go rec false = rec w good
+due-fewer k l zero t w h good = fewer-same (w .line)
+due-fewer k l (suc n) t w h good =
+    branch (λ (v : Waking). Fewer (w .line) (v .line)) (isDue l t) _ _
+    (fewer-then (w .line) (wakeNext k w t .line) _ (next-fewer k w t (omega arith) good)
+    (due-fewer k l n (suc t) (wakeNext k w t) (omega arith) (next-good k w t (omega arith) good)))
+    (due-fewer k l n (suc t) w (omega arith) good)
 
 -- a tick takes from the time_outs only
 pub ticked-fewer : (l : Line) → Fewer l (ticked l)

@@ -1,12 +1,12 @@
--- A tick keeps a state sound. While it goes through the tasks, the line less those woken stays sound; beside it, nobody whom it has gone
--- past has one tick left. At the end all were gone past, and one can be taken from each.
+-- A tick keeps a state sound. While it goes through the tasks, the line from which nothing is taken yet, less those woken, stays sound;
+-- nobody whom it has gone past has one tick left there. At the end all were gone past, and one can be taken from each.
 -- Assumes nothing.
 use Prim.Native.Nat.{ℕ, zero, suc, _+_, _-_, _≤_, _<_}
 use native.Mathlib.Omega.{arith}
 use mathlib.Core.Path.{_≡_, refl, sym, ap, _∙_}
 use mathlib.Core.Logic.{_⊎_, inl, inr, ⊎-elim}
-use mathlib.Core.Bool.{Bool, true, false}
-use mathlib.Core.List.{List}
+use mathlib.Core.Bool.{true, false}
+use mathlib.Core.List.{List, [], _∷_}
 use lib.ListN.{length, getD, set, length-map}
 use lib.Seq.{getD-set-same, getD-set-other}
 use lib.Dec.{leb, eqb}
@@ -20,10 +20,11 @@ use Rattle.scope.specs.Objects.{Objects, objectsOf}
 use Rattle.scope.specs.Answers.{wakesWith}
 use Rattle.scope.specs.Waiting.{FOREVER, isTimeOut, wokenSeats, wokenRings, wake, wakeNext, noneWoken}
 use Rattle.scope.specs.Ticks.{timeLeft, timesLeft, ticked, isDue, wakeDue, tick}
-use Rattle.scope.proofs.Times.{every-time-out}
+use Rattle.scope.proofs.Rows.{tested}
+use Rattle.scope.proofs.Times.{every-time-out, due-has-one}
 use Rattle.laws.proofs.Branches.{lt-or-le, eq-or-not, picked-yes, picked-no, both, both-true, true-false}
 use Rattle.histories.specs.Sound.{Waits, LineSound, Sound}
-use Rattle.histories.proofs.Moves.{wake-sound, waits-on, on-waits}
+use Rattle.histories.proofs.Moves.{wake-sound, waits-on}
 use Rattle.histories.proofs.Parts.{line-sound}
 
 -- a time_out, and what a tick leaves of it
@@ -96,56 +97,64 @@ ticked-sound l k m ok more =
     none : (u : ℕ) → getD (l .left) u 0 ≡ 0 → getD (timesLeft (l .left)) u 0 ≡ 0
     none u z = every-time-out (l .left) u ∙ left-zero _ z
 
--- a task that is not due has more than one left, or none
-not-due : (l : Line) (k : Tasks) (m : Objects) (t : ℕ) → t < 32 → LineSound l k m → isDue l t ≡ false → getD (l .left) t 0 ≡ 1 → ⊥
+-- who has one left waits
+one-waits : (l : Line) (k : Tasks) (m : Objects) → LineSound l k m → (t : ℕ) → t < 32 → getD (l .left) t 0 ≡ 1 → Waits l k m t
+one-waits l k m ok t room one =
+    ⊎-elim (λ s. absurd (omega (arith, s .left))) (λ w. ⊎-elim (λ s. s) (λ s. absurd (omega (arith, s .left))) w) (ok .stands t room)
+
+-- so it is due
+one-due : (l : Line) (k : Tasks) (m : Objects) → LineSound l k m → (t : ℕ) → t < 32 → getD (l .left) t 0 ≡ 1 → isDue l t ≡ true
 unfolding isDue
-not-due l k m t room ok e one =
-    ⊎-elim
-    (λ s. omega (arith, s .left, one))
-    (λ w. ⊎-elim
-    (λ s. true-false (both _ _ (waits-on l k m ok t room s) (eq-eqb (getD (l .left) t 0) 1 one)) e)
-    (λ s. omega (arith, s .left, one))
-    w)
-    (ok .stands t room)
+one-due l k m ok t room one = both _ _ (waits-on l k m ok t room (one-waits l k m ok t room one)) (eq-eqb (getD (l .left) t 0) 1 one)
 
--- one that is due is woken
-due-woken : (k : Tasks) (m : Objects) (w : Waking) (t : ℕ) → t < 32 → LineSound (w .line) k m → isDue (w .line) t ≡ true
-    → LineSound (wakeNext k w t .line) k m
-unfolding isDue wakeNext wake wokenSeats wokenRings
-due-woken k m w t room ok e =
-    let at : Waits (w .line) k m t = on-waits (w .line) k m ok t room (both-true _ _ e .0) in
-    wake-sound (w .line) k m ok t room (getD (k .suspended) t false)
-    (omega (arith, at .stands .1, at .within)) (at .started) refl
+-- whether one is taken from each before a task is woken or after does not matter
+times-set : (left : List ℕ) (t : ℕ) → set (timesLeft left) t 0 ≡ timesLeft (set left t 0)
+unfolding timesLeft timeLeft pick
+times-set [] t = refl
+times-set (x ∷ left) zero = refl
+times-set (x ∷ left) (suc t) = ap (λ (r : List ℕ). timeLeft x ∷ r) (times-set left t)
 
-next-left : (k : Tasks) (w : Waking) (t : ℕ) → wakeNext k w t .line .left ≡ set (w .line .left) t 0
-unfolding wakeNext wake
-next-left k w t = refl
+module _ (k : Tasks) (t : ℕ) where
+  abbrev woken : Line → Line
+  woken v = wake v (getD (k .suspended) t false) (getD (k .priority) t 0) t
 
-due-sound : (k : Tasks) (m : Objects) (n t : ℕ) (w : Waking) → n + t ≡ 32 → LineSound (w .line) k m
-    → ((u : ℕ) → u < t → getD (w .line .left) u 0 ≡ 1 → ⊥) → LineSound (ticked (wakeDue k n t w .line)) k m
-unfolding wakeDue
-due-sound k m zero t w e ok more = ticked-sound (w .line) k m ok (λ u h. more u (omega arith))
-due-sound k m (suc n) t w e ok more =
-    go (λ v a b. due-sound k m n (suc t) v (omega arith) a b) (isDue (w .line) t) refl
-  where
-    go : ((v : Waking) → LineSound (v .line) k m → ((u : ℕ) → u < suc t → getD (v .line .left) u 0 ≡ 1 → ⊥) → LineSound (ticked (wakeDue k n (suc t) v .line)) k m)
-        → (b : Bool) → isDue (w .line) t ≡ b
-        → LineSound (ticked (elim b as (λ x. Waking) [ true ↦ wakeDue k n (suc t) (wakeNext k w t) | false ↦ wakeDue k n (suc t) w ] .line)) k m
-    go rec true d =
-        rec (wakeNext k w t) (due-woken k m w t (omega arith) ok d)
-        (λ u h one. let here : getD (set (w .line .left) t 0) u 0 ≡ 1 = ap (λ (x : List ℕ). getD x u 0) (sym (next-left k w t)) ∙ one in
-        ⊎-elim
-        (λ a. omega (arith, here, ap (λ (v : ℕ). getD (set (w .line .left) t 0) v 0) a ∙ getD-set-same (w .line .left) t 0 0 (omega (arith, ok .lefts))))
-        (λ ne. more u (omega (arith, h, ne)) (sym (getD-set-other (w .line .left) t u 0 0 ne) ∙ here))
-        (eq-or-not u t))
-    go rec false d =
-        rec w ok
-        (λ u h one. ⊎-elim
-        (λ a. not-due (w .line) k m t (omega arith) ok d (ap (λ (v : ℕ). getD (w .line .left) v 0) (sym a) ∙ one))
-        (λ ne. more u (omega (arith, h, ne)) one)
-        (eq-or-not u t))
+  next-taken : (v : Line) (w : Waking) → w .line ≡ ticked v → wakeNext k w t .line ≡ ticked (woken v)
+  unfolding wakeNext wake wokenSeats wokenRings
+  next-taken v w e = rw (e, times-set (v .left) t)
+
+  woken-left : (v : Line) → woken v .left ≡ set (v .left) t 0
+  unfolding wake
+  woken-left v = refl
+
+-- the line v from which nothing is taken yet: from task t on its time_outs are those of before, and nobody below has one left
+module _ (l : Line) (k : Tasks) (m : Objects) (sound : LineSound l k m) where
+  due-sound : (n t : ℕ) (v : Line) (w : Waking) → n + t ≡ 32 → w .line ≡ ticked v → LineSound v k m
+      → ((u : ℕ) → t ≤ u → getD (v .left) u 0 ≡ getD (l .left) u 0) → ((u : ℕ) → u < t → getD (v .left) u 0 ≡ 1 → ⊥)
+      → LineSound (wakeDue k l n t w .line) k m
+  unfolding wakeDue
+  due-sound zero t v w e taken ok rest past = rw taken (ticked-sound v k m ok (λ u h. past u (omega arith)))
+  due-sound (suc n) t v w e taken ok rest past =
+      let room : t < 32 = omega arith in
+      tested (λ (r : Waking). LineSound (r .line) k m) (isDue l t) _ _
+      (λ d. let at : Waits v k m t = one-waits v k m ok t room (rest t (omega arith) ∙ due-has-one l t d) in
+      let other : (u : ℕ) → (u ≡ t → ⊥) → getD (woken k t v .left) u 0 ≡ getD (v .left) u 0 =
+      λ u ne. rw woken-left (getD-set-other (v .left) t u 0 0 ne) in
+      due-sound n (suc t) (woken k t v) (wakeNext k w t) (omega arith) (next-taken k t v w taken)
+      (wake-sound v k m ok t room (getD (k .suspended) t false) (omega (arith, at .stands .1, at .within)) (at .started) refl)
+      (λ u h. other u (λ a. omega arith) ∙ rest u (omega arith))
+      (λ u h one. ⊎-elim
+      (λ a. omega (arith, rw (a, woken-left, getD-set-same (v .left) t 0 0 (omega (arith, ok .lefts))) at one))
+      (λ ne. past u (omega arith) (sym (other u ne) ∙ one))
+      (eq-or-not u t)))
+      (λ d. due-sound n (suc t) v w (omega arith) taken ok (λ u h. rest u (omega arith))
+      (λ u h one. ⊎-elim
+      (λ a. true-false (one-due l k m sound t room (sym (rest t (omega arith)) ∙ rw a at one)) d)
+      (λ ne. past u (omega arith) one)
+      (eq-or-not u t)))
 
 pub tick-sound : (s : State) → Sound s → Sound (tick s .state)
 unfolding tick wakesWith
 tick-sound s ok =
-    line-sound s ok _ (due-sound (s .tasks) (objectsOf s) 32 0 (noneWoken (s .line)) refl (ok .line) (λ u h. absurd (omega arith)))
+    line-sound s ok _
+    (due-sound (s .line) (s .tasks) (objectsOf s) (ok .line) 32 0 (s .line) (noneWoken (ticked (s .line))) refl refl (ok .line)
+    (λ u h. refl) (λ u h. absurd (omega arith)))

@@ -29,7 +29,7 @@ use Rattle.scope.specs.Tasks.{taskFound}
 use Rattle.scope.specs.Waiting.{waits, noneWoken}
 use Rattle.scope.specs.Semaphores.{semFound, semDeleteAt}
 use Rattle.scope.specs.Queues.{queueFound, firstReceiver, queueDeleteAt}
-use Rattle.scope.specs.Ticks.{tick}
+use Rattle.scope.specs.Ticks.{ticked, tick}
 use Rattle.scope.specs.Step.{stepped}
 use Rattle.laws.proofs.Branches.{eq-or-not, picked-yes, picked-no}
 use Rattle.laws.proofs.Tables.{found-below, found-live, usable-at, usable-free}
@@ -228,7 +228,7 @@ module _ (s : State) (ok : Sound s) where
         (no-receivers (queueDeleteAt s i .state) (queue-delete-at s ok i hi (found-live (s .queues .serial) (s .queues .live) (x .a) e)) i hi
         (getD-set-same (s .queues .live) i false false (omega (arith, ok .queues .sized .lives)))))
     deed-goes (time-passes at) =
-        passes refl (moved (fewer-then l _ _ (due-fewer k 32 0 (noneWoken l) (omega arith) good) (ticked-fewer _)))
+        passes refl (moved (fewer-then l (ticked l) _ (ticked-fewer l) (due-fewer k l 32 0 (noneWoken (ticked l)) (omega arith) good)))
 
 -- each step
 pub step-goes : (s : State) → Sound s → (call mark a b c d e : ℕ) (m : List ℕ) → Goes s (stepped s call mark a b c d e m)

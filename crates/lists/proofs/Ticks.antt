@@ -1,5 +1,5 @@
 -- A tick over the paper's lists: those due leave their queues, are on the wake list in ascending slot order, and become ready in that
--- order unless they are suspended. To wake one does not change whether another is due. By induction on the slots.
+-- order unless they are suspended. To wake one does not change whether another waits. By induction on the slots.
 -- Assumes nothing.
 use Prim.Native.Nat.{ℕ, zero, suc, _+_, _-_, _*_, _/_, _%_, _≤_, _<_}
 use native.Mathlib.Omega.{arith}
@@ -7,15 +7,13 @@ use mathlib.Core.Path.{_≡_, refl, sym, subst, ap, _∙_}
 use mathlib.Core.Logic.{⊎-elim}
 use mathlib.Core.Bool.{Bool, true, false, not, _&&_}
 use mathlib.Core.List.{List, [], _∷_, _++_, map, append-nil, append-assoc}
-use lib.ListN.{length, getD, set, length-replicate}
-use lib.Seq.{getD-set-other}
+use lib.ListN.{length, getD, length-replicate}
 use lib.Dec.{eqb}
 use borrow.Author.Tests.{lt-ltb, le-ltb, eq-eqb, ne-eqb}
 use Rattle.scope.specs.declared.State.{State}
 use Rattle.scope.specs.declared.Line.{Line}
 use Rattle.scope.specs.declared.Tasks.{Tasks}
 use Rattle.scope.specs.declared.Waking.{Waking}
-use Rattle.scope.specs.Choice.{pick}
 use Rattle.scope.specs.Lists.{has, keep, without}
 use Rattle.scope.specs.Statuses.{TIME-OUT}
 use Rattle.scope.specs.Seats.{ringSeats, firstRing, seatBehind, waitsOn, leaves, becomesReady, queue, readyOrder}
@@ -79,20 +77,15 @@ module _ (q key : List ℕ) (good : Good q) (t : ℕ) (stands : 0 < getD q t 0) 
       (joins-is left key t (ringSeats p) 0 u ne)
       ∙ left-waits
 
--- nor is another due that was not, or the other way round
-due-other : (k : Tasks) (w : Waking) → Good (w .line .seat) → (t : ℕ) → waitsOn (getD (w .line .seat) t 0) ≡ true → (u : ℕ) → (u ≡ t → ⊥)
-    → isDue (wakeNext k w t .line) u ≡ isDue (w .line) u
-unfolding isDue wakeNext wake wokenSeats
-due-other k w good t waits u ne =
+waits-other : (k : Tasks) (w : Waking) → Good (w .line .seat) → (t : ℕ) → waitsOn (getD (w .line .seat) t 0) ≡ true → (u : ℕ) → (u ≡ t → ⊥)
+    → waitsOn (getD (wakeNext k w t .line .seat) u 0) ≡ waitsOn (getD (w .line .seat) u 0)
+unfolding wakeNext wake wokenSeats
+waits-other k w good t waits u ne =
     let q : List ℕ = w .line .seat in
     let h : (0 < getD q t 0) × (getD q t 0 < 2048) = waits-says (getD q t 0) waits in
-    let moved : List ℕ = becomesReady (leaves q t) (w .line .joined) t (getD (k .priority) t 0) in
-    let seat : waitsOn (getD (pick (getD (k .suspended) t false) (leaves q t) moved) u 0) ≡ waitsOn (getD q u 0) =
     by-choice (λ (r : List ℕ). waitsOn (getD r u 0) ≡ waitsOn (getD q u 0)) (getD (k .suspended) t false)
     (λ y. left-waits q (w .line .joined) good t (h .0) (h .1) u ne)
-    (λ n. again-waits q (w .line .joined) good t (h .0) (h .1) u ne (getD (k .priority) t 0)) in
-    ap (λ (b : Bool). b && eqb (getD (set (w .line .left) t 0) u 0) 1) seat
-    ∙ ap (λ (x : ℕ). waitsOn (getD q u 0) && eqb x 1) (getD-set-other (w .line .left) t u 0 0 ne)
+    (λ n. again-waits q (w .line .joined) good t (h .0) (h .1) u ne (getD (k .priority) t 0))
 
 -- a list without each of these, one after another
 all-none : (xs : List ℕ) → withoutAll [] xs ≡ xs
@@ -114,64 +107,52 @@ record Timed (k : Tasks) (why : ℕ) (xs : List ℕ) (w r : Waking) : Type 0 whe
   queues : (j : ℕ) → j < objectsEnd → queue (r .line .seat) j ≡ withoutAll xs (queue (w .line .seat) j)
   list : wakesOf why r ≡ wakesOf why w ++ map (wakeOf k why) xs
 
-module _ (k : Tasks) (tasks : TasksSound k) (why : ℕ) (due : ℕ → Bool) where
-  due-yes : (n t : ℕ) (w : Waking) → isDue (w .line) t ≡ true → wakeDue k (suc n) t w ≡ wakeDue k n (suc t) (wakeNext k w t)
-  unfolding wakeDue
-  due-yes n t w e =
-      ap (λ (b : Bool). elim b as (λ x. Waking) [ true ↦ wakeDue k n (suc t) (wakeNext k w t) | false ↦ wakeDue k n (suc t) w ]) e
+due-waits : (l : Line) (t : ℕ) → isDue l t ≡ true → waitsOn (getD (l .seat) t 0) ≡ true
+unfolding isDue
+due-waits l t e = both-true (waitsOn (getD (l .seat) t 0)) _ e .0
 
-  due-no : (n t : ℕ) (w : Waking) → isDue (w .line) t ≡ false → wakeDue k (suc n) t w ≡ wakeDue k n (suc t) w
-  unfolding wakeDue
-  due-no n t w e =
-      ap (λ (b : Bool). elim b as (λ x. Waking) [ true ↦ wakeDue k n (suc t) (wakeNext k w t) | false ↦ wakeDue k n (suc t) w ]) e
-
-  due-none : (t : ℕ) (w : Waking) → wakeDue k zero t w ≡ w
-  unfolding wakeDue
-  due-none t w = refl
-
-  due-waits : (l : Line) (t : ℕ) → isDue l t ≡ true → waitsOn (getD (l .seat) t 0) ≡ true
-  unfolding isDue
-  due-waits l t e = both-true (waitsOn (getD (l .seat) t 0)) _ e .0
+-- from task t on, those who were due before the tick wait still
+module _ (k : Tasks) (tasks : TasksSound k) (why : ℕ) (before : Line) where
+  abbrev due : ℕ → ℕ → List ℕ
+  due n t = keep (isDue before) (slotsFrom n t)
 
   timed : (n t : ℕ) (w : Waking) → n + t ≡ 32 → Good (w .line .seat) → Own (w .line .seat) (k .priority)
-      → ((u : ℕ) → t ≤ u → isDue (w .line) u ≡ due u) → length (w .wakes) ≡ 32 → w .woken + n ≤ 32
-      → Timed k why (keep due (slotsFrom n t)) w (wakeDue k n t w)
-  timed zero t w e good own same long fits =
-      subst (λ (r : Waking). Timed k why [] w r) (sym (due-none t w))
-      (record { order = refl; queues = λ j h. sym (all-none (queue (w .line .seat) j)); list = sym (append-nil (wakesOf why w)) })
-  timed (suc n) t w e good own same long fits =
+      → ((u : ℕ) → t ≤ u → isDue before u ≡ true → waitsOn (getD (w .line .seat) u 0) ≡ true) → length (w .wakes) ≡ 32 → w .woken + n ≤ 32
+      → Timed k why (due n t) w (wakeDue k before n t w)
+  unfolding wakeDue
+  timed zero t w e good own still long fits =
+      record { order = refl; queues = λ j h. sym (all-none (queue (w .line .seat) j)); list = sym (append-nil (wakesOf why w)) }
+  timed (suc n) t w e good own still long fits =
       ⊎-elim
-      (λ y. let d : isDue (w .line) t ≡ true = same t (omega arith) ∙ y in
-      let waits : waitsOn (getD (w .line .seat) t 0) ≡ true = due-waits (w .line) t d in
+      (λ (d : isDue before t ≡ true). let waits : waitsOn (getD (w .line .seat) t 0) ≡ true = still t (omega arith) d in
       let low : getD (w .line .seat) t 0 < firstRing = waits-says (getD (w .line .seat) t 0) waits .1 in
       let room : t < 32 = omega arith in
       let v : Waking = wakeNext k w t in
       let line : v .line ≡ woken k tasks (w .line) good own t room low = next-line k w t in
-      let rec : Timed k why (keep due (slotsFrom n (suc t))) v (wakeDue k n (suc t) v) =
+      let rest : List ℕ = due n (suc t) in
+      let rec : Timed k why rest v (wakeDue k before n (suc t) v) =
       timed n (suc t) v (omega arith)
       (subst (λ (l : Line). Good (l .seat)) (sym line) (woken-good k tasks (w .line) good own t room low))
       (subst (λ (l : Line). Own (l .seat) (k .priority)) (sym line) (woken-own k tasks (w .line) good own t room low))
-      (λ u h. due-other k w good t waits u (λ f. omega (arith, f, h)) ∙ same u (omega arith))
+      (λ u h f. waits-other k w good t waits u (λ g. omega (arith, g, h)) ∙ still u (omega arith) f)
       (next-size k w t ∙ long) (omega (arith, next-count k w t, fits)) in
-      subst (λ (xs : List ℕ). Timed k why xs w (wakeDue k (suc n) t w)) (sym (keep-yes due t (slotsFrom n (suc t)) y))
-      (subst (λ (r : Waking). Timed k why (t ∷ keep due (slotsFrom n (suc t))) w r) (sym (due-yes n t w d))
+      rw (keep-yes (isDue before) t (slotsFrom n (suc t)) d, wakeDue, d)
       (record {
         order = rec .order
-            ∙ ap (λ (l : List ℕ). allWokenInto k (keep due (slotsFrom n (suc t))) l)
+            ∙ ap (allWokenInto k rest)
             (ap (λ (l : Line). readyOrder (l .seat)) line ∙ woken-order k tasks (w .line) good own t room low);
         queues = λ j h.
             rec .queues j h
-            ∙ ap (withoutAll (keep due (slotsFrom n (suc t))))
+            ∙ ap (withoutAll rest)
             (ap (λ (l : Line). queue (l .seat) j) line ∙ woken-queue k tasks (w .line) good own t room low j h)
-            ∙ all-more t (keep due (slotsFrom n (suc t))) (queue (w .line .seat) j);
+            ∙ all-more t rest (queue (w .line .seat) j);
         list = rec .list
-            ∙ ap (λ (l : List Wake). l ++ map (wakeOf k why) (keep due (slotsFrom n (suc t)))) (next-wakes k w t why long (omega arith))
-            ∙ append-assoc (wakesOf why w) (wakeOf k why t ∷ []) (map (wakeOf k why) (keep due (slotsFrom n (suc t))));
-      })))
-      (λ z. subst (λ (xs : List ℕ). Timed k why xs w (wakeDue k (suc n) t w)) (sym (keep-no due t (slotsFrom n (suc t)) z))
-      (subst (λ (r : Waking). Timed k why (keep due (slotsFrom n (suc t))) w r) (sym (due-no n t w (same t (omega arith) ∙ z)))
-      (timed n (suc t) w (omega arith) good own (λ u h. same u (omega arith)) long (omega arith))))
-      (true-or-false (due t))
+            ∙ ap (λ (l : List Wake). l ++ map (wakeOf k why) rest) (next-wakes k w t why long (omega arith))
+            ∙ append-assoc (wakesOf why w) (wakeOf k why t ∷ []) (map (wakeOf k why) rest);
+      }))
+      (λ (d : isDue before t ≡ false). rw (keep-no (isDue before) t (slotsFrom n (suc t)) d, wakeDue, d)
+      (timed n (suc t) w (omega arith) good own (λ u h. still u (omega arith)) long (omega arith)))
+      (true-or-false (isDue before t))
 
 -- two tests that agree of every slot keep the same
 kept-same : (p q : ℕ → Bool) → ((u : ℕ) → u < 32 → p u ≡ q u) → (n t : ℕ) → n + t ≡ 32 → keep p (slotsFrom n t) ≡ keep q (slotsFrom n t)
@@ -197,13 +178,13 @@ module _ (s : State) (ok : Sound s) where
   dueNow = keep (isDue (s .line)) (slotsFrom 32 0)
 
   abbrev start : Waking
-  start = noneWoken (s .line)
+  start = noneWoken (ticked (s .line))
 
-  ticks : Timed (s .tasks) TIME-OUT dueNow start (wakeDue (s .tasks) 32 0 start)
+  ticks : Timed (s .tasks) TIME-OUT dueNow start (wakeDue (s .tasks) (s .line) 32 0 start)
   ticks =
-      timed (s .tasks) (ok .tasks) TIME-OUT (isDue (s .line)) 32 0 start refl
+      timed (s .tasks) (ok .tasks) TIME-OUT (s .line) 32 0 start refl
       (good-line (s .line) (s .tasks) (objectsOf s) (ok .line)) (own-line (s .line) (s .tasks) (objectsOf s) (ok .line))
-      (λ u h. refl) (length-replicate {A = ℕ} 32 0) (omega arith)
+      (λ u h. due-waits (s .line) u) (length-replicate {A = ℕ} 32 0) (omega arith)
 
   -- of one who waits nothing is left after the tick exactly if one was left before
   time-tells : (t : ℕ) → isTimeOut (getD (s .line .left) t 0) ≡ true → eqb (getD (ticked (s .line) .left) t 0) 0 ≡ eqb (getD (s .line .left) t 0) 1

@@ -39,10 +39,13 @@ unfolding pick
 either P true p q = p
 either P false p q = q
 
--- what both branches have
+-- what each branch has by what the test said, and what both have
+pub tested : {A : Type 0} (P : A → Type 0) (b : Bool) (x y : A) → (b ≡ true → P x) → (b ≡ false → P y) → P (elim b as (λ z. A) [ true ↦ x | false ↦ y ])
+tested P true x y f g = f refl
+tested P false x y f g = g refl
+
 pub branch : {A : Type 0} (P : A → Type 0) (b : Bool) (x y : A) → P x → P y → P (elim b as (λ z. A) [ true ↦ x | false ↦ y ])
-branch P true x y p q = p
-branch P false x y p q = q
+branch P b x y p q = tested P b x y (λ e. p) (λ e. q)
 
 -- a call by identifier
 module _ (P : Answer → Type 0) (s : State) (refused : (status : ℕ) → eqb status OK ≡ false → P (plain s status)) where

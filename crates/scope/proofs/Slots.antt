@@ -11,11 +11,12 @@ use mathlib.Core.List.{List}
 use lib.ListN.{length, getD, set, length-set}
 use lib.Seq.{getD-set-same, getD-set-other}
 use Rattle.scope.specs.declared.State.{State}
+use Rattle.scope.specs.declared.Line.{Line}
 use Rattle.scope.specs.declared.Tasks.{Tasks}
 use Rattle.scope.specs.declared.Waking.{Waking}
 use Rattle.scope.specs.Identifiers.{identifier, slotOf}
-use Rattle.scope.specs.Waiting.{wakeNext, noneWoken}
-use Rattle.scope.specs.Answers.{wakesWith}
+use Rattle.scope.specs.Waiting.{wakeNext}
+use Rattle.scope.specs.Answers.{noWakes, wakesWith}
 use Rattle.scope.specs.Ticks.{isDue, wakeDue, tick}
 use Rattle.scope.proofs.Rows.{branch}
 
@@ -63,20 +64,17 @@ module _ (wakes : List ℕ) (n t u : ℕ) (p : Ascends wakes n t) where
 abbrev Rising : Waking → ℕ → Type 0
 Rising w t = Ascends (w .wakes) (w .woken) t
 
-all : (k : Tasks) (n t : ℕ) (w : Waking) → t + n ≤ 32 → Rising w t → Rising (wakeDue k n t w) 32
+all : (k : Tasks) (l : Line) (n t : ℕ) (w : Waking) → t + n ≤ 32 → Rising w t → Rising (wakeDue k l n t w) 32
 unfolding wakeDue wakeNext
-all k zero t w h p = passed _ _ t 32 p (omega arith)
-all k (suc n) t w h p =
-    branch (λ (v : Waking). Rising v 32) (isDue (w .line) _) _ _
-    (all k n (suc t) _ (omega arith) (woken (w .wakes) (w .woken) t (suc t) p _ _ (omega arith) (omega arith) (omega arith)))
-    (all k n (suc t) _ (omega arith) (passed _ _ t (suc t) p (omega arith)))
+all k l zero t w h p = passed _ _ t 32 p (omega arith)
+all k l (suc n) t w h p =
+    branch (λ (v : Waking). Rising v 32) (isDue l _) _ _
+    (all k l n (suc t) _ (omega arith) (woken (w .wakes) (w .woken) t (suc t) p _ _ (omega arith) (omega arith) (omega arith)))
+    (all k l n (suc t) _ (omega arith) (passed _ _ t (suc t) p (omega arith)))
+
+start : Ascends noWakes 0 0
+start = record { size = refl; few = omega arith; below = λ a h. absurd (omega arith); rises = λ a b h i. absurd (omega arith) }
 
 pub woken-in-slot-order : (s : State) (a b : ℕ) → a < b → b < tick s .woken → slotOf (getD (tick s .wakes) a 0) < slotOf (getD (tick s .wakes) b 0)
 unfolding tick wakesWith
-woken-in-slot-order s =
-    all (s .tasks) 32 0 (noneWoken (s .line)) (omega arith) (record {
-      size = refl;
-      few = omega arith;
-      below = λ a l. absurd (omega arith);
-      rises = λ a b h l. absurd (omega arith);
-    }) .rises
+woken-in-slot-order s = all (s .tasks) (s .line) 32 0 _ (omega arith) start .rises

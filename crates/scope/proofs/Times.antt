@@ -2,11 +2,11 @@
 -- suspended waiter whose time_out reaches 0 leaves its queue, is on the wake list, and stands nowhere until it is resumed.
 -- Assumes nothing.
 use Prim.Native.Nat.{ℕ, zero, suc, _+_, _-_, _<_}
-use mathlib.Core.Path.{_≡_, refl, sym, ap, _∙_}
+use mathlib.Core.Path.{_≡_, refl, ap, _∙_}
 use mathlib.Core.Bool.{Bool, true, false, _&&_}
-use mathlib.Core.List.{List, [], _∷_}
-use lib.ListN.{length, getD, set}
-use lib.Seq.{getD-set-same}
+use mathlib.Core.List.{List}
+use lib.ListN.{length, getD}
+use lib.Seq.{getD-set-same, set-getD}
 use borrow.Author.Tests.{eq-eqb, ne-eqb, eqb-true}
 use Rattle.scope.specs.declared.State.{State}
 use Rattle.scope.specs.declared.Line.{Line}
@@ -16,8 +16,9 @@ use Rattle.scope.specs.Choice.{pick}
 use Rattle.scope.specs.Identifiers.{identifier}
 use Rattle.scope.specs.Seats.{waitsOn, leaves}
 use Rattle.scope.specs.Answers.{wakesWith}
-use Rattle.scope.specs.Waiting.{FOREVER, wokenSeats, wake, wakeNext}
+use Rattle.scope.specs.Waiting.{FOREVER, wokenSeats, wake, wakeNext, noneWoken}
 use Rattle.scope.specs.Ticks.{timeLeft, timesLeft, ticked, isDue, wakeDue, tick}
+use Rattle.scope.proofs.Rows.{tested}
 use Rattle.scope.proofs.Seats.{mapped, lower-zero, lower-self}
 
 -- each time_out by its slot
@@ -34,16 +35,8 @@ pub takes-one : (l : Line) (t : ℕ) → (getD (l .left) t 0 ≡ FOREVER → ⊥
 unfolding timeLeft pick
 takes-one l t ne = every-time-out (l .left) t ∙ rw (timeLeft, ne-eqb (getD (l .left) t 0) FOREVER ne)
 
--- to wake those with one left, and to take one from each then, leaves what it leaves without waking them
-last-is-taken : (left : List ℕ) (t u : ℕ) → getD left t 0 ≡ 1 → timeLeft (getD (set left t 0) u 0) ≡ timeLeft (getD left u 0)
-unfolding timeLeft pick
-last-is-taken [] t u e = refl
-last-is-taken (x ∷ left) zero zero e = sym (ap timeLeft e)
-last-is-taken (x ∷ left) zero (suc u) e = refl
-last-is-taken (x ∷ left) (suc t) zero e = refl
-last-is-taken (x ∷ left) (suc t) (suc u) e = last-is-taken left t u e
-
-due-has-one : (l : Line) (t : ℕ) → isDue l t ≡ true → getD (l .left) t 0 ≡ 1
+-- who is due has one left, and nothing once one is taken: to wake those who are takes nothing more
+pub due-has-one : (l : Line) (t : ℕ) → isDue l t ≡ true → getD (l .left) t 0 ≡ 1
 unfolding isDue
 due-has-one l t e = eqb-true (getD (l .left) t 0) 1 (second-holds (waitsOn (getD (l .seat) t 0)) _ e)
   where
@@ -52,22 +45,22 @@ due-has-one l t e = eqb-true (getD (l .left) t 0) 1 (second-holds (waitsOn (getD
     second-holds false true e = refl
     second-holds false false e = e
 
-wakes-leave-times : (k : Tasks) (n t : ℕ) (w : Waking) (u : ℕ) → timeLeft (getD (wakeDue k n t w .line .left) u 0) ≡ timeLeft (getD (w .line .left) u 0)
+due-taken : (l : Line) (t : ℕ) → isDue l t ≡ true → getD (ticked l .left) t 0 ≡ 0
+unfolding timeLeft pick
+due-taken l t e = every-time-out (l .left) t ∙ ap timeLeft (due-has-one l t e)
+
+wakes-leave-times : (k : Tasks) (l : Line) (n t : ℕ) (w : Waking) → w .line .left ≡ ticked l .left → wakeDue k l n t w .line .left ≡ ticked l .left
 unfolding wakeDue wakeNext wake
-wakes-leave-times k zero t w u = refl
-wakes-leave-times k (suc n) t w u = go (isDue (w .line) t) refl (λ v. wakes-leave-times k n (suc t) v u)
-  where
-    go : (b : Bool) → isDue (w .line) t ≡ b
-        → ((v : Waking) → timeLeft (getD (wakeDue k n (suc t) v .line .left) u 0) ≡ timeLeft (getD (v .line .left) u 0))
-        → timeLeft (getD (elim b as (λ x. Waking) [ true ↦ wakeDue k n (suc t) (wakeNext k w t) | false ↦ wakeDue k n (suc t) w ] .line .left) u 0)
-        ≡ timeLeft (getD (w .line .left) u 0)
-    go true e rec = rec (wakeNext k w t) ∙ last-is-taken (w .line .left) t u (due-has-one (w .line) t e)
-    go false e rec = rec w
+wakes-leave-times k l zero t w same = same
+wakes-leave-times k l (suc n) t w same =
+    tested (λ (v : Waking). v .line .left ≡ ticked l .left) (isDue l t) _ _
+    (λ e. wakes-leave-times k l n (suc t) _ (rw (same, ← due-taken l t e) (set-getD (ticked l .left) t 0)))
+    (λ e. wakes-leave-times k l n (suc t) w same)
 
 -- "A tick takes one from each running time_out": of every task's, suspended or not, woken or not
 pub tick-times : (s : State) (t : ℕ) → getD (tick s .state .line .left) t 0 ≡ getD (ticked (s .line) .left) t 0
 unfolding tick wakesWith
-tick-times s t = every-time-out _ t ∙ wakes-leave-times (s .tasks) 32 0 _ t ∙ sym (every-time-out (s .line .left) t)
+tick-times s t = ap (λ (left : List ℕ). getD left t 0) (wakes-leave-times (s .tasks) (s .line) 32 0 (noneWoken (ticked (s .line))) refl)
 
 pub tick-takes-one : (s : State) (t : ℕ) → (getD (s .line .left) t 0 ≡ FOREVER → ⊥)
     → getD (tick s .state .line .left) t 0 ≡ getD (s .line .left) t 0 - 1
@@ -77,14 +70,14 @@ pub tick-leaves-forever : (s : State) (t : ℕ) → getD (s .line .left) t 0 ≡
 tick-leaves-forever s t e = tick-times s t ∙ forever-stays (s .line) t e
 
 -- a suspended waiter is due, and the tick comes to its slot
-module _ (k : Tasks) (w : Waking) (t : ℕ) (suspended : getD (k .suspended) t false ≡ true) (due : isDue (w .line) t ≡ true) where
+module _ (k : Tasks) (l : Line) (w : Waking) (t : ℕ) (suspended : getD (k .suspended) t false ≡ true) (due : isDue l t ≡ true) where
   -- it leaves its queue, and stands in no other and not among the ready
-  pub suspended-stands-nowhere : getD (wakeDue k 1 t w .line .seat) t 0 ≡ 0
+  pub suspended-stands-nowhere : getD (wakeDue k l 1 t w .line .seat) t 0 ≡ 0
   unfolding wakeDue wakeNext wake wokenSeats pick leaves
   suspended-stands-nowhere = rw (wakeDue, due, suspended) (rw (mapped _ (lower-zero _ _) (w .line .seat) t) (lower-self _ _))
 
   -- it is the next of the wake list
   pub suspended-is-listed : w .woken < length (w .wakes)
-      → (getD (wakeDue k 1 t w .wakes) (w .woken) 0 ≡ identifier (getD (k .serial) t 0) t) × (wakeDue k 1 t w .woken ≡ w .woken + 1)
+      → (getD (wakeDue k l 1 t w .wakes) (w .woken) 0 ≡ identifier (getD (k .serial) t 0) t) × (wakeDue k l 1 t w .woken ≡ w .woken + 1)
   unfolding wakeDue wakeNext
   suspended-is-listed room = rw (wakeDue, due) (getD-set-same (w .wakes) (w .woken) _ 0 room, refl)

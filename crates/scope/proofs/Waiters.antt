@@ -65,11 +65,11 @@ module _ (l : Line) (i t : ℕ) (waits : Waits l i t) where
   pub woken-gives-back : (m : Semaphores) (suspended : Bool) (priority : ℕ) → count (wake l suspended priority t) m i ≡ plusOne (count l m i)
   woken-gives-back m b p = waiter-less _ _ _ (one-less b p)
 
--- timed out: at its slot a tick finds the last one left
-pub timed-out-gives-back : (k : Tasks) (m : Semaphores) (w : Waking) (i t : ℕ) → Waits (w .line) i t → isDue (w .line) t ≡ true
-    → count (wakeDue k 1 t w .line) m i ≡ plusOne (count (w .line) m i)
+-- timed out: it was due before the tick, which comes to its slot
+pub timed-out-gives-back : (k : Tasks) (m : Semaphores) (before : Line) (w : Waking) (i t : ℕ) → Waits (w .line) i t → isDue before t ≡ true
+    → count (wakeDue k before 1 t w .line) m i ≡ plusOne (count (w .line) m i)
 unfolding wakeDue wakeNext
-timed-out-gives-back k m w i t waits due = rw (wakeDue, due) (woken-gives-back (w .line) i t waits m _ _)
+timed-out-gives-back k m before w i t waits due = rw (wakeDue, due) (woken-gives-back (w .line) i t waits m _ _)
 
 -- the count of semaphore i of a state
 abbrev pub countIn : State → ℕ → Signed

@@ -29,18 +29,16 @@ timesLeft left = map timeLeft left
 abbrev pub ticked : Line → Line
 ticked l = record { left = timesLeft (l .left); seat = l .seat; joined = l .joined; rings = l .rings }
 
--- "Those reaching 0": it waits, and the tick takes the last one of its time_out
+-- "Those reaching 0": before the tick it waits, with one left of its time_out
 unfoldable pub isDue : Line → ℕ → Bool
 isDue l t = waitsOn (getD (l .seat) t 0) && eqb (getD (l .left) t 0) 1
 
--- tasks t, t + 1, .. (n of them) are woken where they are due
-unfoldable pub wakeDue : Tasks → ℕ → ℕ → Waking → Waking
-wakeDue k zero t w = w
-wakeDue k (suc n) t w = elim (isDue (w .line) t) [ true ↦ wakeDue k n (suc t) (wakeNext k w t) | false ↦ wakeDue k n (suc t) w ]
+-- tasks t, t + 1, .. (n of them) are woken where they were due before the tick
+unfoldable pub wakeDue : Tasks → Line → ℕ → ℕ → Waking → Waking
+wakeDue k before zero t w = w
+wakeDue k before (suc n) t w =
+    elim (isDue before t) [ true ↦ wakeDue k before n (suc t) (wakeNext k w t) | false ↦ wakeDue k before n (suc t) w ]
 
--- once they are woken: who was has nothing left to take
-abbrev pub takesOne : Waking → Waking
-takesOne w = record { line = ticked (w .line); wakes = w .wakes; woken = w .woken }
-
+-- one is taken from each, then those who reach 0 are woken
 unfoldable pub tick : State → Answer
-tick s = wakesWith s (takesOne (wakeDue (s .tasks) 32 0 (noneWoken (s .line)))) TIME-OUT
+tick s = wakesWith s (wakeDue (s .tasks) (s .line) 32 0 (noneWoken (ticked (s .line)))) TIME-OUT

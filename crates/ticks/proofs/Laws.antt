@@ -24,37 +24,32 @@ unfolding timesLeft
 times-done left r k h m = mapping-done 32 timeLeft left r k h m
 
 -- The tasks below t are looked at: no more are woken, and the rest of the work gives what the whole gives.
-abbrev pub Looked : Tasks → Waking → Waking → ℕ → Type 0
-Looked k x w t = (t ≤ 32) × (w .woken ≤ t) × (wakeDue k (32 - t) t w ≡ wakeDue k 32 0 x)
+abbrev pub Looked : Tasks → Line → Waking → Waking → ℕ → Type 0
+Looked k l x w t = (t ≤ 32) × (w .woken ≤ t) × (wakeDue k l (32 - t) t w ≡ wakeDue k l 32 0 x)
 
 -- one task more, woken where it is due and passed by where it is not; and the end
-pub due-looked : (k : Tasks) (x w v : Waking) (t : ℕ) → Looked k x w t → t < 32 → v .woken ≤ w .woken + 1
-    → v ≡ pick (isDue (w .line) t) (wakeNext k w t) w → Looked k x v (t + 1)
+pub due-looked : (k : Tasks) (l : Line) (x w v : Waking) (t : ℕ) → Looked k l x w t → t < 32 → v .woken ≤ w .woken + 1
+    → v ≡ pick (isDue l t) (wakeNext k w t) w → Looked k l x v (t + 1)
 unfolding wakeDue
-due-looked k x w v t m h f e =
+due-looked k l x w v t m h f e =
     let d : 32 - t ≡ suc (32 - (t + 1)) = omega arith in
-    let r : wakeDue k (32 - (t + 1)) (t + 1) v ≡ wakeDue k (32 - t) t w = rw (d, wakeDue) (go (isDue (w .line) t) refl) in
+    let r : wakeDue k l (32 - (t + 1)) (t + 1) v ≡ wakeDue k l (32 - t) t w = rw (d, wakeDue) (go (isDue l t) refl) in
     (omega arith, omega arith, r ∙ m .2)
   where
-    go : (b : Bool) → isDue (w .line) t ≡ b
-        → wakeDue k (32 - (t + 1)) (t + 1) v
-        ≡ elim (isDue (w .line) t) [ true ↦ wakeDue k (32 - (t + 1)) (suc t) (wakeNext k w t) | false ↦ wakeDue k (32 - (t + 1)) (suc t) w ]
+    go : (b : Bool) → isDue l t ≡ b
+        → wakeDue k l (32 - (t + 1)) (t + 1) v
+        ≡ elim (isDue l t) [ true ↦ wakeDue k l (32 - (t + 1)) (suc t) (wakeNext k w t) | false ↦ wakeDue k l (32 - (t + 1)) (suc t) w ]
     go true p = rw (e, p, picked-yes {A = Waking} true _ _ refl, add-one t)
     go false p = rw (e, p, picked-no {A = Waking} false _ _ refl, add-one t)
 
-pub due-done : (k : Tasks) (x w : Waking) (t : ℕ) → Looked k x w t → 32 ≤ t → w ≡ wakeDue k 32 0 x
+pub due-done : (k : Tasks) (l : Line) (x w : Waking) (t : ℕ) → Looked k l x w t → 32 ≤ t → w ≡ wakeDue k l 32 0 x
 unfolding wakeDue
-due-done k x w t m h = let d : 32 - t ≡ 0 = omega arith in rw d at (m .2)
+due-done k l x w t m h = let d : 32 - t ≡ 0 = omega arith in rw d at (m .2)
 
--- nobody has one left, so nobody is due
-pub none-last : (l : Line) (t : ℕ) → eqb (getD (l .left) t 0) 1 ≡ false → isDue l t ≡ false
-unfolding isDue
-none-last l t e = second-fails (waitsOn (getD (l .seat) t 0)) _ e
-
--- nobody is due, so nobody is woken
-pub none-due : (k : Tasks) (w : Waking) (n t : ℕ) → ((j : ℕ) → j < t + n → isDue (w .line) j ≡ false) → w ≡ wakeDue k n t w
-unfolding wakeDue
-none-due k w zero t h = refl
-none-due k w (suc n) t h =
-    let e : isDue (w .line) t ≡ false = h t (omega arith) in
-    rw (wakeDue, e) (none-due k w n (suc t) (λ j l. h j (omega arith)))
+-- nobody has one left, so nobody is due and nobody is woken
+pub none-due : (k : Tasks) (l : Line) (w : Waking) (n t : ℕ) → ((j : ℕ) → j < t + n → eqb (getD (l .left) j 0) 1 ≡ false) → w ≡ wakeDue k l n t w
+unfolding wakeDue isDue
+none-due k l w zero t h = refl
+none-due k l w (suc n) t h =
+    let e : isDue l t ≡ false = second-fails (waitsOn (getD (l .seat) t 0)) _ (h t (omega arith)) in
+    rw (wakeDue, e) (none-due k l w n (suc t) (λ j b. h j (omega arith)))

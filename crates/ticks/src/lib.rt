@@ -1,4 +1,4 @@
-// The tick: those whose last one it takes woken in ascending slot order, then one taken from each running time_out.
+// The tick: one taken from each running time_out, then those who reached 0 woken in ascending slot order.
 // (scope's specs/Ticks.antt.)
 use answers::Outcome;
 ghost use mathlib.Core.Path.{_≡_};
@@ -11,7 +11,7 @@ ghost use Rattle.scope.specs.declared.Tasks.{Tasks};
 ghost use Rattle.scope.specs.Choice.{pick};
 ghost use Rattle.scope.specs.Seats.{waitsOn};
 ghost use Rattle.scope.specs.Waiting.{wakeNext};
-ghost use Rattle.scope.specs.Ticks.{timesLeft, isDue, wakeDue, tick};
+ghost use Rattle.scope.specs.Ticks.{timesLeft, wakeDue, tick};
 ghost use Rattle.answers.specs.Outcomes.{answerOf};
 ghost use Rattle.answers.specs.Columns.{lineOf, wakers, wakingOf, lentLine};
 
@@ -50,7 +50,7 @@ fn is_due(seat: u16, left: u32) -> bool
     false
 }
 
-// Task `t` is woken if it is due. Answers how many are woken by then.
+// Task `t` is woken if it was due. Answers how many are woken by then.
 fn wake_if_due(
     left: &mut [u32; 32],
     seat: &mut [u16; 32],
@@ -62,16 +62,16 @@ fn wake_if_due(
     wakes: &mut [u32; 32],
     woken: usize,
     t: usize,
+    due: bool,
 ) -> usize
     requires { ⌜ (t < 32) × (woken < 32) ⌝ }
     ensures few { λ r. ⌜ r ≤ woken + 1 ⌝ }
     ensures { λ r. ⌜ ((k : Tasks) → wakingOf (now (left .exit)) (now (seat .exit)) (now (joined .exit)) (now (rings .exit)) (now (wakes .exit)) r
-        ≡ pick (isDue (lineOf (now (left .entry)) (now (seat .entry)) (now (joined .entry)) (now (rings .entry))) t) (wakeNext (wakers k (now (serial .entry))
-        (now (suspended .entry)) (now (priority .entry))) (wakingOf (now (left .entry)) (now (seat .entry)) (now (joined .entry)) (now (rings .entry))
-        (now (wakes .entry)) woken) t) (wakingOf (now (left .entry)) (now (seat .entry)) (now (joined .entry)) (now (rings .entry))
-        (now (wakes .entry)) woken)) ⌝ }
+        ≡ pick due (wakeNext (wakers k (now (serial .entry)) (now (suspended .entry)) (now (priority .entry))) (wakingOf (now (left .entry))
+        (now (seat .entry)) (now (joined .entry)) (now (rings .entry)) (now (wakes .entry)) woken) t) (wakingOf (now (left .entry)) (now (seat .entry))
+        (now (joined .entry)) (now (rings .entry)) (now (wakes .entry)) woken)) ⌝ }
 {
-    if is_due(seat[t], left[t]) {
+    if due {
         waiting::wake_next(
             left,
             seat,
@@ -89,7 +89,8 @@ fn wake_if_due(
     woken
 }
 
-// "Those reaching 0 are woken with 13 in ascending slot order". Answers how many were woken.
+// "Those reaching 0 are woken with 13 in ascending slot order", told by the time_outs and the seats before the tick.
+// Answers how many were woken.
 fn wake_due(
     left: &mut [u32; 32],
     seat: &mut [u16; 32],
@@ -99,10 +100,13 @@ fn wake_due(
     suspended: &[bool; 32],
     priority: &[u8; 32],
     wakes: &mut [u32; 32],
+    before: &[u32; 32],
+    stood: &[u16; 32],
 ) -> usize
     ensures { λ r. ⌜ ((k : Tasks) → wakingOf (now (left .exit)) (now (seat .exit)) (now (joined .exit)) (now (rings .exit)) (now (wakes .exit)) r
-        ≡ wakeDue (wakers k (now (serial .entry)) (now (suspended .entry)) (now (priority .entry))) 32 0 (wakingOf (now (left .entry))
-        (now (seat .entry)) (now (joined .entry)) (now (rings .entry)) (now (wakes .entry)) 0)) ⌝ }
+        ≡ wakeDue (wakers k (now (serial .entry)) (now (suspended .entry)) (now (priority .entry))) (lineOf (now (before .entry)) (now (stood .entry))
+        (now (joined .entry)) (now (rings .entry))) 32 0 (wakingOf (now (left .entry)) (now (seat .entry)) (now (joined .entry)) (now (rings .entry))
+        (now (wakes .entry)) 0)) ⌝ }
 {
     let mut woken: usize = 0;
     let mut t: usize = 0;
@@ -118,12 +122,14 @@ fn wake_due(
             wakes,
             woken,
             t,
+            is_due(stood[t], before[t]),
         );
         t += 1;
     }
     woken
 }
 
+// To wake a task moves others' seats, so who is due is asked of what stood before the tick; it is copied only where somebody may be due.
 pub fn tick(
     left: &mut [u32; 32],
     seat: &mut [u16; 32],
@@ -141,11 +147,14 @@ pub fn tick(
 {
     *wakes = [0; 32];
     let taken = take_one(*left);
+    let after = taken.left;
     if !taken.last {
-        let after = taken.left;
         *left = after;
         return answers::woke(0, scope::TIME_OUT, seats::runner(seat, rings[0]));
     }
+    let before = *left;
+    let stood = *seat;
+    *left = after;
     let woken = wake_due(
         left,
         seat,
@@ -155,9 +164,8 @@ pub fn tick(
         suspended,
         priority,
         wakes,
+        &before,
+        &stood,
     );
-    let rest = take_one(*left);
-    let after = rest.left;
-    *left = after;
     answers::woke(woken, scope::TIME_OUT, seats::runner(seat, rings[0]))
 }

@@ -1,11 +1,10 @@
--- `ticks::tick`: nobody has one left, so nobody is due and one is taken from each; or those who are due are woken first.
+-- `ticks::tick`: one is taken from each; nobody had one left, so nobody was due, or those who were are woken.
 -- Assumes nothing.
-use mathlib.Core.Path.{ap}
 use borrow.Author.Needs.{needs}
 use borrow.Author.Tests.{not-true}
 use Rattle.answers.proofs.Outcomes.{woke-moved}
-use Rattle.scope.specs.Ticks.{takesOne, tick}
-use Rattle.ticks.proofs.Laws.{none-last, none-due}
+use Rattle.scope.specs.Ticks.{tick}
+use Rattle.ticks.proofs.Laws.{none-due}
 use Rattle.ticks.proofs.tick.Statement.{statement}
 use Rattle.ticks.proofs.tick.Tie as tie
 
@@ -23,13 +22,10 @@ woke-requires c κs = search needs
 
 returns : tie.Need-returns
 unfolding tick
-returns c = λ s running. woke-moved _ _ _ _ _ _ _ _ _ _ _ _ (c .woke .ensures) (c .before .runner .ensures) (rw (c .before .before .before .before .before .before .before .take-one .ensures .0) (ap takesOne (none-due _ _ 32 0 (λ j l. none-last _ j (c .before .before .before .before .before .before .before .take-one .ensures .1 (not-true _ (c .before .before .before .before .before .if1 .taken)) j l)))))
+returns c = λ s running. woke-moved _ _ _ _ _ _ _ _ _ _ _ _ (c .woke .ensures) (c .before .runner .ensures) (rw (← c .before .before .before .before .before .before .before .take-one .ensures .0) (none-due _ _ _ 32 0 (c .before .before .before .before .before .before .before .take-one .ensures .1 (not-true _ (c .before .before .before .before .if1 .taken)))))
 
 wake-due-requires : tie.Need-wake-due-requires
 wake-due-requires c κs = search needs
-
-take-one-requires-2 : tie.Need-take-one-requires-2
-take-one-requires-2 c κs = search needs
 
 element-copy-out-runner-2 : tie.Need-element-copy-out-runner-2
 element-copy-out-runner-2 c = search needs
@@ -42,7 +38,7 @@ woke-requires-2 c κs = search needs
 
 returns-2 : tie.Need-returns-2
 unfolding tick
-returns-2 c = λ s running. woke-moved _ _ _ _ _ _ _ _ _ _ _ _ (c .woke2 .ensures) (c .before .runner2 .ensures) (rw (c .before .before .before .before .before .take-one2 .ensures .0) (ap takesOne (c .before .before .before .before .before .before .before .wake-due .ensures (s .tasks))))
+returns-2 c = λ s running. woke-moved _ _ _ _ _ _ _ _ _ _ _ _ (c .woke2 .ensures) (c .before .runner2 .ensures) (rw (← c .before .before .before .before .before .before .before .before .before .before .before .before .before .before .before .before .before .take-one .ensures .0) (c .before .before .before .before .wake-due .ensures (s .tasks)))
 
 pub tick-spec : {M : Type 1} → statement M
 tick-spec =
@@ -54,7 +50,6 @@ tick-spec =
     woke-requires
     returns
     wake-due-requires
-    take-one-requires-2
     element-copy-out-runner-2
     runner-requires-2
     woke-requires-2
