@@ -159,7 +159,8 @@ static uint32_t a_time_out(struct aim *a)
 
 static void unknown_call(struct aim *a)
 {
-    uint32_t call = ONE_OF(&a->dice, 27, 28, 31, 32, 255, 256, TOP);
+    uint32_t call = ONE_OF(&a->dice, CALLS, CALLS + 1, 31, 32, 255,
+                            256, TOP);
 
     PUT_MARKED(a, call, roll_32(&a->dice));
 }

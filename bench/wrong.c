@@ -7,11 +7,12 @@
 #include <string.h>
 
 #include "both.h"
+#include "image.h"
 #include "images.h"
 
 enum {
-    TASKS_AT = 40, TASK = 17, SEMAPHORES_AT = 584, SEMAPHORE = 10,
-    POOLS_AT = 744, POOL = 92, QUEUES_AT = 1480, QUEUE = 1051, READY_AT = 9888
+    TASK = TASK_LENGTH, SEMAPHORE = SEMAPHORE_LENGTH, POOL = POOL_LENGTH,
+    QUEUE = QUEUE_LENGTH
 };
 
 enum { MIXTURES = 5000, AT_RANDOM = 500, ANSWERS = 20000 };

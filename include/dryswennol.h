@@ -29,7 +29,9 @@ enum {
 };
 
 enum {
+    /* ( Printed by tools/generate/run: c_size */
     DRYSWENNOL_IMAGE_BYTES = 9920, /* of an image of edition 1 (docs/IMAGE.md) */
+    /* ) */
     DRYSWENNOL_LINE_BYTES = 793    /* no line of an answer is longer, its newline with it */
 };
 
@@ -50,7 +52,7 @@ typedef struct dryswennol_answer {
 /*
  * A fresh state: one task, 64, started, of this priority.
  *
- * Gives 31 where image_len is less than 9,920, and writes nothing. Else its image is written to the first 9,920 bytes, and those behind
+ * Gives 31 where image_len is less than an image has, and writes nothing. Else its image is written to as many bytes, and those behind
  * are as they were. Then it gives 0; or 19 where the priority is above 15, and the image is that of priority 0.
  */
 uint32_t dryswennol_fresh(uint32_t priority, uint8_t *image, size_t image_len);
@@ -60,9 +62,9 @@ uint32_t dryswennol_fresh(uint32_t priority, uint8_t *image, size_t image_len);
  * interrupt. Send and jump take as many bytes of `message` as their length says, and answer 27 where fewer are lent; no other call
  * looks at it. Gives the status, and in `answer` all of the answer, whose every byte is set.
  *
- * Gives 32 where the first 9,920 bytes are not the image of a state that keeps the rules, or where there are fewer: the answer is
+ * Gives 32 where the first bytes, as many as an image has, are not the image of a state that keeps the rules, or where there are fewer: the answer is
  * that status and zeros. A refused step, this one too, leaves every byte of the image. After any other it is the image of the
- * state after the call. Bytes behind the 9,920 are as they were.
+ * state after the call. Bytes behind the image are as they were.
  */
 uint32_t dryswennol_step(uint8_t *image, size_t image_len, const uint8_t *message, size_t message_len, dryswennol_answer *answer,
     uint32_t call, uint32_t mark, uint32_t a, uint32_t b, uint32_t c, uint32_t d, uint32_t e);

@@ -11,21 +11,6 @@
 #include "calls.h"
 #include "ready.h"
 
-enum {
-    HEADER_LENGTH = 40,
-    TASK_LENGTH = 17,
-    SEMAPHORE_LENGTH = 10,
-    POOL_LENGTH = 92,
-    QUEUE_LENGTH = 1051,
-    TASKS_AT = HEADER_LENGTH,
-    SEMAPHORES_AT = TASKS_AT + TASKS * TASK_LENGTH,
-    POOLS_AT = SEMAPHORES_AT + SEMAPHORES * SEMAPHORE_LENGTH,
-    QUEUES_AT = POOLS_AT + POOLS * POOL_LENGTH,
-    READY_AT = QUEUES_AT + QUEUES * QUEUE_LENGTH
-};
-
-_Static_assert(READY_AT + TASKS == IMAGE_BYTES, "an edition has one length");
-
 /* "its seat: queue × 64 + place, place 1 first; 0 where it stands nowhere" */
 enum {
     SEAT_RANGE = 64,

@@ -12,7 +12,22 @@
 
 #include "kernel.h"
 
-enum { EDITION = 1, IMAGE_BYTES = 9920 };
+enum { EDITION = 1 };
+
+/* Where the tables stand, and the bytes of a record of each. */
+enum {
+    HEADER_LENGTH = 40,
+    TASK_LENGTH = 17,
+    SEMAPHORE_LENGTH = 10,
+    POOL_LENGTH = 92,
+    QUEUE_LENGTH = 1051,
+    TASKS_AT = HEADER_LENGTH,
+    SEMAPHORES_AT = TASKS_AT + TASKS * TASK_LENGTH,
+    POOLS_AT = SEMAPHORES_AT + SEMAPHORES * SEMAPHORE_LENGTH,
+    QUEUES_AT = POOLS_AT + POOLS * POOL_LENGTH,
+    READY_AT = QUEUES_AT + QUEUES * QUEUE_LENGTH,
+    IMAGE_BYTES = READY_AT + TASKS
+};
 
 /* No call gives these two. */
 enum { NO_ROOM = 31, BAD_IMAGE = 32 };

@@ -8,6 +8,7 @@ each edge, and now and then wild ones.
 import random
 
 from model import FOREVER, Model
+from scripts import CALLS
 
 TOP = 2 ** 32 - 1
 NAMES = [0, 1, 2, 3, 7, 9, TOP]
@@ -265,5 +266,5 @@ class Aim:
     # Calls that no row knows.
 
     def unknown_call(self):
-        self.do(self.rng.choice([27, 28, 31, 255, 256, TOP]),
+        self.do(self.rng.choice([len(CALLS), len(CALLS) + 1, 31, 255, 256, TOP]),
                 self.rng.randrange(TOP))

@@ -951,17 +951,18 @@ case("callers", 5, "".join("""
 """ % (name, name) for name in CALLS) + "".join(
     "    mark 1 %s -> 2; runs 64\n" % name for name in CALLS
     if name not in ("tick", "sem_release", "queue_send", "queue_jump")) + """
-    27 -> 25
+    %d -> 25
     4294967295 -> 25
-    mark 1 28 -> 25
+    mark 1 %d -> 25
     mark 1 sem_release 64 -> 4
     mark 1 queue_send 64 0 -> 4
     mark 1 queue_jump 64 0 -> 4
     task_suspend SELF -> 0; runs 0
-""" + "".join(
+""" % (len(CALLS), len(CALLS) + 1) + "".join(
     "    %s -> 24; runs 0\n" % name for name in CALLS if name != "tick")
     + "".join("    mark 3 %s -> 25; runs 0\n" % name for name in CALLS)
-    + "    mark 1 task_resume 64 -> 2; runs 0\n    27 -> 25; runs 0\n")
+    + "    mark 1 task_resume 64 -> 2; runs 0\n    %d -> 25; runs 0\n"
+    % len(CALLS))
 
 case("unused-arguments", 5, """
     sem_create 7 0 0 TOP TOP -> 0 64

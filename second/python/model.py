@@ -6,7 +6,7 @@ generator aims with it, and compare.py sets the second program against it.
 
 import struct
 
-from scripts import header_of, records_of
+from scripts import CALLS, header_of, records_of
 
 FOREVER = 4294967295
 TASKS, SEMAPHORES, POOLS, QUEUES = 32, 16, 8, 8
@@ -93,7 +93,7 @@ class Model:
                 self.wakes)
 
     def caller_tests(self, call, mark):
-        unless(call <= 26 and mark <= 1 and (call, mark) != (0, 0), 25)
+        unless(call < len(CALLS) and mark <= 1 and (call, mark) != (0, 0), 25)
         unless(mark == 1 or self.order, 24)
         unless(mark == 0 or call in (0, 12, 23, 24), 2)
 

@@ -1,33 +1,11 @@
 # Prints crate `image`'s code and its proofs: the columns of each table of the state, put into an image, taken from it and tested.
 from textwrap import fill, indent
 
+from table import ORDER, ORDER_AT, SIZE, image_tables as placed
+
 HEAD = 'Printed by tools/generate/run.'
-SIZE = 9920
-HEADER = 40
-# A table: name, slots, its fields in order (column, bytes of a number, 0 for a yes or no, and how many numbers a slot).
-# (specs/Image.antt says the same, and docs/IMAGE.md.)
-TABLES = [
-    ('tasks', 32, [('name', 4, 1), ('serial', 2, 1), ('live', 0, 1), ('started', 0, 1), ('suspended', 0, 1), ('priority', 1, 1),
-                   ('left', 4, 1), ('seat', 2, 1), ('joined', 1, 1)]),
-    ('semaphores', 16, [('name', 4, 1), ('serial', 2, 1), ('units', 2, 1), ('live', 0, 1), ('fifo', 0, 1)]),
-    ('pools', 8, [('out', 8, 1), ('name', 4, 1), ('address', 4, 1), ('length', 4, 1), ('size', 4, 1), ('serial', 2, 1), ('live', 0, 1),
-                  ('forced', 0, 1), ('place', 1, 64)]),
-    ('queues', 8, [('name', 4, 1), ('serial', 2, 1), ('live', 0, 1), ('fifo', 0, 1), ('limits', 1, 2), ('held', 1, 1), ('cells', 1, 1040)]),
-]
 TYPES = {0: 'bool', 1: 'u8', 2: 'u16', 4: 'u32', 8: 'u64'}
 LAWS = 'Rattle.image.proofs'
-
-
-def stride(fields):
-    return sum(max(w, 1) * many for _, w, many in fields)
-
-
-# each table with the place of its first record
-def placed():
-    at = HEADER
-    for name, slots, fields in TABLES:
-        yield name, slots, fields, at, stride(fields)
-        at += slots * stride(fields)
 
 
 # each field of a table, with its place and the function that puts or takes its column
@@ -72,8 +50,11 @@ def function(verb, name, slots, fields, at, S):
 def lone():
     numbers = [1, SIZE] + [x for _, slots, _, at, _ in placed() for x in (slots, at)]
     header = promise(f'now (image .exit) ≡ putFields 4 {len(numbers)} (each 4 headerNumbers ∷ []) 0 (now (image .entry))')
-    order = promise(f'now (image .exit) ≡ putFields 32 1 (bytes 32 (now (places .entry)) ∷ []) {SIZE - 32} (now (image .entry))')
+    order = promise(f'now (image .exit) ≡ putFields 32 1 (bytes 32 (now (places .entry)) ∷ []) {ORDER_AT} (now (image .entry))')
     return f'''
+// The bytes of an image.
+pub const SIZE: usize = {SIZE};
+
 // Edition, length, then count and place of each table.
 const HEADER: [u32; {len(numbers)}] = {numbers};
 
@@ -85,7 +66,7 @@ pub fn put_header(image: &mut [u8; {SIZE}])
 
 pub fn put_order(image: &mut [u8; {SIZE}], places: &[u8; 32])
 {order}{{
-    columns::put_rows(image, {SIZE - 32}, 32, 1, 32, places);
+    columns::put_rows(image, {ORDER_AT}, 32, 1, 32, places);
 }}
 '''
 
@@ -100,7 +81,7 @@ def flag_columns():
 
 def tests():
     calls = '\n        & '.join(f'columns::flags_only(image, {place}, {S}, {slots})' for place, S, slots in flag_columns())
-    order = promise(f'r ≡ sameBytes (part 32 {SIZE - 32} (now (image .entry))) (now (places .entry))', 'r')
+    order = promise(f'r ≡ sameBytes (part 32 {ORDER_AT} (now (image .entry))) (now (places .entry))', 'r')
     size = f'    requires {{ ⌜ length (now image) ≡ {SIZE} ⌝ }}'
     return f'''
 // Whether the header is that of the edition.
@@ -122,14 +103,14 @@ pub fn flags_right(image: &[u8]) -> bool
 pub fn order_is(image: &[u8], places: &[u8; 32]) -> bool
 {size}
 {order}{{
-    columns::are_u8s(image, {SIZE - 32}, 1, places)
+    columns::are_u8s(image, {ORDER_AT}, 1, places)
 }}
 '''
 
 
 def source():
-    names = ', '.join(fields_of(t[0]) for t in TABLES)
-    taken = ', '.join(title(t[0]) + 'Taken' for t in TABLES)
+    names = ', '.join(fields_of(t[0]) for t in placed())
+    taken = ', '.join(title(t[0]) + 'Taken' for t in placed())
     text = f'''// The columns of the state's tables, put into an image, taken from it and tested. {HEAD}
 // (specs/Image.antt, specs/Reading.antt, specs/Tests.antt; docs/IMAGE.md has the places.)
 ghost use mathlib.Core.Path.{{_≡_}};

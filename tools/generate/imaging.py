@@ -1,6 +1,7 @@
 # Prints the walks of crate `imaging`, which keep a state as a local and lend it as one thing: step_image, to the check, to the step,
 # to who asks who runs and to who writes it; fresh_image, to who writes it. What they are lent is passed on for good.
 from lent import HEADER, STATE, Lent, ands, callee, closing, contracts, known, lawS, outer, trues, units
+from table import ORDER_AT, SIZE
 from walk import chain, path
 
 CRATE = 'imaging'
@@ -29,14 +30,14 @@ use denote.Triple.Walked.{stay-dropped, goes-dropped}
 use Rattle.image.specs.Image.{imageOf, imageSize}
 use Rattle.lending.proofs.Lending.{Col, Keys, tokens, lasts, silent, lie, refs, shared, kept, kept-shared, lends, backs, lends-shared, backs-shared, local-in, local-out}
 '''
-IMAGE = '''abbrev ImageT : RattleType
-ImageT = Array u8 9920
+IMAGE = f'''abbrev ImageT : RattleType
+ImageT = Array u8 {SIZE}
 
 abbrev imTy : Ty
-imTy = tyRef (named 0) mut (tyArray (tyInt w8) 9920)
+imTy = tyRef (named 0) mut (tyArray (tyInt w8) {SIZE})
 
 abbrev refI : Ty
-refI = tyRef erased mut (tyArray (tyInt w8) 9920)
+refI = tyRef erased mut (tyArray (tyInt w8) {SIZE})
 
 abbrev refS : Ty
 refS = tyRef erased mut sTy
@@ -45,7 +46,7 @@ abbrev num : Ty
 num = tyInt w32
 
 abbrev csS : List Col
-csS = record { row = R; at = 0 } ∷ []
+csS = record {{ row = R; at = 0 }} ∷ []
 
 '''
 
@@ -105,7 +106,7 @@ abbrev word : Ty
 word = tyInt w64
 
 abbrev refJ : Ty
-refJ = tyRef erased imm (tyArray (tyInt w8) 9920)
+refJ = tyRef erased imm (tyArray (tyInt w8) {SIZE})
 
 abbrev wRef : Ty
 wRef = tyRef (named 1) mut wTy
@@ -300,7 +301,7 @@ def written(W, s, ref, iref, image, to, d, isd, ln, k='k₄'):
     lends(W, s, ref, k, d, isd, 'P₁', 'T₁')
     w(f'        assigns ! (addr ! (from ! (hop ! (look ! {W.L(image)} refl) (stop !)))) (from ! (stop !)) (init ! {W.L(iref)} refl (tt, tt)) $\n        ')
     W.move('P', 'T'); w(f'use2 W (raw (Gpu 𝓤 H A at-mem run .pre (to-pu {s} {k} {d}))) (qed W (‵ (tokens csS {k} P₁) ∷ ‵ (refs {s} csS ({d}, tt) {k} T₁) ∷ []) ∵ says ! req $ done !) $\n'); W.head(2, 'pre')
-    fact = lambda z: f'((n-pu ≡ 9920) × (({z} .1 .0 ≡ imageOf {d}) × ({z} .0 ≡ {d})))'
+    fact = lambda z: f'((n-pu ≡ {SIZE}) × (({z} .1 .0 ≡ imageOf {d}) × ({z} .0 ≡ {d})))'
     w(f'''        calls-at ! fm (Gpu 𝓤 H A at-mem run) known-pu (to-pu {s} {k} {d}) {ands([W.ld(ref), W.ld(iref)])} (λ v-pu.
         use1 W (later (some (λ (n-pu : ℕ). (‵ (tokens csS {k} P₁) ⊛ ‵ (u32 .own n-pu (v-pu ∷ []))) ⊛ raw (ensured 𝓤 H A pu.ended (pu.clauses 𝓤 H A at-mem run) (to-pu {s} {k} {d} .0 .0) (to-pu {s} {k} {d} .0 .3) tt n-pu)))) (id⊢ 𝓤 _) $ await ! tt $ pick ! (λ n-pu.
         split ! $ move ! (1 ∷ []) $ use1 W (some (λ (u : State × (List ℕ × Unit {{0}})). ‵ (lasts csS (u .0, tt) {k} (L₁ (u .1 .0))) ⊛ raw (fact 𝓤 {fact('u')}))) (id⊢ 𝓤 _) $ pick ! (λ z-pu.
@@ -340,7 +341,7 @@ def stepped():
     lends(W, S, I['ref0'], 'kT', 'f₀', 'isF₀', pI, tI)
     w(f'        assigns ! (addr ! (from ! (hop ! (look ! {L("image")} refl) (stop !)))) {put("ishr")} (tt, tt)) $\n        ')
     W.move('P', 'T'); w(f'use2 W (raw (Gta 𝓤 H A at-mem run .pre (to-ta {S} kT k₀))) (qed W (‵ (tokens csS kT {pI}) ∷ ‵ (refs {S} csS (f₀, tt) kT {tI}) ∷ []) ∵ join ! $ frame ! $ done !) $\n'); W.head(2, 'pre')
-    fact = lambda z: f'(({z} .0 ≡ d₀) × (n-ta ≡ 9888))'
+    fact = lambda z: f'(({z} .0 ≡ d₀) × (n-ta ≡ {ORDER_AT}))'
     w(f'''        calls-at ! fm (Gta 𝓤 H A at-mem run) known-ta (to-ta {S} kT k₀) {ands([ld('ref0'), ld('ishr')])} (λ v-ta.
         use1 W (later (some (λ (n-ta : ℕ). (‵ (tokens csS kT {pI}) ⊛ ‵ (usize .own n-ta (v-ta ∷ []))) ⊛ raw (ensured 𝓤 H A ta.ended (ta.clauses 𝓤 H A at-mem run) (to-ta {S} kT k₀ .0 .0) (to-ta {S} kT k₀ .0 .3) tt n-ta)))) (id⊢ 𝓤 _) $ await ! tt $ pick ! (λ n-ta.
         split ! $ move ! (1 ∷ []) $ use1 W (some (λ (u : State × (Unit {{0}} × Unit {{0}})). ‵ (lasts csS (u .0, tt) kT {lI}) ⊛ raw (fact 𝓤 {fact('u')}))) (id⊢ 𝓤 _) $ pick ! (λ z-ta.
@@ -453,7 +454,7 @@ stayed = (gave-ref (0 ∷ []) tt (plain (λ _. ImageT)), (stay-dropped (plain (�
   abbrev d₀ : State
   d₀ = fresh p .state
 
-  exits : (xs : List ℕ) (r : ℕ) (v : Val) → (r ≡ 9920) × (xs ≡ imageOf d₀) → ent 𝓤 (⋆ 𝓤 H A ({out})) (Post v)
+  exits : (xs : List ℕ) (r : ℕ) (v : Val) → (r ≡ {SIZE}) × (xs ≡ imageOf d₀) → ent 𝓤 (⋆ 𝓤 H A ({out})) (Post v)
   exits xs r v said =
       qed W ({out}) ∵
       suffices ! _ (ends-at 𝓤 H A h.ended stayed (h.clauses 𝓤 H A at-mem run) W {ghost} v r (xs, (tt, tt)) (tt, (tt, tt))) $

@@ -9,6 +9,14 @@ TABLES = [
 ]
 # A column that does not have one place for each slot: table, column, length.
 LENGTHS = {('L', 'rings'): 1, ('P', 'place'): 512, ('U', 'limits'): 16, ('U', 'cells'): 8320}
+# The image (docs/IMAGE.md): a header, then these tables, whose fields are these columns in order, then the ready order.
+IMAGE = [
+    ('tasks', [('K', None), ('L', ['left', 'seat', 'joined'])]),
+    ('semaphores', [('Q', None)]),
+    ('pools', [('P', None)]),
+    ('queues', [('U', None)]),
+]
+IMAGE_HEADER, ORDER = 40, 32
 # A chapter: its calls in words, their crate, their numbers (tools/calls.tsv names them); the last chapter also answers the numbers that no call has.
 CALLS = {
     'tick': ('tick', 'ticks', range(0, 1)),
@@ -127,3 +135,28 @@ def layout():
         end += up(al, e)
     at['running'] = up(8, end)
     return at
+
+
+# a table of the image: its slots, and its fields (column, bytes of a number, 0 for a yes or no, how many numbers a slot, its own table)
+def image_fields(segs):
+    n = table(segs[0][0])[3]
+    return n, [(c, w, LENGTHS.get((g, c), n) // n, g) for g, sub in segs for c, w in table(g)[4] if sub is None or c in sub]
+
+
+def stride(fields):
+    return sum(max(w, 1) * many for _, w, many, *_ in fields)
+
+
+# each table of the image with the place of its first record and the bytes of one
+def image_tables():
+    at = IMAGE_HEADER
+    for name, segs in IMAGE:
+        n, fields = image_fields(segs)
+        yield name, n, [f[:3] for f in fields], at, stride(fields)
+        at += n * stride(fields)
+
+
+# where each ends, and the bytes of all
+ENDS = {name: at + n * each for name, n, _, at, each in image_tables()}
+ORDER_AT = ENDS[IMAGE[-1][0]]
+SIZE = ORDER_AT + ORDER

@@ -1,6 +1,6 @@
 # Prints crate `taking`: each table of a state that is lent as one thing is taken out of a lent image, its columns lent to a function that takes
 # them, all at once; and `take`, which has them taken one after the other.
-from table import TABLES, array, cols, layout, table
+from table import ENDS, SIZE, TABLES, array, cols, layout, table
 from lent import HEADER, Lent, ands, callee, contracts, known
 from walk import Walk, chain, path
 from writing import BINDS, GHOST, outer_ as outer_of, wrapped
@@ -10,9 +10,9 @@ CRATE = 'taking'
 # a table: its function, what it is in words, the tables lent, what the state is then, and what is answered
 TAKERS = [
     ('tasks', 'The tasks, where they stand, and who runs', ['L', 'K'], 'tasksTaken', None),
-    ('semaphores', 'The semaphores', ['Q'], 'semsTaken', 744),
-    ('pools', 'The pools', ['P'], 'poolsTaken', 1480),
-    ('queues', 'The queues', ['U'], 'queuesTaken', 9888),
+    ('semaphores', 'The semaphores', ['Q'], 'semsTaken', ENDS['semaphores']),
+    ('pools', 'The pools', ['P'], 'poolsTaken', ENDS['pools']),
+    ('queues', 'The queues', ['U'], 'queuesTaken', ENDS['queues']),
 ]
 FROM = {'L': 'lineFrom', 'K': 'tasksFrom', 'Q': 'semsFrom', 'P': 'poolsFrom', 'U': 'queuesFrom'}
 OF = {'L': 'lineOf', 'K': 'tasksOf', 'Q': 'semaphoresOf', 'P': 'poolsOf', 'U': 'queuesOf'}
@@ -38,23 +38,23 @@ ghost use Rattle.taking.specs.Taken.{tasksTaken, semsTaken, poolsTaken, 
         told = f'(r ≡ {after})' if after else '(r ≡ runnerOf (now (seat .exit)) (maskOf (now (rings .exit))))'
         take = ['image'] + ([c for c, _ in table('K')[4]] + ['left', 'seat', 'joined'] if after is None else [c for _, c, _ in cl])
         line = ', '.join(take)
-        o += f'\n// {words}, into the columns.\nfn {n}_part(\n' + ''.join(f'    {c}: &mut {array(g, c)},\n' for g, c, _ in cl) + '    image: &[u8; 9920],\n) -> usize\n'
+        o += f'\n// {words}, into the columns.\nfn {n}_part(\n' + ''.join(f'    {c}: &mut {array(g, c)},\n' for g, c, _ in cl) + f'    image: &[u8; {SIZE}],\n) -> usize\n'
         o += f'    ensures {{ λ r. ⌜ {made} × {told}{")" * (len(gs) - 1)} ⌝ }}\n{{\n'.replace(') × (', ')\n        × (', 1) if len(gs) > 1 else f'    ensures {{ λ r. ⌜ {made} × {told} ⌝ }}\n{{\n'
         o += f'    image::take_{n}({line});\n' if len(line) <= 60 else f'    image::take_{n}(\n' + ''.join(f'        {x},\n' for x in take) + '    );\n'
         o += f'    {after}\n}}\n' if after else '    let mask = seats::ring_mask(seat);\n    *rings = [mask];\n    seats::runner(seat, mask)\n}\n'
         told = f'(r ≡ {after})' if after else '(r ≡ now (s .exit) .running)'
-        o += f'\npub fn take_{n}(s: &mut State, image: &[u8; 9920]) -> usize\n    ensures {{ λ r. ⌜ (now (s .exit) ≡ {is_} (now (s .entry)) (now (image .entry))) × {told} ⌝ }}\n{{\n    '
+        o += f'\npub fn take_{n}(s: &mut State, image: &[u8; {SIZE}]) -> usize\n    ensures {{ λ r. ⌜ (now (s .exit) ≡ {is_} (now (s .entry)) (now (image .entry))) × {told} ⌝ }}\n{{\n    '
         o += ('' if after else 'let running = ') + f'{n}_part(\n' + ''.join(f'        &mut s.{table(g)[2]}.{c},\n' for g, c, _ in cl) + '        image,\n    )' + ('\n}\n' if after else ';\n    s.running = running;\n    running\n}\n')
-    return o + '''
+    return o + f'''
 // The whole state.
-pub fn take(s: &mut State, image: &[u8; 9920]) -> usize
-    ensures { λ r. ⌜ (now (s .exit) ≡ stateFrom (now (image .entry))) × (r ≡ 9888) ⌝ }
-{
+pub fn take(s: &mut State, image: &[u8; {SIZE}]) -> usize
+    ensures {{ λ r. ⌜ (now (s .exit) ≡ stateFrom (now (image .entry))) × (r ≡ {ENDS['queues']}) ⌝ }}
+{{
 ''' + ''.join(f'    take_{n}(s, image);\n' for n, *_ in TAKERS[:-1]) + f'    take_{TAKERS[-1][0]}(s, image)\n}}\n'
 
 
-IMAGE = '''abbrev ImageT : RattleType
-ImageT = Array u8 9920
+IMAGE = f'''abbrev ImageT : RattleType
+ImageT = Array u8 {SIZE}
 
 abbrev R : RattleType
 R = S.the-row

@@ -1,6 +1,6 @@
 # Prints crate `writing`: each table of a state that is lent as one thing is put into a lent image, its columns lent shared to a function that
 # puts them, all at once; and `put`, which has them put one after the other. The walks are the readers', with the image passed on for good.
-from table import TABLES, array, cols, layout, table
+from table import ENDS, SIZE, TABLES, array, cols, layout, table
 from lent import HEADER, Lent, ands, callee, contracts, known
 from walk import Walk, chain
 
@@ -8,10 +8,10 @@ AT = layout()
 CRATE = 'writing'
 # a table: its function, what it is in words, the columns lent in order, what is put, and where the next table begins
 WRITERS = [
-    ('tasks', 'The header and the tasks', [('K', 'shr', None), ('L', 'shr', ['left', 'seat', 'joined'])], 'tasksPut', 584),
-    ('semaphores', 'The semaphores', [('Q', 'shr', None)], 'semsPut', 744),
-    ('pools', 'The pools', [('P', 'shr', None)], 'poolsPut', 1480),
-    ('queues', 'The queues, and the ready order behind them', [('U', 'shr', None), ('L', 'shr', ['seat'])], 'queuesPut', 9920),
+    ('tasks', 'The header and the tasks', [('K', 'shr', None), ('L', 'shr', ['left', 'seat', 'joined'])], 'tasksPut', ENDS['tasks']),
+    ('semaphores', 'The semaphores', [('Q', 'shr', None)], 'semsPut', ENDS['semaphores']),
+    ('pools', 'The pools', [('P', 'shr', None)], 'poolsPut', ENDS['pools']),
+    ('queues', 'The queues, and the ready order behind them', [('U', 'shr', None), ('L', 'shr', ['seat'])], 'queuesPut', SIZE),
 ]
 PUT = {
     'tasks': ('    image::put_header(image);\n', ''),
@@ -49,24 +49,24 @@ ghost use Rattle.writing.specs.Written.{tasksPart, tasksPut, semsPart, s
         now = given(segs, lambda g, c: f'(now ({c} .entry))')
         own = [c for g, c, _ in cl if (g, c) != ('L', 'seat') or n == 'tasks']
         first, last = PUT.get(n, ('', ''))
-        o += f'\n// {words}, out of the columns.\nfn {n}_part(\n' + ''.join(f'    {c}: &{array(g, c)},\n' for g, c, _ in cl) + '    image: &mut [u8; 9920],\n) -> u32\n'
+        o += f'\n// {words}, out of the columns.\nfn {n}_part(\n' + ''.join(f'    {c}: &{array(g, c)},\n' for g, c, _ in cl) + f'    image: &mut [u8; {SIZE}],\n) -> u32\n'
         o += f'    ensures {{ λ r. ⌜ (r ≡ {after}) × (now (image .exit)\n        ≡ {put.replace("Put", "Part")} {now}\n        (now (image .entry))) ⌝ }}\n{{\n'
         lent = ', '.join(['image'] + own)
         o += first + (f'    image::put_{n}({lent});\n' if len(lent) <= 60 else f'    image::put_{n}(\n        image,\n' + ''.join(f'        {c},\n' for c in own) + '    );\n') + last + f'    {after}\n}}\n'
-        o += f'\npub fn put_{n}(s: &mut State, image: &mut [u8; 9920]) -> u32\n'
+        o += f'\npub fn put_{n}(s: &mut State, image: &mut [u8; {SIZE}]) -> u32\n'
         o += f'    ensures {{ λ r. ⌜ (r ≡ {after}) × ((now (image .exit) ≡ {put} (now (s .entry)) (now (image .entry))) × (now (s .exit) ≡ now (s .entry))) ⌝ }}\n{{\n    {n}_part(\n'
         o += ''.join(f'        &s.{table(g)[2]}.{c},\n' for g, c, _ in cl) + '        image,\n    )\n}\n'
-    return o + '''
+    return o + f'''
 // The whole image.
-pub fn put(s: &mut State, image: &mut [u8; 9920]) -> u32
-    requires { ⌜ length (now image) ≡ imageSize ⌝ }
-    ensures { λ r. ⌜ (r ≡ 9920) × ((now (image .exit) ≡ imageOf (now (s .entry))) × (now (s .exit) ≡ now (s .entry))) ⌝ }
-{
+pub fn put(s: &mut State, image: &mut [u8; {SIZE}]) -> u32
+    requires {{ ⌜ length (now image) ≡ imageSize ⌝ }}
+    ensures {{ λ r. ⌜ (r ≡ {SIZE}) × ((now (image .exit) ≡ imageOf (now (s .entry))) × (now (s .exit) ≡ now (s .entry))) ⌝ }}
+{{
 ''' + ''.join(f'    put_{n}(s, image);\n' for n, *_ in WRITERS[:-1]) + f'    put_{WRITERS[-1][0]}(s, image)\n}}\n'
 
 
-IMAGE = '''abbrev ImageT : RattleType
-ImageT = Array u8 9920
+IMAGE = f'''abbrev ImageT : RattleType
+ImageT = Array u8 {SIZE}
 
 abbrev ImageS : Slot 2
 ImageS = plain (λ _. ImageT)
@@ -315,7 +315,7 @@ csI o = record {{ row = ImageT; at = o }} ∷ []
 
 ''')
     out = '‵ (fobs γ (R .coded .code d)) ∷ ‵ (fbor κ (Body (mem R) b o γ)) ∷ ‵ (flft κ q) ∷ ‵ (fobs γ′ (ImageT .coded .code xs)) ∷ ‵ (fbor κ′ (Body (mem ImageT) b′ o′ γ′)) ∷ ‵ (flft κ′ q′) ∷ ‵ ftrue ∷ ‵ (u32 .own r (v ∷ [])) ∷ []'
-    w(f'''  exits : (xs : List ℕ) (r : ℕ) (v : Val) → (r ≡ 9920) × (xs ≡ imageOf d) → ent 𝓤 (⋆ 𝓤 H A ({out})) (Post v)
+    w(f'''  exits : (xs : List ℕ) (r : ℕ) (v : Val) → (r ≡ {SIZE}) × (xs ≡ imageOf d) → ent 𝓤 (⋆ 𝓤 H A ({out})) (Post v)
   exits xs r v said =
       qed W ({out}) ∵
       suffices ! _ (ends-at 𝓤 H A outer.ended stayed (outer.clauses 𝓤 H A at-mem run) W {GHOST} v r (d, (xs, tt)) (tt, (tt, tt))) $

@@ -21,7 +21,7 @@ use Rattle.scope.specs.Waiting.{wokenSeats, wokenRings, wake, wakeNext, isTimeO
 use Rattle.scope.specs.Ticks.{timeLeft, timesLeft, isDue, wakeDue, tick}
 use Rattle.scope.specs.Objects.{ofObject, objects}
 use Rattle.scope.specs.Rules.{seatRight, seatsRight, ringsRight, readyRight, readyOrderRight, waitRight, waitsRight, joinedRight, queuesSorted, countRight, countsRight, holdsRight, heldRight, startRight, startsRight, taskRight, tasksRight, semRight, semsRight, queueRight, queuesRight, messagesRight, admitted, poolRight, poolsRight, placeRight, orderRight, ordersRight, pairShares, poolsApart, runningRight, orderRules, tableRules, keeps, sound}
-use Rattle.scope.specs.Calls.{mayCall}
+use Rattle.scope.specs.Calls.{knownCalls, mayCall}
 use Rattle.scope.specs.Step.{callerRefusal, answered, stepped}
 use Rattle.scope.specs.declared.State.{State}
 use Rattle.laws.proofs.Branches.{both, both-true, first-fails, second-fails}
@@ -46,20 +46,43 @@ marks-self [] = refl
 marks-self (true ∷ xs) = marks-self xs
 marks-self (false ∷ xs) = marks-self xs
 
+-- ( Printed by tools/generate/run: same_self
 state-self : (s : State) → sameState s s ≡ true
 state-self s =
-    both _ _ (same-self (s .line .left)) (both _ _ (same-self (s .line .seat)) (both _ _ (same-self (s .line .joined))
+    both _ _ (same-self (s .line .left))
+    (both _ _ (same-self (s .line .seat))
+    (both _ _ (same-self (s .line .joined))
     (both _ _ (same-self (s .line .rings))
-    (both _ _ (same-self (s .tasks .name)) (both _ _ (same-self (s .tasks .serial)) (both _ _ (marks-self (s .tasks .live))
-    (both _ _ (marks-self (s .tasks .started)) (both _ _ (marks-self (s .tasks .suspended)) (both _ _ (same-self (s .tasks .priority))
-    (both _ _ (same-self (s .semaphores .name)) (both _ _ (same-self (s .semaphores .serial)) (both _ _ (same-self (s .semaphores .units))
-    (both _ _ (marks-self (s .semaphores .live)) (both _ _ (marks-self (s .semaphores .fifo))
-    (both _ _ (same-self (s .pools .out)) (both _ _ (same-self (s .pools .name)) (both _ _ (same-self (s .pools .address))
-    (both _ _ (same-self (s .pools .length)) (both _ _ (same-self (s .pools .size)) (both _ _ (same-self (s .pools .serial))
-    (both _ _ (marks-self (s .pools .live)) (both _ _ (marks-self (s .pools .forced)) (both _ _ (same-self (s .pools .place))
-    (both _ _ (same-self (s .queues .name)) (both _ _ (same-self (s .queues .serial)) (both _ _ (marks-self (s .queues .live))
-    (both _ _ (marks-self (s .queues .fifo)) (both _ _ (same-self (s .queues .limits)) (both _ _ (same-self (s .queues .held))
-    (both _ _ (same-self (s .queues .cells)) (eq-eqb (s .running) (s .running) refl)))))))))))))))))))))))))))))))
+    (both _ _ (same-self (s .tasks .name))
+    (both _ _ (same-self (s .tasks .serial))
+    (both _ _ (marks-self (s .tasks .live))
+    (both _ _ (marks-self (s .tasks .started))
+    (both _ _ (marks-self (s .tasks .suspended))
+    (both _ _ (same-self (s .tasks .priority))
+    (both _ _ (same-self (s .semaphores .name))
+    (both _ _ (same-self (s .semaphores .serial))
+    (both _ _ (same-self (s .semaphores .units))
+    (both _ _ (marks-self (s .semaphores .live))
+    (both _ _ (marks-self (s .semaphores .fifo))
+    (both _ _ (same-self (s .pools .out))
+    (both _ _ (same-self (s .pools .name))
+    (both _ _ (same-self (s .pools .address))
+    (both _ _ (same-self (s .pools .length))
+    (both _ _ (same-self (s .pools .size))
+    (both _ _ (same-self (s .pools .serial))
+    (both _ _ (marks-self (s .pools .live))
+    (both _ _ (marks-self (s .pools .forced))
+    (both _ _ (same-self (s .pools .place))
+    (both _ _ (same-self (s .queues .name))
+    (both _ _ (same-self (s .queues .serial))
+    (both _ _ (marks-self (s .queues .live))
+    (both _ _ (marks-self (s .queues .fifo))
+    (both _ _ (same-self (s .queues .limits))
+    (both _ _ (same-self (s .queues .held))
+    (both _ _ (same-self (s .queues .cells))
+    (eq-eqb (s .running) (s .running) refl)))))))))))))))))))))))))))))))
+
+-- )
 
 -- a state that is not sound is refused, whatever is asked
 refusal : (s : State) → sound s ≡ false → (call mark a b c d e : ℕ) (m : List ℕ) → isRefusal s (stepped s call mark a b c d e m) ≡ true
@@ -119,7 +142,7 @@ all-calls : (s : State) → sound s ≡ false → (n : ℕ) → allCalls n s ≡
 all-calls s e zero = refl
 all-calls s e (suc n) = both _ _ (refusal s e n 0 64 0 1 1 0 []) (both _ _ (refusal s e n 1 64 0 1 1 0 []) (all-calls s e n))
 
--- the 27 calls and an unknown one, by either caller, on one broken state
-pub every-call : T (allCalls 28 oneBroken)
+-- the calls and an unknown one, by either caller, on one broken state
+pub every-call : T (allCalls (suc knownCalls) oneBroken)
 unfolding pick least every number standsIn onSeat standing seatRight seatsRight
-every-call = passes _ (all-calls oneBroken (order 0 oneBroken refl) 28)
+every-call = passes _ (all-calls oneBroken (order 0 oneBroken refl) (suc knownCalls))

@@ -212,6 +212,7 @@ fifo i b = semaphoresWith 4 i 0 b
 abbrev poolsWith : ℕ → ℕ → ℕ → Bool → State
 poolsWith meant i x b =
     pools
+    -- ( Printed by tools/generate/run: changed_pools
     (record {
       out = numbers meant i x 0 (goodPools .out);
       name = numbers meant i x 1 (goodPools .name);
@@ -223,6 +224,7 @@ poolsWith meant i x b =
       forced = marks meant i b 7 (goodPools .forced);
       place = numbers meant i x 8 (goodPools .place);
     })
+    -- )
 
 abbrev marked : ℕ → ℕ → State
 marked i x = poolsWith 0 i x false
@@ -367,25 +369,44 @@ sameMarks (x ∷ xs) [] = false
 sameMarks (true ∷ xs) (y ∷ ys) = y && sameMarks xs ys
 sameMarks (false ∷ xs) (y ∷ ys) = not y && sameMarks xs ys
 
+-- ( Printed by tools/generate/run: same
 -- "the given state back"
 abbrev pub sameState : State → State → Bool
 sameState s r =
-    same (s .line .left) (r .line .left) && (same (s .line .seat) (r .line .seat) && (same (s .line .joined) (r .line .joined)
+    same (s .line .left) (r .line .left)
+    && (same (s .line .seat) (r .line .seat)
+    && (same (s .line .joined) (r .line .joined)
     && (same (s .line .rings) (r .line .rings)
-    && (same (s .tasks .name) (r .tasks .name) && (same (s .tasks .serial) (r .tasks .serial)
-    && (sameMarks (s .tasks .live) (r .tasks .live) && (sameMarks (s .tasks .started) (r .tasks .started)
-    && (sameMarks (s .tasks .suspended) (r .tasks .suspended) && (same (s .tasks .priority) (r .tasks .priority)
-    && (same (s .semaphores .name) (r .semaphores .name) && (same (s .semaphores .serial) (r .semaphores .serial)
-    && (same (s .semaphores .units) (r .semaphores .units) && (sameMarks (s .semaphores .live) (r .semaphores .live)
-    && (sameMarks (s .semaphores .fifo) (r .semaphores .fifo) && (same (s .pools .out) (r .pools .out)
-    && (same (s .pools .name) (r .pools .name) && (same (s .pools .address) (r .pools .address)
-    && (same (s .pools .length) (r .pools .length) && (same (s .pools .size) (r .pools .size)
-    && (same (s .pools .serial) (r .pools .serial) && (sameMarks (s .pools .live) (r .pools .live)
-    && (sameMarks (s .pools .forced) (r .pools .forced) && (same (s .pools .place) (r .pools .place)
-    && (same (s .queues .name) (r .queues .name) && (same (s .queues .serial) (r .queues .serial)
-    && (sameMarks (s .queues .live) (r .queues .live) && (sameMarks (s .queues .fifo) (r .queues .fifo)
-    && (same (s .queues .limits) (r .queues .limits) && (same (s .queues .held) (r .queues .held)
-    && (same (s .queues .cells) (r .queues .cells) && eqb (s .running) (r .running)))))))))))))))))))))))))))))))
+    && (same (s .tasks .name) (r .tasks .name)
+    && (same (s .tasks .serial) (r .tasks .serial)
+    && (sameMarks (s .tasks .live) (r .tasks .live)
+    && (sameMarks (s .tasks .started) (r .tasks .started)
+    && (sameMarks (s .tasks .suspended) (r .tasks .suspended)
+    && (same (s .tasks .priority) (r .tasks .priority)
+    && (same (s .semaphores .name) (r .semaphores .name)
+    && (same (s .semaphores .serial) (r .semaphores .serial)
+    && (same (s .semaphores .units) (r .semaphores .units)
+    && (sameMarks (s .semaphores .live) (r .semaphores .live)
+    && (sameMarks (s .semaphores .fifo) (r .semaphores .fifo)
+    && (same (s .pools .out) (r .pools .out)
+    && (same (s .pools .name) (r .pools .name)
+    && (same (s .pools .address) (r .pools .address)
+    && (same (s .pools .length) (r .pools .length)
+    && (same (s .pools .size) (r .pools .size)
+    && (same (s .pools .serial) (r .pools .serial)
+    && (sameMarks (s .pools .live) (r .pools .live)
+    && (sameMarks (s .pools .forced) (r .pools .forced)
+    && (same (s .pools .place) (r .pools .place)
+    && (same (s .queues .name) (r .queues .name)
+    && (same (s .queues .serial) (r .queues .serial)
+    && (sameMarks (s .queues .live) (r .queues .live)
+    && (sameMarks (s .queues .fifo) (r .queues .fifo)
+    && (same (s .queues .limits) (r .queues .limits)
+    && (same (s .queues .held) (r .queues .held)
+    && (same (s .queues .cells) (r .queues .cells)
+    && (eqb (s .running) (r .running))))))))))))))))))))))))))))))))
+
+-- )
 
 -- BAD_STATE: "four zero values, an empty wake list, and the given state back; its running task is .. 0 with BAD_STATE"
 abbrev pub isRefusal : State → Answer → Bool

@@ -48,6 +48,7 @@ fn fresh_line(priority: u8) -> Line
     l
 }
 
+// ( Printed by tools/generate/run: empty
 fn no_semaphores() -> Semaphores
     ensures { λ r. ⌜ r ≡ noSemaphores ⌝ }
 {
@@ -89,6 +90,7 @@ fn no_queues() -> Queues
         cells: [0; 8320],
     }
 }
+// )
 
 fn fresh_state(priority: u8) -> State
     requires { ⌜ priority < 16 ⌝ }

@@ -40,26 +40,60 @@ tables-pass p h =
     each-keeps tableRules (freshState p)
     (more (every-at (λ k. tasksRight (freshTasks k)) 16 tasks-pass p h) (more refl (more refl (more refl (more refl (more refl (more refl none)))))))
 
+-- ( Printed by tools/generate/run: fresh_sized
 fresh-sized : (p : ℕ) → Sized (freshState p)
 unfolding freshState
 fresh-sized p =
     record {
-      line = record { lefts = refl; seats = refl; joineds = refl; rings = refl };
-      tasks = record { names = refl; serials = refl; lives = refl; starteds = refl; suspendeds = refl; priorities = refl };
-      semaphores = record { names = refl; serials = refl; unitss = refl; lives = refl; fifos = refl };
-      pools = record {
-        outs = refl;
-        names = refl;
-        addresses = refl;
-        lengths = refl;
-        sizes = refl;
-        serials = refl;
-        lives = refl;
-        forceds = refl;
-        places = refl;
-      };
-      queues = record { names = refl; serials = refl; lives = refl; fifos = refl; limitss = refl; helds = refl; cellss = refl };
+      line =
+          record {
+            lefts = refl;
+            seats = refl;
+            joineds = refl;
+            rings = refl;
+          };
+      tasks =
+          record {
+            names = refl;
+            serials = refl;
+            lives = refl;
+            starteds = refl;
+            suspendeds = refl;
+            priorities = refl;
+          };
+      semaphores =
+          record {
+            names = refl;
+            serials = refl;
+            unitss = refl;
+            lives = refl;
+            fifos = refl;
+          };
+      pools =
+          record {
+            outs = refl;
+            names = refl;
+            addresses = refl;
+            lengths = refl;
+            sizes = refl;
+            serials = refl;
+            lives = refl;
+            forceds = refl;
+            places = refl;
+          };
+      queues =
+          record {
+            names = refl;
+            serials = refl;
+            lives = refl;
+            fifos = refl;
+            limitss = refl;
+            helds = refl;
+            cellss = refl;
+          };
     }
+
+-- )
 
 pub fresh-sound : (p : ℕ) → p ≤ 15 → Sound (freshState p)
 fresh-sound p h =

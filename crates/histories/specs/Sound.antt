@@ -23,6 +23,7 @@ use Rattle.laws.specs.Order.{Ordered}
 use Rattle.laws.specs.Seating.{In, Sorted, AllSeated}
 
 -- The arrays have the sizes that document 01's room sets: true of every state that the code can hold.
+-- ( Printed by tools/generate/run: sized
 pub record LineSized (l : Line) : Type 0 where
   pub lefts : length (l .left) ≡ 32
   pub seats : length (l .seat) ≡ 32
@@ -63,6 +64,8 @@ pub record QueuesSized (u : Queues) : Type 0 where
   pub limitss : length (u .limits) ≡ 16
   pub helds : length (u .held) ≡ 8
   pub cellss : length (u .cells) ≡ 8320
+
+-- )
 
 pub record Sized (s : State) : Type 0 where
   pub line : LineSized (s .line)

@@ -111,6 +111,7 @@ module _ (s : State) (f : Fits s) (h : sound s ≡ true) (rest : List ℕ) where
       single (s .line .rings) (f .rings) ∙ ap (λ (m : ℕ). m ∷ []) (mask-is s h) in
       rw (t .1 .1 .1 .1 .1 .1 .0, t .1 .1 .1 .1 .1 .1 .1 .0, t .1 .1 .1 .1 .1 .1 .1 .1 .0, ← rings)
 
+  -- ( Printed by tools/generate/run: back
   tasks-back : tasksFrom (imageOf s ++ rest) ≡ s .tasks
   tasks-back =
       let t = all-read .1 .0 in
@@ -155,6 +156,8 @@ module _ (s : State) (f : Fits s) (h : sound s ≡ true) (rest : List ℕ) where
         t .1 .1 .1 .1 .1 .0,
         t .1 .1 .1 .1 .1 .1 .0,
       )
+
+  -- )
 
   -- "reading returns the state"
   pub state-back : stateFrom (imageOf s ++ rest) ≡ s

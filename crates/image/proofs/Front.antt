@@ -1,4 +1,4 @@
--- A state stands in the first 9,920 bytes of an image: no column reads further, so what lies past them does not matter.
+-- A state stands in the bytes of an image: no column reads further, so what lies past them does not matter.
 -- Assumes nothing.
 use mathlib.Core.Path.{_≡_, refl, ap, _∙_}
 use mathlib.Core.List.{List, _∷_, [], _++_, map}
@@ -44,6 +44,7 @@ module _ (b : List ℕ) (m : ℕ) where
       ∙ ap (λ (xs : List ℕ). takeColumn w many S n b at ++ xs) (numbers-front w many (at + n * S) l)
 
 module _ (b : List ℕ) where
+  -- ( Printed by tools/generate/run: front
   task : (w at : ℕ) → 40 + at + 32 * 17 + 1 * w ≤ imageSize + 17 → ofTask w (take imageSize b) at ≡ ofTask w b at
   task w at = column-front b imageSize w 1 17 32 (40 + at)
 
@@ -101,3 +102,4 @@ module _ (b : List ℕ) where
         held = queue 1 1 10 (lit≤ tt) i;
         cells = queue 1 1040 11 (lit≤ tt) i;
       })
+  -- )

@@ -17,7 +17,7 @@ use Rattle.fields.proofs.Tables.{read-back}
 use Rattle.fields.proofs.Testing.{tells-both, tells-one, flags-tell, one-row}
 use Rattle.fields.proofs.Again.{read-written, number-fits, flag-fits}
 use Rattle.orders.specs.Places.{orderPlaces}
-use Rattle.image.specs.Image.{Fits, taskFields, semFields, poolFields, queueFields, headerNumbers, tables, imageOf, imageSize}
+use Rattle.image.specs.Image.{Fits, taskFields, semFields, poolFields, queueFields, headerNumbers, orderAt, tables, imageOf, imageSize}
 use Rattle.image.specs.Reading.{ofTask, lineFrom, tasksFrom, semsFrom, poolsFrom, queuesFrom, stateFrom, sameBytes}
 use Rattle.image.specs.Tests.{headerRight, flagsRight, orderRight}
 use Rattle.image.proofs.Back.{all-fine}
@@ -32,29 +32,29 @@ same-tells xs ys = (same-is xs ys, λ e. ap (λ (l : List ℕ). sameBytes l ys) 
 abbrev Kept : List ℕ → (S n at : ℕ) → Type 0
 Kept b S n at = takeColumn 1 1 S n b at ≡ map bit (map isOn (takeColumn 1 1 S n b at))
 
+kept-tells : (b : List ℕ) (S n at : ℕ) → Tells (onlyFlags (takeColumn 1 1 S n b at)) (Kept b S n at)
+kept-tells b S n at = flags-tell (takeColumn 1 1 S n b at)
+
+-- ( Printed by tools/generate/run: kept
 abbrev AllKept : List ℕ → Type 0
 AllKept b =
-    ((((((((Kept b 17 32 46 × Kept b 17 32 47) × Kept b 17 32 48) × Kept b 10 16 592) × Kept b 10 16 593) × Kept b 92 8 770) × Kept b 92 8 771)
-    × Kept b 1051 8 1486) × Kept b 1051 8 1487)
+    ((((((((Kept b 17 32 46 × Kept b 17 32 47) × Kept b 17 32 48) × Kept b 10 16 592) × Kept b 10 16 593) × Kept b 92 8 770) × Kept b 92 8 771) × Kept b 1051 8 1486) × Kept b 1051 8 1487)
 
 flags-tells : (b : List ℕ) → Tells (flagsRight b) (AllKept b)
 unfolding flagsRight
 flags-tells b =
-    tells-both _ _ (tells-both _ _ (tells-both _ _ (tells-both _ _ (tells-both _ _ (tells-both _ _ (tells-both _ _ (tells-both _ _
-    (kept 17 32 46) (kept 17 32 47)) (kept 17 32 48)) (kept 10 16 592)) (kept 10 16 593)) (kept 92 8 770)) (kept 92 8 771)) (kept 1051 8 1486))
-    (kept 1051 8 1487)
-  where
-    kept : (S n at : ℕ) → Tells (onlyFlags (takeColumn 1 1 S n b at)) (Kept b S n at)
-    kept S n at = flags-tell (takeColumn 1 1 S n b at)
+    tells-both _ _ (tells-both _ _ (tells-both _ _ (tells-both _ _ (tells-both _ _ (tells-both _ _ (tells-both _ _ (tells-both _ _ (kept-tells b 17 32 46) (kept-tells b 17 32 47)) (kept-tells b 17 32 48)) (kept-tells b 10 16 592)) (kept-tells b 10 16 593)) (kept-tells b 92 8 770)) (kept-tells b 92 8 771)) (kept-tells b 1051 8 1486)) (kept-tells b 1051 8 1487)
+
+-- )
 
 abbrev Right : List ℕ → Type 0
-Right b = (takeColumn 4 1 4 10 b 0 ≡ headerNumbers) × (AllKept b × (part 32 9888 b ≡ orderPlaces (ofTask 2 b 14)))
+Right b = (takeColumn 4 1 4 10 b 0 ≡ headerNumbers) × (AllKept b × (part 32 orderAt b ≡ orderPlaces (ofTask 2 b 14)))
 
 right-tells : (b : List ℕ) → Tells (headerRight b && (flagsRight b && orderRight b)) (Right b)
 unfolding headerRight orderRight
 right-tells b =
     tells-both (headerRight b) (flagsRight b && orderRight b) (same-tells (takeColumn 4 1 4 10 b 0) headerNumbers)
-    (tells-both (flagsRight b) (orderRight b) (flags-tells b) (same-tells (part 32 9888 b) (orderPlaces (ofTask 2 b 14))))
+    (tells-both (flagsRight b) (orderRight b) (flags-tells b) (same-tells (part 32 orderAt b) (orderPlaces (ofTask 2 b 14))))
 
 -- ---- the state read from bytes fits
 
@@ -62,6 +62,7 @@ more : {A B C : Type 0} → A × B → C → A × B × C
 more p c = (p .0, p .1, c)
 
 module _ (b : List ℕ) (q : Bytes b) where
+  -- ( Printed by tools/generate/run: fine
   tasks-fine : Fine 32 (taskFields (lineFrom b) (tasksFrom b))
   tasks-fine =
       let num = number-fits b q in
@@ -93,12 +94,15 @@ module _ (b : List ℕ) (q : Bytes b) where
       (more (flag 1051 8 1487) (more (num 1 2 1051 8 1488) (more (num 1 1 1051 8 1490)
       (more (num 1 1040 1051 8 1491) tt))))))
 
+  -- )
+
   pub from-fits : Fits (stateFrom b)
   unfolding stateFrom
   from-fits = record { columns = (tasks-fine, (sems-fine, (pools-fine, (queues-fine, tt)))); rings = refl }
 
   -- ---- the tables of that state, read from the bytes
 
+  -- ( Printed by tools/generate/run: right
   right-read : Right b → TablesRead b (tables (stateFrom b)) 0
   unfolding stateFrom
   right-read r =
@@ -110,7 +114,10 @@ module _ (b : List ℕ) (q : Bytes b) where
             (refl, (refl, (refl, (f .0 .0 .0 .0 .0 .1, (f .0 .0 .0 .0 .1, tt))))),
             (
               (refl, (refl, (refl, (refl, (refl, (refl, (f .0 .0 .0 .1, (f .0 .0 .1, (refl, tt))))))))),
-              ((refl, (refl, (f .0 .1, (f .1, (refl, (refl, (refl, tt))))))), ((one-row 32 32 b 9888 ∙ r .1 .1, tt), tt)),
+              (
+                (refl, (refl, (f .0 .1, (f .1, (refl, (refl, (refl, tt))))))),
+                ((one-row 32 32 b orderAt ∙ r .1 .1, tt), tt),
+              ),
             ),
           ),
         ),
@@ -119,13 +126,11 @@ module _ (b : List ℕ) (q : Bytes b) where
   read-right : TablesRead b (tables (stateFrom b)) 0 → Right b
   unfolding stateFrom
   read-right r =
-      let task = r .1 .0 .1 .1 in
-      let sem = r .1 .1 .0 .1 .1 .1 in
-      let pool = r .1 .1 .1 .0 .1 .1 .1 .1 .1 .1 in
-      let queue = r .1 .1 .1 .1 .0 .1 .1 in
       let flags : AllKept b =
-      ((((((((task .0, task .1 .0), task .1 .1 .0), sem .0), sem .1 .0), pool .0), pool .1 .0), queue .0), queue .1 .0) in
-      (r .0 .0, (flags, sym (one-row 32 32 b 9888) ∙ r .1 .1 .1 .1 .1 .0 .0))
+      ((((((((r .1 .0 .1 .1 .0, r .1 .0 .1 .1 .1 .0), r .1 .0 .1 .1 .1 .1 .0), r .1 .1 .0 .1 .1 .1 .0), r .1 .1 .0 .1 .1 .1 .1 .0), r .1 .1 .1 .0 .1 .1 .1 .1 .1 .1 .0), r .1 .1 .1 .0 .1 .1 .1 .1 .1 .1 .1 .0), r .1 .1 .1 .1 .0 .1 .1 .0), r .1 .1 .1 .1 .0 .1 .1 .1 .0) in
+      (r .0 .0, (flags, sym (one-row 32 32 b orderAt) ∙ r .1 .1 .1 .1 .1 .0 .0))
+
+  -- )
 
   module _ (h : length b ≡ imageSize) where
     written-tells : Tells (headerRight b && (flagsRight b && orderRight b)) (b ≡ imageOf (stateFrom b))

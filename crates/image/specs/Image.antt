@@ -30,6 +30,7 @@ abbrev pub table : ℕ → List Field → Table
 table n fs = record { count = n; fields = fs }
 
 -- The fields of a record in order, out of the columns.
+-- ( Printed by tools/generate/run: columns
 abbrev pub taskColumns : (name serial : List ℕ) → (live started suspended : List Bool) → (priority left seat joined : List ℕ) → List Field
 taskColumns name serial live started suspended priority left seat joined =
     each 4 name
@@ -92,6 +93,8 @@ poolFields p =
 abbrev pub queueFields : Queues → List Field
 queueFields u = queueColumns (u .name) (u .serial) (u .live) (u .fifo) (u .limits) (u .held) (u .cells)
 
+-- )
+
 -- "Counts are the table sizes, so an edition has one length"
 abbrev pub records : State → List Table
 records s =
@@ -120,18 +123,49 @@ headerSize = 40
 abbrev pub header : State → List ℕ
 header s = edition ∷ (headerSize + (sizeOf (records s) + sizeOf (order s))) ∷ placed headerSize (records s)
 
+-- ( Printed by tools/generate/run: numbers
 -- which is the same for every state
 abbrev pub headerNumbers : List ℕ
 headerNumbers = 1 ∷ 9920 ∷ 32 ∷ 40 ∷ 16 ∷ 584 ∷ 8 ∷ 744 ∷ 8 ∷ 1480 ∷ []
+
+abbrev pub imageSize : ℕ
+imageSize = 9920
+
+-- where the ready order stands, and the tables before it: their first places, and the bytes of a record
+abbrev pub orderAt : ℕ
+orderAt = 9888
+
+abbrev pub tasksAt : ℕ
+tasksAt = 40
+
+abbrev pub taskBytes : ℕ
+taskBytes = 17
+
+abbrev pub semaphoresAt : ℕ
+semaphoresAt = 584
+
+abbrev pub semBytes : ℕ
+semBytes = 10
+
+abbrev pub poolsAt : ℕ
+poolsAt = 744
+
+abbrev pub poolBytes : ℕ
+poolBytes = 92
+
+abbrev pub queuesAt : ℕ
+queuesAt = 1480
+
+abbrev pub queueBytes : ℕ
+queueBytes = 1051
+
+-- )
 
 abbrev pub tables : State → List Table
 tables s = table 10 (each 4 (header s) ∷ []) ∷ (records s ++ order s)
 
 unfoldable pub imageOf : State → List ℕ
 imageOf s = bytesOf (tables s)
-
-abbrev pub imageSize : ℕ
-imageSize = 9920
 
 -- what the kernel's arrays hold: columns as long as their tables, of numbers that fit
 pub record Fits (s : State) : Type 0 where

@@ -23,6 +23,7 @@ use Rattle.image.specs.Image.{imageOf, imageSize}
 abbrev pub NO-ROOM : ℕ
 NO-ROOM = 31
 
+-- ( Printed by tools/generate/run: taken
 -- What stands in the bytes: a column of each table, the first slot's at the place that docs/IMAGE.md gives.
 abbrev pub ofTask : ℕ → List ℕ → ℕ → List ℕ
 ofTask w b at = takeColumn w 1 17 32 b (40 + at)
@@ -135,6 +136,8 @@ queuesFrom b =
       held = ofQueue 1 1 b 10;
       cells = ofQueue 1 1040 b 11;
     }
+
+-- )
 
 -- the running task follows from the seats
 abbrev pub stateWith : Line → Tasks → Semaphores → Pools → Queues → State

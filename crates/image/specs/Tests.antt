@@ -7,7 +7,7 @@ use mathlib.Core.List.{List}
 use Rattle.fields.specs.Columns.{part, takeColumn}
 use Rattle.fields.specs.Tests.{onlyFlags}
 use Rattle.orders.specs.Places.{orderPlaces}
-use Rattle.image.specs.Image.{headerNumbers}
+use Rattle.image.specs.Image.{headerNumbers, orderAt}
 use Rattle.image.specs.Reading.{ofTask, ofSem, ofPool, ofQueue, sameBytes}
 
 -- ten numbers of four bytes
@@ -15,6 +15,7 @@ unfoldable pub headerRight : List ℕ → Bool
 headerRight b = sameBytes (takeColumn 4 1 4 10 b 0) headerNumbers
 
 -- "Yes is 1, no is 0, and no other byte stands for either" (docs/IMAGE.md): the tasks', the semaphores', the pools' and the queues'
+-- ( Printed by tools/generate/run: flags
 unfoldable pub flagsRight : List ℕ → Bool
 flagsRight b =
     onlyFlags (ofTask 1 b 6)
@@ -27,6 +28,8 @@ flagsRight b =
     && onlyFlags (ofQueue 1 1 b 6)
     && onlyFlags (ofQueue 1 1 b 7)
 
+-- )
+
 -- the last 32 bytes are the order that the seats say
 unfoldable pub orderRight : List ℕ → Bool
-orderRight b = sameBytes (part 32 9888 b) (orderPlaces (ofTask 2 b 14))
+orderRight b = sameBytes (part 32 orderAt b) (orderPlaces (ofTask 2 b 14))

@@ -9,6 +9,9 @@ ghost use Rattle.image.specs.Image.{each, bytes, headerNumbers, taskColu
 ghost use Rattle.image.specs.Reading.{TasksTaken, SemaphoresTaken, PoolsTaken, QueuesTaken, sameBytes};
 ghost use Rattle.image.specs.Tests.{headerRight, flagsRight};
 
+// The bytes of an image.
+pub const SIZE: usize = 9920;
+
 // Edition, length, then count and place of each table.
 const HEADER: [u32; 10] = [1, 9920, 32, 40, 16, 584, 8, 744, 8, 1480];
 

@@ -8,12 +8,13 @@ use scope::Tasks;
 ghost use mathlib.Core.Path.{_≡_};
 ghost use lib.ListN.{length};
 ghost use Rattle.fields.specs.Fields.{putFields};
-ghost use Rattle.image.specs.Image.{taskFields, semFields, poolFields, queueFields, imageOf};
+ghost use Rattle.image.specs.Image.{taskFields, semFields, poolFields, queueFields, imageOf, imageSize, taskBytes, semBytes, poolBytes, queueBytes, tasksAt, semaphoresAt, poolsAt, queuesAt};
 ghost use Rattle.image.specs.Reading.{stateFrom, sameBytes};
 
 // Each table's columns, out of the table.
-fn put_tasks(image: &mut [u8; 9920], l: Line, k: Tasks)
-    ensures { λ _. ⌜ now (image .exit) ≡ putFields 17 32 (taskFields l k) 40 (now (image .entry)) ⌝ }
+// ( Printed by tools/generate/run: puts
+fn put_tasks(image: &mut [u8; image::SIZE], l: Line, k: Tasks)
+    ensures { λ _. ⌜ now (image .exit) ≡ putFields taskBytes 32 (taskFields l k) tasksAt (now (image .entry)) ⌝ }
 {
     let name = k.name;
     let serial = k.serial;
@@ -38,8 +39,8 @@ fn put_tasks(image: &mut [u8; 9920], l: Line, k: Tasks)
     );
 }
 
-fn put_semaphores(image: &mut [u8; 9920], m: Semaphores)
-    ensures { λ _. ⌜ now (image .exit) ≡ putFields 10 16 (semFields m) 584 (now (image .entry)) ⌝ }
+fn put_semaphores(image: &mut [u8; image::SIZE], m: Semaphores)
+    ensures { λ _. ⌜ now (image .exit) ≡ putFields semBytes 16 (semFields m) semaphoresAt (now (image .entry)) ⌝ }
 {
     let name = m.name;
     let serial = m.serial;
@@ -49,8 +50,8 @@ fn put_semaphores(image: &mut [u8; 9920], m: Semaphores)
     image::put_semaphores(image, &name, &serial, &units, &live, &fifo);
 }
 
-fn put_pools(image: &mut [u8; 9920], p: Pools)
-    ensures { λ _. ⌜ now (image .exit) ≡ putFields 92 8 (poolFields p) 744 (now (image .entry)) ⌝ }
+fn put_pools(image: &mut [u8; image::SIZE], p: Pools)
+    ensures { λ _. ⌜ now (image .exit) ≡ putFields poolBytes 8 (poolFields p) poolsAt (now (image .entry)) ⌝ }
 {
     let out = p.out;
     let name = p.name;
@@ -75,8 +76,8 @@ fn put_pools(image: &mut [u8; 9920], p: Pools)
     );
 }
 
-fn put_queues(image: &mut [u8; 9920], u: Queues)
-    ensures { λ _. ⌜ now (image .exit) ≡ putFields 1051 8 (queueFields u) 1480 (now (image .entry)) ⌝ }
+fn put_queues(image: &mut [u8; image::SIZE], u: Queues)
+    ensures { λ _. ⌜ now (image .exit) ≡ putFields queueBytes 8 (queueFields u) queuesAt (now (image .entry)) ⌝ }
 {
     let name = u.name;
     let serial = u.serial;
@@ -87,8 +88,9 @@ fn put_queues(image: &mut [u8; 9920], u: Queues)
     let cells = u.cells;
     image::put_queues(image, &name, &serial, &live, &fifo, &limits, &held, &cells);
 }
+// )
 
-pub fn image_of(s: State) -> [u8; 9920]
+pub fn image_of(s: State) -> [u8; image::SIZE]
     ensures { λ r. ⌜ r ≡ imageOf s ⌝ }
 {
     let l = s.line;
@@ -98,7 +100,7 @@ pub fn image_of(s: State) -> [u8; 9920]
     let u = s.queues;
     let seat = l.seat;
     let places = orders::ready_places(&seat);
-    let mut image = [0u8; 9920];
+    let mut image = [0u8; image::SIZE];
     image::put_header(&mut image);
     put_tasks(&mut image, l, k);
     put_semaphores(&mut image, m);
@@ -111,7 +113,7 @@ pub fn image_of(s: State) -> [u8; 9920]
 // Whether the bytes are those that the state in them writes. No second image is made: header, flags and ready order are looked at, and every
 // other byte is part of a number that comes back as it was. (image's specs/Tests.antt.)
 fn written(image: &[u8]) -> bool
-    requires { ⌜ length (now image) ≡ 9920 ⌝ }
+    requires { ⌜ length (now image) ≡ imageSize ⌝ }
     ensures { λ r. ⌜ r ≡ sameBytes (now (image .entry)) (imageOf (stateFrom (now (image .entry)))) ⌝ }
 {
     let mut seat = [0u16; 32];
@@ -120,7 +122,7 @@ fn written(image: &[u8]) -> bool
     image::header_right(image) & (image::flags_right(image) & image::order_is(image, &places))
 }
 
-pub fn is_written(image: &[u8; 9920]) -> bool
+pub fn is_written(image: &[u8; image::SIZE]) -> bool
     ensures { λ r. ⌜ r ≡ sameBytes (now (image .entry)) (imageOf (stateFrom (now (image .entry)))) ⌝ }
 {
     written(image)

@@ -44,6 +44,7 @@ module _ (p : ℕ) (h : p ≤ 15) where
   fine-tasks : Fine 32 (taskFields (freshLine p) (freshTasks p))
   fine-tasks = (length-replicate {A = ℕ} 32 0, (λ (k : ℕ). zeros-fit 32 k (lit< tt)), (ap suc (length-replicate {A = ℕ} 31 0), first-fits 1 31 (lit< tt) (lit< tt), (length-map (true ∷ replicate 31 false) bit, bits-fit (true ∷ replicate 31 false), (length-map (true ∷ replicate 31 false) bit, bits-fit (true ∷ replicate 31 false), (length-map (replicate 32 false) bit, bits-fit (replicate 32 false), (ap suc (length-replicate {A = ℕ} 31 0), first-fits p 31 small (lit< tt), (length-replicate {A = ℕ} 32 0, (λ (k : ℕ). zeros-fit 32 k (lit< tt)), (ap suc (length-replicate {A = ℕ} 31 0), first-fits (ringSeats p + 1) 31 seated (lit< tt), (length-replicate {A = ℕ} 32 0, (λ (k : ℕ). zeros-fit 32 k (lit< tt)), tt)))))))))
 
+  -- ( Printed by tools/generate/run: fine_fresh
   fine-sems : Fine 16 (semFields noSemaphores)
   fine-sems = (length-replicate {A = ℕ} 16 0, (λ (k : ℕ). zeros-fit 16 k (lit< tt)), (length-replicate {A = ℕ} 16 0, (λ (k : ℕ). zeros-fit 16 k (lit< tt)), (length-replicate {A = ℕ} 16 0, (λ (k : ℕ). zeros-fit 16 k (lit< tt)), (length-map (replicate 16 false) bit, bits-fit (replicate 16 false), (length-map (replicate 16 false) bit, bits-fit (replicate 16 false), tt)))))
 
@@ -52,6 +53,8 @@ module _ (p : ℕ) (h : p ≤ 15) where
 
   fine-queues : Fine 8 (queueFields noQueues)
   fine-queues = (length-replicate {A = ℕ} 8 0, (λ (k : ℕ). zeros-fit 8 k (lit< tt)), (length-replicate {A = ℕ} 8 0, (λ (k : ℕ). zeros-fit 8 k (lit< tt)), (length-map (replicate 8 false) bit, bits-fit (replicate 8 false), (length-map (replicate 8 false) bit, bits-fit (replicate 8 false), (length-replicate {A = ℕ} 16 0, (λ (k : ℕ). zeros-fit 16 k (lit< tt)), (length-replicate {A = ℕ} 8 0, (λ (k : ℕ). zeros-fit 8 k (lit< tt)), (length-replicate {A = ℕ} 8320 0, (λ (k : ℕ). zeros-fit 8320 k (lit< tt)), tt)))))))
+
+  -- )
 
   pub fresh-fits : Fits (freshState p)
   unfolding freshState

@@ -42,11 +42,18 @@ column-length w many S (suc n) b at =
 flags-length : (w S n : ℕ) (b : List ℕ) (at : ℕ) → length (map isOn (takeColumn w 1 S n b at)) ≡ n * 1
 flags-length w S n b at = length-map (takeColumn w 1 S n b at) isOn ∙ column-length w 1 S n b at
 
+-- ( Printed by tools/generate/run: sized_from
 sized-from : (b : List ℕ) → Sized (stateFrom b)
 unfolding stateFrom
 sized-from b =
     record {
-      line = record { lefts = column-length 4 1 17 32 b 50; seats = column-length 2 1 17 32 b 54; joineds = column-length 1 1 17 32 b 56; rings = refl };
+      line =
+          record {
+            lefts = column-length 4 1 17 32 b 50;
+            seats = column-length 2 1 17 32 b 54;
+            joineds = column-length 1 1 17 32 b 56;
+            rings = refl;
+          };
       tasks =
           record {
             names = column-length 4 1 17 32 b 40;
@@ -87,6 +94,8 @@ sized-from b =
             cellss = column-length 1 1040 1051 8 b 1491;
           };
     }
+
+-- )
 
 -- ---- after a step
 

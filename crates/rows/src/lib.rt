@@ -6,7 +6,9 @@ ghost use Prim.Native.Nat.{_<_};
 ghost use Rattle.scope.specs.Calls.{knownCalls, callAt, mayCall};
 ghost use Rattle.rows.specs.Rows.{setAt, mayGive};
 
+// ( Printed by tools/generate/run: known
 pub const CALLS: usize = 27;
+// )
 
 // Bit 0 the running task, bit 1 an interrupt.
 const TASK: u8 = 1;
@@ -16,6 +18,7 @@ const INTERRUPT: u8 = 2;
 const EITHER: u8 = 3;
 
 const WHO: [u8; CALLS] = [
+    // ( Printed by tools/generate/run: who
     INTERRUPT, // 0 tick
     TASK, // 1 task_create
     TASK, // 2 task_delete
@@ -43,10 +46,12 @@ const WHO: [u8; CALLS] = [
     EITHER, // 24 queue_jump
     TASK, // 25 queue_receive
     TASK, // 26 queue_info
+    // )
 ];
 
 // Bit s for status s.
 const MAY: [u64; CALLS] = [
+    // ( Printed by tools/generate/run: may
     0x6000001, // 0 tick
     0x7080085, // 1 task_create
     0x7000035, // 2 task_delete
@@ -74,6 +79,7 @@ const MAY: [u64; CALLS] = [
     0x1f000031, // 24 queue_jump
     0x2700007f, // 25 queue_receive
     0x7000035, // 26 queue_info
+    // )
 ];
 
 // Who may make a call.

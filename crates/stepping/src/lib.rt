@@ -15,7 +15,7 @@ const NO_ROOM: u32 = 31;
 // The step through an image that has its own bytes. They are left as the step leaves them where they are an image, and as anything else
 // where they are none.
 fn step_own(
-    image: &mut [u8; 9920],
+    image: &mut [u8; image::SIZE],
     message: &[u8],
     answer: &mut [u8; 236],
     call: u32,
@@ -55,21 +55,21 @@ fn step_own(
 }
 
 // The first bytes of a slice, as many as an image has.
-fn front(image: &[u8]) -> [u8; 9920]
+fn front(image: &[u8]) -> [u8; image::SIZE]
     requires { ⌜ imageSize ≤ length (now image) ⌝ }
     ensures { λ r. ⌜ r ≡ take imageSize (now (image .entry)) ⌝ }
 {
-    let mut own = [0u8; 9920];
-    columns::copy(&mut own, 0, image, 0, 9920);
+    let mut own = [0u8; image::SIZE];
+    columns::copy(&mut own, 0, image, 0, image::SIZE);
     own
 }
 
 // And back.
-fn put_front(image: &mut [u8], own: &[u8; 9920])
+fn put_front(image: &mut [u8], own: &[u8; image::SIZE])
     requires { ⌜ imageSize ≤ length (now image) ⌝ }
     ensures { λ _. ⌜ now (image .exit) ≡ sets (now (image .entry)) 0 (part imageSize 0 (now (own .entry))) ⌝ }
 {
-    columns::copy(image, 0, own, 0, 9920);
+    columns::copy(image, 0, own, 0, image::SIZE);
 }
 
 // The step of the state that stands in the image, in place; the answer is written beside it, and its status answered. 32 where the bytes
@@ -89,7 +89,7 @@ pub fn step(
     ensures { λ r. ⌜ (record { image = now (image .exit); answer = now (answer .exit); status = r })
         ≡ stepsOn (now (image .entry)) call mark a b c d e (now (message .entry)) ⌝ }
 {
-    if image.len() < 9920 {
+    if image.len() < image::SIZE {
         return replies::refuse(answer);
     }
     let mut own = front(image);
@@ -111,17 +111,17 @@ fn fresh_status(priority: u32) -> u32
     scope::OK
 }
 
-fn blank() -> [u8; 9920]
+fn blank() -> [u8; image::SIZE]
     ensures { λ r. ⌜ length r ≡ imageSize ⌝ }
 {
-    [0; 9920]
+    [0; image::SIZE]
 }
 
 // The image of the fresh state, at the start of the slice; the status is answered, "31 before 19".
 pub fn fresh(priority: u32, image: &mut [u8]) -> u32
     ensures { λ r. ⌜ (record { bytes = now (image .exit); status = r }) ≡ freshes priority (now (image .entry)) ⌝ }
 {
-    if image.len() < 9920 {
+    if image.len() < image::SIZE {
         return NO_ROOM;
     }
     let mut own = blank();
@@ -137,7 +137,7 @@ pub fn write(s: State, out: &mut [u8]) -> u32
     let mut own = blank();
     let good = imaging::image_of(s, &mut own);
     if good {
-        if out.len() < 9920 {
+        if out.len() < image::SIZE {
             return NO_ROOM;
         }
         put_front(out, &own);

@@ -2,6 +2,7 @@
 -- Assumes nothing.
 use Prim.Native.Nat.{ℕ}
 use lib.ListN.{length-replicate}
+use Rattle.image.specs.Image.{imageSize}
 use Rattle.images.proofs.Laws.{made}
 use borrow.Author.Needs.{needs}
 use Rattle.images.proofs.image_of.Statement.{statement}
@@ -30,7 +31,7 @@ put-order-requires c κs = search needs
 
 returns : tie.Need-returns
 returns c =
-    made (c .before .before .before .before .before .before .before .before .before .before .before .before .before .before .before .before .before .before .before .before .before .args .s) _ _ _ _ _ _ _ _ (length-replicate {A = ℕ} 9920 0) (c .before .before .before .before .before .before .before .before .before .before .before .before .before .ready-places .ensures)
+    made (c .before .before .before .before .before .before .before .before .before .before .before .before .before .before .before .before .before .before .before .before .before .args .s) _ _ _ _ _ _ _ _ (length-replicate {A = ℕ} imageSize 0) (c .before .before .before .before .before .before .before .before .before .before .before .before .before .ready-places .ensures)
     (c .before .before .before .before .before .before .before .before .before .before .before .put-header .ensures) (c .before .before .before .before .before .before .before .before .before .put-tasks .ensures) (c .before .before .before .before .before .before .before .put-semaphores .ensures) (c .before .before .before .before .before .put-pools .ensures) (c .before .before .before .put-queues .ensures)
     (c .put-order .ensures)
 
