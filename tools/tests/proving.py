@@ -24,6 +24,7 @@ if [ "$one" -gt 1 ]; then
     exit 0
 fi
 echo "begin $name" >> "$NOTES"
+cat crates.txt >> "$NOTES.lines"
 sleep 0.1
 [ ! -e "crates/$name/broken" ] || { echo "rt: $name NOT PROVED (exit 1, 0 s)"; exit 1; }
 mkdir -p target/stamp
@@ -76,6 +77,10 @@ def test_order(bench):
                 (status, notes),
                 (0, ["begin below", "end below", "begin right", "end right",
                      "begin left", "end left", "last top", ""]))
+    with open(os.path.join(root, "notes.lines")) as file:
+        bench.equal("tools/prove: a crate's line is as it stands, for rt "
+                    "knows a proof by it", file.read(),
+                    "below:\nright: below\nleft: below\n")
     bench.equal("tools/prove: each crate is told once", said,
                 "rt: below proved (1 s)\nrt: right proved (1 s)\n"
                 "rt: left proved (1 s)\nrt: top proved (2 s)\n"
