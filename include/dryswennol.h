@@ -52,7 +52,7 @@ typedef struct dryswennol_answer {
 /*
  * A fresh state: one task, 64, started, of this priority.
  *
- * Gives 31 where image_len is less than an image has, and writes nothing. Else its image is written to as many bytes, and those behind
+ * Gives 31 where image_len is less than DRYSWENNOL_IMAGE_BYTES, and writes nothing. Else its image is written to so many bytes, and those behind
  * are as they were. Then it gives 0; or 19 where the priority is above 15, and the image is that of priority 0.
  */
 uint32_t dryswennol_fresh(uint32_t priority, uint8_t *image, size_t image_len);
@@ -62,7 +62,7 @@ uint32_t dryswennol_fresh(uint32_t priority, uint8_t *image, size_t image_len);
  * interrupt. Send and jump take as many bytes of `message` as their length says, and answer 27 where fewer are lent; no other call
  * looks at it. Gives the status, and in `answer` all of the answer, whose every byte is set.
  *
- * Gives 32 where the first bytes, as many as an image has, are not the image of a state that keeps the rules, or where there are fewer: the answer is
+ * Gives 32 where the first DRYSWENNOL_IMAGE_BYTES are not the image of a state that keeps the rules, or where there are fewer: the answer is
  * that status and zeros. A refused step, this one too, leaves every byte of the image. After any other it is the image of the
  * state after the call. Bytes behind the image are as they were.
  */

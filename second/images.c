@@ -353,6 +353,13 @@ struct number {
     uint64_t is;
 };
 
+/* The page's places, written here once more: what image.h adds up must be these. */
+_Static_assert(TASKS_AT == 40 && TASK_LENGTH == 17, "tasks");
+_Static_assert(SEMAPHORES_AT == 584 && SEMAPHORE_LENGTH == 10, "semaphores");
+_Static_assert(POOLS_AT == 744 && POOL_LENGTH == 92, "pools");
+_Static_assert(QUEUES_AT == 1480 && QUEUE_LENGTH == 1051, "queues");
+_Static_assert(READY_AT == 9888 && IMAGE_BYTES == 9920, "ready order, length");
+
 /* The places of pool i, of queue i and of the ready order. */
 #define P(i, place) (POOLS_AT + (i) * POOL_LENGTH + (place))
 #define Q(i, place) (QUEUES_AT + (i) * QUEUE_LENGTH + (place))

@@ -344,7 +344,7 @@ def field_rows(kind):
 
 
 def page_parts():
-    o, at = '| Part | From | Records | Bytes of a record | Bytes |\n|---|---|---|---|---|\n', 0
+    o, at = f'An image of edition 1 is {SIZE:,} bytes long.\n\n| Part | From | Records | Bytes of a record | Bytes |\n|---|---|---|---|---|\n', 0
     for kind, n in KINDS:
         _, last, w, many, _ = field_rows(kind)[-1]
         S = last + w * many

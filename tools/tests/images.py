@@ -109,6 +109,10 @@ def test_page_parts(bench):
     bench.equal("parts in docs/IMAGE.md", [
         [int(cell.replace(",", "")) for cell in row[1:]] for row in rows],
         parts)
+    bench.equal("the image's length", image.LENGTH, 9920)
+    bench.holds("its length in docs/IMAGE.md",
+                read(ROOT, "docs", "IMAGE.md").decode(),
+                "is {:,} bytes long".format(image.LENGTH))
 
 
 def test_no_gaps(bench):

@@ -1,5 +1,6 @@
 // The kernel for C, on numbers and bytes: a fresh image, and a step that changes an image in place and gives its answer as bytes.
 // (specs/Steps.antt and specs/Answers.antt of `replies`.)
+use answers::Outcome;
 use scope::State;
 ghost use mathlib.Core.Path.{_≡_};
 ghost use Prim.Native.Nat.{_≤_};
@@ -8,9 +9,31 @@ ghost use lib.Seq.{sets};
 ghost use Rattle.scope.specs.Fresh.{fresh};
 ghost use Rattle.fields.specs.Columns.{part};
 ghost use Rattle.image.specs.Image.{imageSize};
+ghost use Rattle.replies.specs.Answers.{numbersBy};
 ghost use Rattle.replies.specs.Steps.{StepsTo, stepsOn, freshes, writes};
 
 const NO_ROOM: u32 = 31;
+
+// The numbers of an answer, in their order.
+fn numbers_of(o: Outcome, running: u32) -> [u32; 11]
+    requires { ⌜ o .woken ≤ 32 ⌝ }
+    ensures { λ r. ⌜ r ≡ numbersBy o running ⌝ }
+{
+    let v = o.values;
+    [
+        o.status,
+        v[0],
+        v[1],
+        v[2],
+        v[3],
+        answers::bit(o.negative),
+        running,
+        o.woken as u32,
+        o.why,
+        answers::bit(o.delivers),
+        o.length,
+    ]
+}
 
 // The step through an image that has its own bytes. They are left as the step leaves them where they are an image, and as anything else
 // where they are none.
@@ -47,7 +70,7 @@ fn step_own(
     );
     if t.good & written {
         let o = t.outcome;
-        let numbers = replies::numbers_of(o, t.running);
+        let numbers = numbers_of(o, t.running);
         replies::put_answer(answer, &numbers, &wakes, &shown);
         return o.status;
     }

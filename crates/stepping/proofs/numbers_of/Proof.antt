@@ -1,8 +1,8 @@
--- `replies::numbers_of`: each number is the outcome's.
+-- `stepping::numbers_of`: each number is the outcome's.
 -- Assumes nothing.
 use borrow.Author.Needs.{needs}
-use Rattle.replies.proofs.numbers_of.Statement.{statement}
-use Rattle.replies.proofs.numbers_of.Tie as tie
+use Rattle.stepping.proofs.numbers_of.Statement.{statement}
+use Rattle.stepping.proofs.numbers_of.Tie as tie
 
 array-read-t6 : tie.Need-array-read-t6
 array-read-t6 c = search needs
