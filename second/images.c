@@ -1,8 +1,8 @@
 /*
  * Images of states: images SCRIPT.. plays scripts and writes and reads each
- * state on the way, and plays them step by step as C is to. One image by hand, number for number. Images cut, with a
- * byte changed, with several, and bytes at random: 32, or the state read
- * writes those very bytes.
+ * state on the way, and plays them step by step as C is to. One image by hand,
+ * number for number. Images cut, with a byte changed, with several, and bytes
+ * at random: 32, or the state read writes those very bytes.
  */
 #include <stdio.h>
 #include <stdlib.h>
@@ -332,9 +332,9 @@ static bool is_met(const uint8_t *bytes, const char *where)
 
 /* By the running task: 65 and 66 wait for semaphore 64, 67 receives and is
  * suspended, with another priority than it joined with, 68 is not started, 133
- * and 70 are ready behind 64, and slot 7 had a task. Buffer 1 of pool 64 is out, and
- * buffer 2 has been free longer than buffer 0. Queue 64 holds a message of 0
- * bytes, which jumped in front of one of 3. */
+ * and 70 are ready behind 64, and slot 7 had a task. Buffer 1 of pool 64 is
+ * out, and buffer 2 has been free longer than buffer 0. Queue 64 holds a
+ * message of 0 bytes, which jumped in front of one of 3. */
 static const uint32_t history[][6] = {
     { 8, 0x0a0b0c0d, 0, 1 }, { 8, 2, 32767, 0 },
     { 1, 17, 9 }, { 4, 65 }, { 11, 64, 0, 3 },
@@ -353,12 +353,11 @@ struct number {
     uint64_t is;
 };
 
-/* The page's places, written here once more: what image.h adds up must be these. */
-_Static_assert(TASKS_AT == 40 && TASK_LENGTH == 17, "tasks");
-_Static_assert(SEMAPHORES_AT == 584 && SEMAPHORE_LENGTH == 10, "semaphores");
-_Static_assert(POOLS_AT == 744 && POOL_LENGTH == 92, "pools");
-_Static_assert(QUEUES_AT == 1480 && QUEUE_LENGTH == 1051, "queues");
-_Static_assert(READY_AT == 9888 && IMAGE_BYTES == 9920, "ready order, length");
+/* The page's places, written here once more: what image.h adds up, from the
+ * lengths of the records that it has from the page, must be these. */
+_Static_assert(TASKS_AT == 40 && SEMAPHORES_AT == 584 && POOLS_AT == 744
+               && QUEUES_AT == 1480 && READY_AT == 9888 && IMAGE_BYTES == 9920,
+               "docs/IMAGE.md, the parts of an image");
 
 /* The places of pool i, of queue i and of the ready order. */
 #define P(i, place) (POOLS_AT + (i) * POOL_LENGTH + (place))
@@ -367,7 +366,8 @@ _Static_assert(READY_AT == 9888 && IMAGE_BYTES == 9920, "ready order, length");
 
 /* Its image, by the page's places: all that is not zero. */
 static const struct number page[] = {
-    { 0, 4, 1 }, { 4, 4, IMAGE_BYTES }, { 8, 4, 32 }, { 12, 4, 40 }, { 16, 4, 16 },
+    { 0, 4, 1 }, { 4, 4, IMAGE_BYTES }, { 8, 4, 32 }, { 12, 4, 40 },
+    { 16, 4, 16 },
     { 20, 4, 584 }, { 24, 4, 8 }, { 28, 4, POOLS_AT }, { 32, 4, 8 },
     { 36, 4, QUEUES_AT },
     { 44, 2, 1 }, { 46, 1, 1 }, { 47, 1, 1 }, { 49, 1, 5 }, { 54, 2, 2369 },
@@ -385,11 +385,14 @@ static const struct number page[] = {
     { 163, 2, 1 },
     { 584, 4, 0x0a0b0c0d }, { 588, 2, 1 }, { 592, 1, 1 }, { 593, 1, 1 },
     { 594, 4, 2 }, { 598, 2, 1 }, { 600, 2, 32767 }, { 602, 1, 1 },
-    { P(0, 0), 8, 2 }, { P(0, 8), 4, 5 }, { P(0, 12), 4, 4096 }, { P(0, 16), 4, 100 },
-    { P(0, 20), 4, 32 }, { P(0, 24), 2, 1 }, { P(0, 26), 1, 1 }, { P(0, 27), 1, 1 },
+    { P(0, 0), 8, 2 }, { P(0, 8), 4, 5 }, { P(0, 12), 4, 4096 },
+    { P(0, 16), 4, 100 },
+    { P(0, 20), 4, 32 }, { P(0, 24), 2, 1 }, { P(0, 26), 1, 1 },
+    { P(0, 27), 1, 1 },
     { P(0, 28), 1, 2 }, { P(0, 30), 1, 1 },
     { Q(0, 0), 4, 3 }, { Q(0, 4), 2, 1 }, { Q(0, 6), 1, 1 }, { Q(0, 8), 1, 2 },
-    { Q(0, 9), 1, 64 }, { Q(0, 10), 1, 2 }, { Q(0, 76), 1, 3 }, { Q(0, 77), 3, 0x030201 },
+    { Q(0, 9), 1, 64 }, { Q(0, 10), 1, 2 }, { Q(0, 76), 1, 3 },
+    { Q(0, 77), 3, 0x030201 },
     { Q(1, 0), 4, 4 }, { Q(1, 4), 2, 1 }, { Q(1, 6), 1, 1 }, { Q(1, 7), 1, 1 },
     { Q(1, 8), 1, 16 }, { Q(1, 9), 1, 1 },
     { R(0), 1, 1 }, { R(1), 1, 6 }, { R(2), 1, 7 },
@@ -415,16 +418,17 @@ static const struct change images[] = {
     { { { P(0, 28), 1, 1 }, { P(0, 30), 1, 2 } } },      /* other free first */
     { { { P(0, 0), 8, 3 }, { P(0, 28), 1, 0 } } },               /* two out */
     { { { P(0, 16), 4, 127 } } },                            /* a longer tail */
-    { { { P(0, 16), 4, 128 }, { P(0, 31), 1, 3 } } },             /* four buffers */
+    { { { P(0, 16), 4, 128 }, { P(0, 31), 1, 3 } } }, /* four buffers */
     { { { P(0, 27), 1, 0 } } },
     { { { Q(0, 8), 1, 16 } } }, { { { Q(0, 9), 1, 3 } } },
-    { { { Q(0, 77), 3, 0 } } }, { { { Q(0, 76), 1, 64 } } },    /* its zeros too */
+    { { { Q(0, 77), 3, 0 } } }, { { { Q(0, 76), 1, 64 } } }, /* its zeros too */
     { { { Q(1, 7), 1, 0 } } },
     { { { 105, 2, 0 }, { 101, 4, 0 }, { 107, 1, 0 } } },   /* waits no more */
 };
 
 static const struct change refused[] = {
-    { { { 0, 4, 2 } } }, { { { 4, 4, IMAGE_BYTES + 1 } } }, { { { 36, 4, QUEUES_AT + 1 } } },
+    { { { 0, 4, 2 } } }, { { { 4, 4, IMAGE_BYTES + 1 } } },
+    { { { 36, 4, QUEUES_AT + 1 } } },
     { { { 46, 1, 2 } } }, { { { 47, 1, 2 } } }, { { { 99, 1, 2 } } },
     { { { 44, 2, 0 } } },                          /* a live serial of 0 */
     { { { 117, 1, 16 } } }, { { { 73, 1, 16 } } },
@@ -448,19 +452,26 @@ static const struct change refused[] = {
     { { { 590, 2, 1 } } }, { { { 600, 2, 32768 } } }, { { { 602, 1, 0 } } },
     { { { 593, 1, 2 } } },
     { { { 593, 1, 0 }, { 71, 2, 66 }, { 88, 2, 65 } } },    /* rises */
-    { { { P(0, 0), 8, 10 } } }, { { { P(0, 0), 8, 3 } } }, { { { P(0, 0), 8, 0 } } },
-    { { { P(0, 28), 1, 3 } } }, { { { P(0, 30), 1, 2 } } }, { { { P(0, 29), 1, 3 } } },
+    { { { P(0, 0), 8, 10 } } }, { { { P(0, 0), 8, 3 } } },
+    { { { P(0, 0), 8, 0 } } },
+    { { { P(0, 28), 1, 3 } } }, { { { P(0, 30), 1, 2 } } },
+    { { { P(0, 29), 1, 3 } } },
     { { { P(0, 31), 1, 3 } } }, { { { P(0, 91), 1, 65 } } },
     { { { P(0, 0), 8, UINT64_C(1) << 63 | 2 } } },
-    { { { P(0, 16), 4, 0 } } }, { { { P(0, 20), 4, 0 } } }, { { { P(0, 16), 4, 128 } } },
+    { { { P(0, 16), 4, 0 } } }, { { { P(0, 20), 4, 0 } } },
+    { { { P(0, 16), 4, 128 } } },
     { { { P(0, 12), 4, UINT32_MAX } } }, { { { P(0, 27), 1, 2 } } },
-    { { { P(1, 26), 1, 1 }, { P(1, 12), 4, 4195 }, { P(1, 16), 4, 1 }, { P(1, 20), 4, 1 } } },
+    { { { P(1, 26), 1, 1 }, { P(1, 12), 4, 4195 }, { P(1, 16), 4, 1 },
+        { P(1, 20), 4, 1 } } },
     { { { Q(0, 6), 1, 0 } } }, { { { Q(0, 7), 1, 2 } } },
-    { { { Q(0, 8), 1, 1 } } }, { { { Q(0, 8), 1, 17 } } }, { { { Q(0, 8), 1, 0 } } },
+    { { { Q(0, 8), 1, 1 } } }, { { { Q(0, 8), 1, 17 } } },
+    { { { Q(0, 8), 1, 0 } } },
     { { { Q(0, 9), 1, 2 } } }, { { { Q(0, 9), 1, 65 } } },
     { { { Q(0, 10), 1, 1 } } }, { { { Q(0, 10), 1, 255 } } },
-    { { { Q(0, 76), 1, 2 } } }, { { { Q(0, 76), 1, 65 } } }, { { { Q(0, 80), 1, 1 } } },
-    { { { Q(0, 12), 1, 1 } } }, { { { Q(0, 141), 1, 1 } } }, { { { Q(0, 1050), 1, 1 } } },
+    { { { Q(0, 76), 1, 2 } } }, { { { Q(0, 76), 1, 65 } } },
+    { { { Q(0, 80), 1, 1 } } },
+    { { { Q(0, 12), 1, 1 } } }, { { { Q(0, 141), 1, 1 } } },
+    { { { Q(0, 1050), 1, 1 } } },
     { { { Q(1, 10), 1, 1 } } },                /* a message beside a waiter */
     { { { Q(7, 1050), 1, 1 } } },
 };

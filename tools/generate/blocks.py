@@ -401,7 +401,30 @@ def marked(m):
     return f'{m[1]} ( Printed by tools/generate/run: {m[2]}{end}\n{BLOCKS[m[2]]()}{blank}{m[1]} ){end}\n'
 
 
-# ---- whole files: images/proofs/Taken.antt, writing/specs/Written.antt
+# ---- whole files: histories/proofs/Lengths.antt, images/proofs/Taken.antt, writing/specs/Written.antt
+def lengths():
+    o = '''-- A table whose columns are as long as those of another is sized as that one is: said once for all its columns, so that a call which sets
+-- some of them shows only that setting leaves a length. Printed by tools/generate/run.
+-- Assumes nothing.
+use Prim.Native.Nat.{ℕ}
+use mathlib.Core.Path.{_≡_, ap, _∙_}
+use mathlib.Core.List.{List, [], _∷_}
+use lib.ListN.{length, getD}
+use Rattle.scope.specs.declared.Tasks.{Tasks}
+use Rattle.scope.specs.declared.Semaphores.{Semaphores}
+use Rattle.scope.specs.declared.Pools.{Pools}
+use Rattle.scope.specs.declared.Queues.{Queues}
+use Rattle.histories.specs.Sound.{TasksSized, SemsSized, PoolsSized, QueuesSized}
+'''
+    for g, S, f, n, cs in TABLES[1:]:
+        v, many = VAR[g], FROM[g]
+        o += (f'\nabbrev pub {many}Lengths : {S} → List ℕ\n{many}Lengths {v} =\n    ' + ''.join(f'length ({v} .{c})\n    ∷ ' for c, _ in cs) + '[]\n'
+              + f'\npub {many}-as-long : ({v} w : {S}) → {many}Lengths w ≡ {many}Lengths {v} → {many.capitalize()}Sized {v} → {many.capitalize()}Sized w\n'
+              + f'{many}-as-long {v} w same sized =\n    record {{\n'
+              + ''.join(f'      {plural(c)} = ap (λ (all : List ℕ). getD all {k} 0) same ∙ sized .{plural(c)};\n' for k, (c, _) in enumerate(cs)) + '    }\n')
+    return o
+
+
 def taken_laws():
     o = '''-- The tables made of the columns taken are those that stand in the bytes. Printed by tools/generate/run.
 -- Assumes nothing.
@@ -456,4 +479,4 @@ use Rattle.image.specs.Image.{taskBytes, semBytes, poolBytes, queueBytes, tasks
 
 def files():
     made = {path: MARKED.sub(marked, open(os.path.join(ROOT, path), encoding='utf-8').read()) for path in FILES}
-    return made | {'crates/images/proofs/Taken.antt': taken_laws(), 'crates/writing/specs/Written.antt': written()}
+    return made | {'crates/histories/proofs/Lengths.antt': lengths(), 'crates/images/proofs/Taken.antt': taken_laws(), 'crates/writing/specs/Written.antt': written()}

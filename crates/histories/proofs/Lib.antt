@@ -4,6 +4,7 @@ pub mod Parts
 pub mod Objects
 pub mod Moves
 pub mod Waking
+mod Lengths
 pub mod Semaphores
 pub mod Ticks
 pub mod Tasks

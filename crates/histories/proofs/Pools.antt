@@ -35,6 +35,7 @@ use Rattle.laws.proofs.Areas.Bytes.{share-swap, apart-at, apart-all}
 use Rattle.laws.specs.Order.{Ordered}
 use Rattle.laws.proofs.Orders.{placed-free, first-found, leaves-ordered, joins-ordered, new-ordered, none-ordered}
 use Rattle.histories.specs.Sound.{PoolsSized, PoolsSound, Sound}
+use Rattle.histories.proofs.Lengths.{pools-as-long}
 use Rattle.histories.proofs.Tests.{chosen-yes}
 use Rattle.histories.specs.History.{Event}
 use Rattle.histories.proofs.Deeds.{newPool, freeBuffer, namedBuffer, PoolChange, pool-created, pool-deleted, buffer-got, buffer-returned}
@@ -129,17 +130,9 @@ module _ (p : Pools) (sound : PoolsSound p) (i : ℕ) (room : i < 8) where
 
     born-sized : PoolsSized born
     born-sized =
-        record {
-          outs = length-set (p .out) i 0 ∙ sound .sized .outs;
-          names = length-set (p .name) i name ∙ sound .sized .names;
-          addresses = length-set (p .address) i address ∙ sound .sized .addresses;
-          lengths = length-set (p .length) i n ∙ sound .sized .lengths;
-          sizes = length-set (p .size) i size ∙ sound .sized .sizes;
-          serials = length-set (p .serial) i (getD (p .serial) i 0 + 1) ∙ sound .sized .serials;
-          lives = length-set (p .live) i true ∙ sound .sized .lives;
-          forceds = length-set (p .forced) i forced ∙ sound .sized .forceds;
-          places = length-with (p .place) i (omega (arith, sound .sized .places)) (newRow (buffersOf n size)) (born-order .long) ∙ sound .sized .places;
-        }
+        pools-as-long p born
+        (simp (length-set, length-with (p .place) i (omega (arith, sound .sized .places)) (newRow (buffersOf n size)) (born-order .long)))
+        (sound .sized)
 
     born-live : getD (born .live) i false ≡ true
     born-live = getD-set-same (p .live) i true false (omega (arith, sound .sized .lives))
@@ -176,17 +169,7 @@ module _ (p : Pools) (sound : PoolsSound p) (i : ℕ) (room : i < 8) where
   unfolding poolRight pairShares buffersOf pick
   gone-sound =
       slot-sound p (poolGone p i) i noRow room sound
-      (record {
-        outs = length-set (p .out) i 0 ∙ sound .sized .outs;
-        names = length-set (p .name) i 0 ∙ sound .sized .names;
-        addresses = length-set (p .address) i 0 ∙ sound .sized .addresses;
-        lengths = length-set (p .length) i 0 ∙ sound .sized .lengths;
-        sizes = length-set (p .size) i 0 ∙ sound .sized .sizes;
-        serials = sound .sized .serials;
-        lives = length-set (p .live) i false ∙ sound .sized .lives;
-        forceds = length-set (p .forced) i false ∙ sound .sized .forceds;
-        places = length-with (p .place) i (omega (arith, sound .sized .places)) noRow refl ∙ sound .sized .places;
-      })
+      (pools-as-long p (poolGone p i) (simp (length-set, length-with (p .place) i (omega (arith, sound .sized .places)) noRow refl)) (sound .sized))
       refl none-left (λ j ne. (simp getD-set-other, simp getD-set-other)) (λ j ne. simp getD-set-other) (λ j k nj nk. simp getD-set-other) (simp cleared) (λ j h ne. simp cleared)
     where
       none-left : Ordered noRow (getD (poolGone p i .out) i 0) (poolBuffers (poolGone p i) i)
@@ -202,17 +185,8 @@ module _ (p : Pools) (sound : PoolsSound p) (i : ℕ) (room : i < 8) where
     unfolding poolRight pairShares
     out-sound out row l ordered =
         slot-sound p (withOut p i out row) i row room sound
-        (record {
-          outs = length-set (p .out) i out ∙ sound .sized .outs;
-          names = sound .sized .names;
-          addresses = sound .sized .addresses;
-          lengths = sound .sized .lengths;
-          sizes = sound .sized .sizes;
-          serials = sound .sized .serials;
-          lives = sound .sized .lives;
-          forceds = sound .sized .forceds;
-          places = length-with (p .place) i (omega (arith, sound .sized .places)) row (ordered .long) ∙ sound .sized .places;
-        })
+        (pools-as-long p (withOut p i out row)
+        (simp (length-set, length-with (p .place) i (omega (arith, sound .sized .places)) row (ordered .long))) (sound .sized))
         refl (rw (marked out) ordered) (λ j ne. (getD-set-other (p .out) i j out 0 ne, refl))
         (λ j ne. simp getD-set-other) (λ j k nj nk. refl)
         (live-right (withOut p i out row) i alive (right-live p i alive (sound .each i room) .0)

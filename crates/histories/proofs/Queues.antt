@@ -34,6 +34,7 @@ use Rattle.laws.proofs.Messages.Kept.{Kept, store-told, store-tells, append-kep
 use Rattle.laws.proofs.Messages.Views.{length-cell}
 use Rattle.histories.specs.Sound.{LineSound, QueuesSound, Sound}
 use Rattle.histories.specs.History.{Event}
+use Rattle.histories.proofs.Lengths.{queues-as-long}
 use Rattle.histories.proofs.Tests.{chosen-no}
 use Rattle.histories.proofs.Objects.{queue-live, queue-fifo, queue-stock, holds-nothing, born-apart, gone-apart, store-apart}
 use Rattle.histories.proofs.Waking.{first-empty, dead-empty, empty-changes, all-woken}
@@ -97,9 +98,6 @@ module _ (limits : List ℕ) (i most longest : ℕ) where
       getD-set-other (set limits (2 * i) most) (2 * i + 1) (2 * j + 1) longest 0 (λ e. ne (omega arith))
       ∙ getD-set-other limits (2 * i) (2 * j + 1) most 0 (λ e. omega arith)
 
-  length-limited : length limited ≡ length limits
-  length-limited = length-set (set limits (2 * i) most) (2 * i + 1) longest ∙ length-set limits (2 * i) most
-
 -- a slot whose row is the same is as right
 same-right : (u v : Queues) (j : ℕ) → getD (v .serial) j 0 ≡ getD (u .serial) j 0 → getD (v .name) j 0 ≡ getD (u .name) j 0
     → getD (v .live) j false ≡ getD (u .live) j false → getD (v .fifo) j false ≡ getD (u .fifo) j false
@@ -148,15 +146,7 @@ module _ (u : Queues) (ok : QueuesSound u) where
         let v : Queues = queueBorn u i name most longest fifo in
         let none : heldOf u i ≡ 0 = dead-holds u i free (ok .each i hi) in
         record {
-          sized = record {
-            names = length-set (u .name) i name ∙ ok .sized .names;
-            serials = length-set (u .serial) i (getD (u .serial) i 0 + 1) ∙ ok .sized .serials;
-            lives = length-set (u .live) i true ∙ ok .sized .lives;
-            fifos = length-set (u .fifo) i fifo ∙ ok .sized .fifos;
-            limitss = length-limited (u .limits) i most longest ∙ ok .sized .limitss;
-            helds = ok .sized .helds;
-            cellss = ok .sized .cellss;
-          };
+          sized = queues-as-long u v (simp length-set) (ok .sized);
           each = λ j h.
               ⊎-elim
               (λ e. ap (queueRight v) e ∙ live-right v i (getD-set-same (u .live) i true false (omega (arith, ok .sized .lives)))
@@ -182,15 +172,7 @@ module _ (u : Queues) (ok : QueuesSound u) where
     gone-queues =
         let v : Queues = queueGone u i in
         record {
-          sized = record {
-            names = length-set (u .name) i 0 ∙ ok .sized .names;
-            serials = ok .sized .serials;
-            lives = length-set (u .live) i false ∙ ok .sized .lives;
-            fifos = length-set (u .fifo) i false ∙ ok .sized .fifos;
-            limitss = length-limited (u .limits) i 0 0 ∙ ok .sized .limitss;
-            helds = form .sized .held;
-            cellss = form .sized .cells;
-          };
+          sized = queues-as-long u v (simp (length-set, form .sized .cells, ok .sized .cellss)) (ok .sized);
           each = λ j h.
               ⊎-elim
               (λ e. ap (queueRight v) e
@@ -226,15 +208,7 @@ module _ (u : Queues) (ok : QueuesSound u) where
     store-queues s n alive e few form =
         let v : Queues = withStore u s in
         record {
-          sized = record {
-            names = ok .sized .names;
-            serials = ok .sized .serials;
-            lives = ok .sized .lives;
-            fifos = ok .sized .fifos;
-            limitss = ok .sized .limitss;
-            helds = form .sized .held;
-            cellss = form .sized .cells;
-          };
+          sized = queues-as-long u v (simp (form .sized .held, form .sized .cells, ok .sized .helds, ok .sized .cellss)) (ok .sized);
           each = λ j h.
               ⊎-elim
               (λ d. ap (queueRight v) d ∙ live-right v i alive ∙ sym (live-right u i alive) ∙ ok .each i hi)

@@ -28,6 +28,7 @@ use Rattle.laws.proofs.Tables.{found-below, found-live, usable-at, usable-free}
 use Rattle.laws.proofs.Seats.Counting.{standing-le}
 use Rattle.laws.proofs.Seats.First.{runner-ring}
 use Rattle.histories.specs.Sound.{Ready, LineSound, TasksSound, SemSound, SemsSound, Sound}
+use Rattle.histories.proofs.Lengths.{sems-as-long}
 use Rattle.histories.proofs.Objects.{sem-live, sem-fifo, sem-stock, no-units, born-elsewhere, gone-elsewhere, units-elsewhere}
 use Rattle.histories.proofs.Moves.{waits-sound, queue-waits, ring-ready}
 use Rattle.histories.proofs.Waking.{first-in, first-empty, dead-empty, empty-changes, next-sound, all-woken}
@@ -49,13 +50,7 @@ module _ (m : Semaphores) (sems : SemsSound m) (i : ℕ) (hi : i < 16) where
     born-sems : count ≤ 32767 → SemsSound (semBorn m i name count fifo)
     born-sems fits =
         record {
-          sized = record {
-            names = length-set (m .name) i name ∙ sems .sized .names;
-            serials = length-set (m .serial) i (getD (m .serial) i 0 + 1) ∙ sems .sized .serials;
-            unitss = length-set (m .units) i count ∙ sems .sized .unitss;
-            lives = length-set (m .live) i true ∙ sems .sized .lives;
-            fifos = length-set (m .fifo) i fifo ∙ sems .sized .fifos;
-          };
+          sized = sems-as-long m (semBorn m i name count fifo) (simp length-set) (sems .sized);
           each = slots-sound m (semBorn m i name count fifo) i sems (λ j ne row. simp getD-set-other row)
               (record {
                 alive = λ e. omega (arith, getD-set-same (m .serial) i (getD (m .serial) i 0 + 1) 0 (omega (arith, sems .sized .serials)));
@@ -70,13 +65,7 @@ module _ (m : Semaphores) (sems : SemsSound m) (i : ℕ) (hi : i < 16) where
   gone-sems : SemsSound (semGone m i)
   gone-sems =
       record {
-        sized = record {
-          names = length-set (m .name) i 0 ∙ sems .sized .names;
-          serials = sems .sized .serials;
-          unitss = length-set (m .units) i 0 ∙ sems .sized .unitss;
-          lives = length-set (m .live) i false ∙ sems .sized .lives;
-          fifos = length-set (m .fifo) i false ∙ sems .sized .fifos;
-        };
+        sized = sems-as-long m (semGone m i) (simp length-set) (sems .sized);
         each = slots-sound m (semGone m i) i sems (λ j ne row. simp getD-set-other row)
             (simp cleared
             (record { alive = λ e. absurd (true-false e refl); units = omega arith; name = λ e. refl; fifo = λ e. refl; none = λ e. refl }));
@@ -86,13 +75,7 @@ module _ (m : Semaphores) (sems : SemsSound m) (i : ℕ) (hi : i < 16) where
   units-sems : (n : ℕ) → n ≤ 32767 → getD (m .live) i false ≡ true → SemsSound (withUnits m i n)
   units-sems n fits alive =
       record {
-        sized = record {
-          names = sems .sized .names;
-          serials = sems .sized .serials;
-          unitss = length-set (m .units) i n ∙ sems .sized .unitss;
-          lives = sems .sized .lives;
-          fifos = sems .sized .fifos;
-        };
+        sized = sems-as-long m (withUnits m i n) (simp length-set) (sems .sized);
         each = slots-sound m (withUnits m i n) i sems (λ j ne row. simp getD-set-other row)
             (record {
               alive = sems .each i hi .alive;

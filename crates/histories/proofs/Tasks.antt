@@ -27,6 +27,7 @@ use Rattle.histories.specs.Sound.{Nowhere, Waits, Ready, LineSound, Task
 use Rattle.histories.specs.History.{Event}
 use Rattle.histories.proofs.Deeds.{newTask, TaskChange, task-created, waiter-suspended, waiter-resumed, priority-noted}
 use Rattle.histories.proofs.Deeds.{TaskMove, task-deleted, task-started, task-suspended, task-resumed, priority-set}
+use Rattle.histories.proofs.Lengths.{tasks-as-long}
 use Rattle.histories.proofs.Parts.{all-sound, tasks-sound}
 use Rattle.histories.proofs.Moves.{Agree, Out, stays, retold, nowhere-out, gone, ready-gone, becomes-ready, on-waits, off-ready, off-nowhere, idle-nowhere}
 use Rattle.histories.proofs.Semaphores.{runs-ready}
@@ -94,14 +95,7 @@ module _ (k : Tasks) (sound : TasksSound k) (t : ℕ) (room : t < 32) (r : Row) 
   table-sound : RowSound r → TasksSound (withRow k t r)
   table-sound right =
       record {
-        sized = record {
-          names = length-set (k .name) t (r .name) ∙ sound .sized .names;
-          serials = length-set (k .serial) t (r .serial) ∙ sound .sized .serials;
-          lives = length-set (k .live) t (r .live) ∙ sound .sized .lives;
-          starteds = length-set (k .started) t (r .started) ∙ sound .sized .starteds;
-          suspendeds = length-set (k .suspended) t (r .suspended) ∙ sound .sized .suspendeds;
-          priorities = length-set (k .priority) t (r .priority) ∙ sound .sized .priorities;
-        };
+        sized = tasks-as-long k (withRow k t r) (simp length-set) (sound .sized);
         each = λ u h.
             ⊎-elim
             (λ e. subst (TaskSound (withRow k t r)) (sym e) (subst RowSound (sym row-same) right))
