@@ -368,7 +368,7 @@ static void changes_nothing(struct picture *p, const uint32_t *arg)
     (void)arg;
 }
 
-static void (*const works[CALLS])(struct picture *, const uint32_t *) = {
+static void (*const works[])(struct picture *, const uint32_t *) = {
     tick, task_create, task_delete, changes_nothing, task_start,
     task_suspend, task_resume, task_set_priority, sem_create, sem_delete,
     changes_nothing, sem_claim, sem_release, changes_nothing, pool_create,
@@ -376,6 +376,7 @@ static void (*const works[CALLS])(struct picture *, const uint32_t *) = {
     changes_nothing, queue_create, queue_delete, changes_nothing, queue_put,
     queue_put, queue_receive, changes_nothing
 };
+_Static_assert(sizeof works / sizeof works[0] == CALLS, "one for each call");
 
 static bool caller_is_right(const struct picture *p, uint32_t call,
                             uint32_t mark)

@@ -23,6 +23,11 @@ pub record ListsAfter (a : Answer) (order : List ℕ) (queues : ℕ → List ℕ
   pub ready : readyOf (a .state) ≡ order
   pub waiting : (i : ℕ) → i < objectsEnd → queueIn (a .state) i ≡ queues i
 
+-- the calls that move tasks: tick, task_delete, task_start, task_suspend, task_resume, task_set_priority, sem_delete, sem_claim,
+-- sem_release, queue_delete, queue_send, queue_jump, queue_receive
+abbrev pub movers : List ℕ
+movers = 0 ∷ 2 ∷ 4 ∷ 5 ∷ 6 ∷ 7 ∷ 9 ∷ 11 ∷ 12 ∷ 21 ∷ 23 ∷ 24 ∷ 25 ∷ []
+
 -- "A task becoming ready goes behind all of equal or higher priority."
 abbrev pub madeReady : Tasks → ℕ → ℕ → List ℕ → List ℕ
 madeReady k p t order = insert (λ u. leb p (getD (k .priority) u 0)) t order
