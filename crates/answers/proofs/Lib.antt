@@ -1,4 +1,3 @@
-pub mod Named
 pub mod Outcomes
 pub mod Steps
 pub mod One

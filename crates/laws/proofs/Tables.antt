@@ -158,10 +158,6 @@ module _ (live : List Bool) (name : List ℕ) (x : ℕ) where
 
 -- what a caller's code has in hand, in a table of n slots
 module _ (n : ℕ) (serial : List ℕ) (live : List Bool) (size : length serial ≡ n) where
-  -- the slot that an identifier names lies in the table
-  pub named-below : (id : ℕ) {r : Found} {i : ℕ} → r ≡ found serial live id → r ≡ At i → i < n
-  named-below id p q = omega (arith, found-below serial live id (sym p ∙ q))
-
   -- the slot that creation takes has a serial left
   pub serial-left : {i : ℕ} → i ≡ lowestUsable serial live → i < n → getD serial i 0 < 65535
   serial-left e h = rw e (usable-serial serial live _ (usable-at serial live (omega arith)))

@@ -7,8 +7,8 @@ use mathlib.Core.Path.{_≡_, refl, sym, ap, _∙_}
 use mathlib.Core.Bool.{Bool, true, false, not, _&&_}
 use mathlib.Core.List.{List}
 use lib.ListN.{getD, set}
-use lib.Dec.{ltb, leb, eqb}
-use borrow.Author.Tests.{lt-ltb, le-ltb, lt-leb, le-leb, ltb-true, not-false}
+use lib.Dec.{ltb, eqb}
+use borrow.Author.Tests.{lt-ltb, le-ltb, lt-leb, le-leb, eq-eqb, ne-eqb, ltb-true, not-false}
 use Rattle.scope.specs.declared.State.{State}
 use Rattle.scope.specs.declared.Answer.{Answer}
 use Rattle.scope.specs.Choice.{pick}
@@ -24,6 +24,8 @@ use Rattle.laws.proofs.Branches.{pick-yes, pick-no, picked-yes, picked-no, both
 use Rattle.answers.specs.declared.Outcome.{Outcome}
 use Rattle.answers.specs.Outcomes.{answerOf, outcome}
 use Rattle.answers.specs.Columns.{poolsOf}
+use Rattle.tables.specs.declared.Slot.{Slot}
+use Rattle.tables.specs.Slots.{slot}
 use Rattle.answers.proofs.Outcomes.{plain-of, gives-of, tells-of}
 
 -- of n buffers, as many as the pool has, one that is below n has its mark
@@ -56,65 +58,49 @@ admitted false true c t f x z e = absurd (omega arith)
 admitted false false true t f x z e = absurd (omega arith)
 admitted false false false t f x z e = e
 
--- that status is a small one
-pub few-statuses : (a b c : Bool) {r : ℕ} → r ≡ pick a 3 (pick b 14 (pick c 6 0)) → 8 + r < 32
-unfolding pick
-few-statuses true b c t = omega (arith, t)
-few-statuses false true c t = omega (arith, t)
-few-statuses false false true t = omega (arith, t)
-few-statuses false false false t = omega (arith, t)
+-- pool_create, by the room found
+module _ (s : State) (name address length size options : ℕ) where
+  abbrev born : Slot → Answer
+  born f =
+      pick (eqb (f .status) 0) (gives (withPools s (poolBorn (s .pools) (f .at) name address length size (eqb options 1))) (identifier (getD (s .pools .serial) (f .at) 0 + 1) (f .at)))
+      (plain s (f .status))
 
--- r is a slot below 8, or 8 and a refusal's status: what is so found
-module _ (s : State) (x : Answer) {r : ℕ} {o : Answer} where
-  pub slot-told : (status : ℕ) → r ≡ 8 + status → o ≡ plain s status → o ≡ pick (leb 8 r) (plain s (r - 8)) x
-  slot-told status e p = pick-yes _ _ _ (le-leb 8 r (omega arith)) (p ∙ ap (plain s) (omega arith))
-
-  pub slot-given : r < 8 → o ≡ x → o ≡ pick (leb 8 r) (plain s (r - 8)) x
-  slot-given h p = pick-no _ _ _ (lt-leb 8 r h) p
-
--- and what is answered by it
-module _ (s : State) (x : Answer) {r : ℕ} {o : Answer} (found : o ≡ pick (leb 8 r) (plain s (r - 8)) x) where
-  pub refuses : {p : Outcome} → 8 ≤ r → p ≡ outcome (r - 8) 0 0 0 0 false (s .running) → answerOf s noWakes p ≡ o
-  refuses h e = plain-of s _ _ _ e ∙ sym (found ∙ picked-yes _ _ _ (le-leb 8 r h))
-
-  pub allows : {a : Answer} → r < 8 → a ≡ x → a ≡ o
-  allows h p = p ∙ sym (found ∙ picked-no _ _ _ (lt-leb 8 r h))
-
--- pool_create's slot, by its tests in order
-module _ (s : State) (name address length size options : ℕ) {status : ℕ}
-    (tested : status ≡ pick (not (isArea address length)) 3 (pick (not (isSize length size)) 14 (pick (ltb lastOption options) 6 0))) where
-  pub create-refused : (x : Answer) {r : ℕ} → (status ≡ 0 → ⊥) → r ≡ 8 + status → poolCreate s name address length size options ≡ pick (leb 8 r) (plain s (r - 8)) x
-  unfolding poolCreate
-  create-refused x n e = slot-told s x status e (sym (refused _ _ _ tested (plain s) _ n refl))
-
-  module _ (passed : status ≡ 0) {i : ℕ} (lowest : i ≡ lowestUsable (s .pools .serial) (s .pools .live)) where
-    create-past : {a : Answer} → a ≡ poolCreateAt s name address length size options i → a ≡ poolCreate s name address length size options
+  -- the room, by the tests in order
+  module _ {status : ℕ} (tested : status ≡ pick (not (isArea address length)) 3 (pick (not (isSize length size)) 14 (pick (ltb lastOption options) 6 0))) where
+    pub create-refused : {f : Slot} → (status ≡ 0 → ⊥) → f ≡ slot 0 status → poolCreate s name address length size options ≡ born f
     unfolding poolCreate
-    create-past p = admitted _ _ _ tested (plain s) _ passed (p ∙ ap (poolCreateAt s name address length size options) lowest)
+    create-refused n e = rw e (pick-no _ _ _ (ne-eqb _ _ n) (sym (refused _ _ _ tested (plain s) _ n refl)))
 
-    pub create-full : (x : Answer) → 8 ≤ i → poolCreate s name address length size options ≡ pick (leb 8 15) (plain s (15 - 8)) x
-    unfolding poolCreateAt
-    create-full x h = slot-told s x 7 refl (sym (create-past (pick-yes _ _ _ (le-leb _ _ h) refl)))
+    module _ (passed : status ≡ 0) {i : ℕ} (lowest : i ≡ lowestUsable (s .pools .serial) (s .pools .live)) where
+      create-past : {a : Answer} → a ≡ poolCreateAt s name address length size options i → a ≡ poolCreate s name address length size options
+      unfolding poolCreate
+      create-past p = admitted _ _ _ tested (plain s) _ passed (p ∙ ap (poolCreateAt s name address length size options) lowest)
 
-    module _ (inside : i < 8) {k : ℕ} (first : k ≡ overlapped (s .pools) address length) where
-      pub create-overlaps : (x : Answer) → k < 8 → poolCreate s name address length size options ≡ pick (leb 8 23) (plain s (23 - 8)) x
+      pub create-full : {f : Slot} → 8 ≤ i → f ≡ slot 0 7 → poolCreate s name address length size options ≡ born f
       unfolding poolCreateAt
-      create-overlaps x h = slot-told s x 15 refl (sym (create-past (pick-no _ _ _ (lt-leb _ _ inside) (pick-yes _ _ _ (rw (← first) (lt-ltb k 8 h)) refl))))
+      create-full h e = rw e (pick-no _ _ _ refl (sym (create-past (pick-yes _ _ _ (le-leb _ _ h) refl))))
 
-      pub create-given : 8 ≤ k → poolCreate s name address length size options
-          ≡ pick (leb 8 i) (plain s (i - 8)) (gives (withPools s (poolBorn (s .pools) i name address length size (eqb options 1))) (identifier (getD (s .pools .serial) i 0 + 1) i))
-      unfolding poolCreateAt
-      create-given h = slot-given s _ inside (sym (create-past (pick-no _ _ _ (lt-leb _ _ inside) (pick-no _ _ _ (rw (← first) (le-ltb k 8 h)) refl))))
+      module _ (inside : i < 8) {k : ℕ} (first : k ≡ overlapped (s .pools) address length) where
+        pub create-overlaps : {f : Slot} → k < 8 → f ≡ slot 0 15 → poolCreate s name address length size options ≡ born f
+        unfolding poolCreateAt
+        create-overlaps h e = rw e (pick-no _ _ _ refl (sym (create-past (pick-no _ _ _ (lt-leb _ _ inside) (pick-yes _ _ _ (rw (← first) (lt-ltb k 8 h)) refl)))))
 
--- the new pool, its buffers in ascending places
-pub created : (s : State) (name address length size options : ℕ) {i : ℕ} → poolCreate s name address length size options
-    ≡ pick (leb 8 i) (plain s (i - 8)) (gives (withPools s (poolBorn (s .pools) i name address length size (eqb options 1))) (identifier (getD (s .pools .serial) i 0 + 1) i))
-    → i < 8 → {place row : List ℕ} {n v : ℕ} {p : Outcome} → place ≡ withRow (s .pools .place) i row → row ≡ newRow n → n ≡ buffersOf length size
-    → v ≡ identifier (getD (s .pools .serial) i 0 + 1) i → p ≡ outcome 0 v 0 0 0 false (s .running)
-    → answerOf (withPools s (poolsOf (set (s .pools .out) i 0) (set (s .pools .name) i name) (set (s .pools .address) i address) (set (s .pools .length) i length)
-    (set (s .pools .size) i size) (set (s .pools .serial) i (getD (s .pools .serial) i 0 + 1)) (set (s .pools .live) i true) (set (s .pools .forced) i (eqb options 1)) place)) noWakes p
-    ≡ poolCreate s name address length size options
-created s name address length size options found h a b c d e = allows s _ found h (rw (a, b, c, ← d) (gives-of _ _ _ _ e))
+        pub create-given : {f : Slot} → 8 ≤ k → f ≡ slot i 0 → poolCreate s name address length size options ≡ born f
+        unfolding poolCreateAt
+        create-given h e = rw e (pick-yes _ _ _ refl (sym (create-past (pick-no _ _ _ (lt-leb _ _ inside) (pick-no _ _ _ (rw (← first) (le-ltb k 8 h)) refl)))))
+
+  -- the refusal, and the new pool, its buffers in ascending places
+  module _ (f : Slot) (told : poolCreate s name address length size options ≡ born f) {p : Outcome} where
+    pub create-refuses : (f .status ≡ 0 → ⊥) → p ≡ outcome (f .status) 0 0 0 0 false (s .running) → answerOf s noWakes p ≡ poolCreate s name address length size options
+    create-refuses h e = plain-of s _ _ _ e ∙ sym (told ∙ picked-no _ _ _ (ne-eqb _ _ h))
+
+    pub created : f .status ≡ 0 → {place row : List ℕ} {n v : ℕ} → place ≡ withRow (s .pools .place) (f .at) row → row ≡ newRow n → n ≡ buffersOf length size
+        → v ≡ identifier (getD (s .pools .serial) (f .at) 0 + 1) (f .at) → p ≡ outcome 0 v 0 0 0 false (s .running)
+        → answerOf (withPools s (poolsOf (set (s .pools .out) (f .at) 0) (set (s .pools .name) (f .at) name) (set (s .pools .address) (f .at) address) (set (s .pools .length) (f .at) length)
+        (set (s .pools .size) (f .at) size) (set (s .pools .serial) (f .at) (getD (s .pools .serial) (f .at) 0 + 1)) (set (s .pools .live) (f .at) true)
+        (set (s .pools .forced) (f .at) (eqb options 1)) place)) noWakes p
+        ≡ poolCreate s name address length size options
+    created h a b c d e = rw (a, b, c, ← d) (gives-of _ _ _ _ e) ∙ sym (told ∙ picked-yes _ _ _ (eq-eqb _ _ h))
 
 -- pool i of the state
 module _ (s : State) (i : ℕ) where

@@ -1,24 +1,24 @@
 // The pool calls: chapter 6, as document 01 fixes it. Each is lent the pools' columns that it reads or changes, and changes them
 // where they lie. (scope's specs/Pools.antt.) Where an argument has a column's name, the column's is in the plural.
 use answers::Outcome;
-use scope::Found;
+use tables::Slot;
 ghost use mathlib.Core.Path.{_≡_};
 ghost use mathlib.Core.Bool.{not, _&&_};
-ghost use Prim.Native.Nat.{ℕ, _+_, _-_, _≤_, _<_};
+ghost use Prim.Native.Nat.{ℕ, _+_, _≤_, _<_};
 ghost use lib.ListN.{getD};
-ghost use lib.Dec.{ltb, leb, eqb};
+ghost use lib.Dec.{ltb, eqb};
 ghost use Rattle.scope.specs.declared.State.{State};
 ghost use Rattle.scope.specs.Choice.{pick};
 ghost use Rattle.scope.specs.Statuses.{OK, INVALID-PARAMETER, INVALID-OPTIONS, INVALID-BUFF-SIZE};
-ghost use Rattle.scope.specs.declared.Answer.{Answer};
 ghost use Rattle.scope.specs.Identifiers.{identifier, found};
 ghost use Rattle.scope.specs.Areas.{isArea, isSize, isOut, isFree};
 ghost use Rattle.scope.specs.Semaphores.{lastOption};
 ghost use Rattle.scope.specs.Views.{withPools};
-ghost use Rattle.scope.specs.Answers.{noWakes, plain, gives, onFound};
+ghost use Rattle.scope.specs.Answers.{noWakes, plain, gives};
 ghost use Rattle.scope.specs.Pools.{poolBorn, poolCreate, poolDelete, poolIdent, poolGetBuff, poolRetBuff, poolInfo};
 ghost use Rattle.answers.specs.Outcomes.{answerOf};
 ghost use Rattle.answers.specs.Columns.{lentPools};
+ghost use Rattle.tables.specs.Slots.{slotOf};
 
 // "pool_create: 3, 14, 6, 7, 15": the first three, which look at the arguments alone; 0 where they are admitted.
 fn refusal(address: u32, length: u32, size: u32, options: u32) -> u32
@@ -37,9 +37,8 @@ fn refusal(address: u32, length: u32, size: u32, options: u32) -> u32
     scope::OK
 }
 
-// The other two. The lowest slot that the new pool can have; where it is refused, 8 and the status. A full table is told before an
-// overlap is looked for.
-fn slot_for<'a>(
+// The other two. The lowest slot, which the new pool takes, or the refusal. A full table is told before an overlap is looked for.
+fn room<'a>(
     addresses: &[u32; 8],
     lengths: &[u32; 8],
     serial: &'a [u16; 8],
@@ -48,25 +47,25 @@ fn slot_for<'a>(
     length: u32,
     size: u32,
     options: u32,
-) -> u32
+) -> Slot
     ensures tells { λ r. ⌜ ((s : State) (name : ℕ) → s .pools .address ≡ now (addresses .entry) → s .pools .length ≡ now (lengths .entry)
         → s .pools .serial ≡ now (serial .entry) → s .pools .live ≡ now (live .entry) → poolCreate s name address length size options
-        ≡ pick (leb 8 r) (plain s (r - 8)) (gives (withPools s (poolBorn (s .pools) r name address length size (eqb options 1)))
-        (identifier (getD (s .pools .serial) r 0 + 1) r))) ⌝ }
-    ensures left { λ r. ⌜ (r < 8 → getD (now (serial .entry)) r 0 < 65535) ⌝ }
+        ≡ pick (eqb (r .status) OK) (gives (withPools s (poolBorn (s .pools) (r .at) name address length size (eqb options 1)))
+        (identifier (getD (s .pools .serial) (r .at) 0 + 1) (r .at))) (plain s (r .status))) ⌝ }
+    ensures left { λ r. ⌜ (r .at < 8) × (r .status ≡ OK → getD (now (serial .entry)) (r .at) 0 < 65535) ⌝ }
 {
     let status = refusal(address, length, size, options);
     if status != scope::OK {
-        return 8 + status;
+        return tables::refused(status);
     }
     let i = tables::lowest_usable(serial, live);
     if 8 <= i {
-        return 8 + scope::TOO_MANY_OBJECTS;
+        return tables::refused(scope::TOO_MANY_OBJECTS);
     }
     if areas::overlapped(addresses, lengths, live, address, length) < 8 {
-        return 8 + scope::POOL_OVERLAP;
+        return tables::refused(scope::POOL_OVERLAP);
     }
-    i as u32
+    tables::taken(i)
 }
 
 pub fn pool_create(
@@ -91,7 +90,7 @@ pub fn pool_create(
         ≡ poolCreate (lentPools s (now (out .entry)) (now (names .entry)) (now (addresses .entry)) (now (lengths .entry))
         (now (sizes .entry)) (now (serial .entry)) (now (live .entry)) (now (forced .entry)) (now (place .entry)) running) name address length size options) ⌝ }
 {
-    let found = slot_for(
+    let f = room(
         addresses,
         lengths,
         serial,
@@ -101,10 +100,10 @@ pub fn pool_create(
         size,
         options,
     );
-    if 8 <= found {
-        return answers::plain(found - 8, running);
+    if f.status != scope::OK {
+        return answers::plain(f.status, running);
     }
-    let i = found as usize;
+    let i = f.at;
     let next = serial[i] + 1;
     out[i] = 0;
     names[i] = name;
@@ -119,16 +118,12 @@ pub fn pool_create(
     answers::gives(tables::identifier(next, i), running)
 }
 
-// The slot that the identifier names; where it names none, 8 and the refusal's status.
-fn slot<'a>(serial: &'a [u16; 8], live: &'a [bool; 8], id: u32) -> u32
-    ensures { λ r. ⌜ ((s : State) (f : ℕ → Answer) → onFound (found (now (serial .entry)) (now (live .entry)) id) s f
-        ≡ pick (leb 8 r) (plain s (r - 8)) (f r)) ⌝ }
+// The pool an identifier names.
+fn named<'a>(serial: &'a [u16; 8], live: &'a [bool; 8], id: u32) -> Slot
+    ensures { λ r. ⌜ r ≡ slotOf (found (now (serial .entry)) (now (live .entry)) id) ⌝ }
+    ensures { λ r. ⌜ r .at < 8 ⌝ }
 {
-    match tables::find(serial, live, id) {
-        Found::At(i) => i as u32,
-        Found::Deleted => 8 + scope::OBJECT_DELETED,
-        Found::Invalid => 8 + scope::INVALID_ID,
-    }
+    tables::find(serial, live, id)
 }
 
 pub fn pool_delete(
@@ -149,11 +144,11 @@ pub fn pool_delete(
         ≡ poolDelete (lentPools s (now (out .entry)) (now (name .entry)) (now (address .entry)) (now (length .entry)) (now (size .entry))
         (now (serial .entry)) (now (live .entry)) (now (forced .entry)) (now (place .entry)) running) id) ⌝ }
 {
-    let found = slot(serial, live, id);
-    if 8 <= found {
-        return answers::plain(found - 8, running);
+    let f = named(serial, live, id);
+    if f.status != scope::OK {
+        return answers::plain(f.status, running);
     }
-    let i = found as usize;
+    let i = f.at;
     if !forced[i] {
         if 0 < out[i] {
             return answers::plain(scope::POOL_IN_USE, running);
@@ -220,11 +215,11 @@ pub fn pool_get_buff<'a>(
         ≡ poolGetBuff (lentPools s (now (out .entry)) (s .pools .name) (now (address .entry)) (now (length .entry)) (now (size .entry))
         (now (serial .entry)) (now (live .entry)) (s .pools .forced) (now (place .entry)) running) id) ⌝ }
 {
-    let found = slot(serial, live, id);
-    if 8 <= found {
-        return answers::plain(found - 8, running);
+    let f = named(serial, live, id);
+    if f.status != scope::OK {
+        return answers::plain(f.status, running);
     }
-    let i = found as usize;
+    let i = f.at;
     let n = areas::buffers_of(length[i], size[i]);
     let marks = out[i];
     let row = places::row_of(&*place, i);
@@ -266,11 +261,11 @@ pub fn pool_ret_buff<'a>(
         ≡ poolRetBuff (lentPools s (now (out .entry)) (s .pools .name) (now (address .entry)) (now (length .entry)) (now (size .entry))
         (now (serial .entry)) (now (live .entry)) (s .pools .forced) (now (place .entry)) running) id x) ⌝ }
 {
-    let found = slot(serial, live, id);
-    if 8 <= found {
-        return answers::plain(found - 8, running);
+    let f = named(serial, live, id);
+    if f.status != scope::OK {
+        return answers::plain(f.status, running);
     }
-    let i = found as usize;
+    let i = f.at;
     let n = areas::buffers_of(length[i], size[i]);
     let marks = out[i];
     let k = areas::buffer_at(address[i], size[i], n, x);
@@ -299,11 +294,11 @@ pub fn pool_info<'a>(
         ≡ poolInfo (lentPools s (now (out .entry)) (s .pools .name) (s .pools .address) (now (length .entry)) (now (size .entry))
         (now (serial .entry)) (now (live .entry)) (now (forced .entry)) (s .pools .place) running) id) ⌝ }
 {
-    let found = slot(serial, live, id);
-    if 8 <= found {
-        return answers::plain(found - 8, running);
+    let f = named(serial, live, id);
+    if f.status != scope::OK {
+        return answers::plain(f.status, running);
     }
-    let i = found as usize;
+    let i = f.at;
     let n = areas::buffers_of(length[i], size[i]);
     let free = areas::free_of(out[i], n);
     answers::tells(n, free, size[i], answers::bit(forced[i]), false, running)

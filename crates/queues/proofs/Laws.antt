@@ -31,9 +31,10 @@ use Rattle.answers.specs.Outcomes.{answerOf, answerShown, outcome, woke}
 use Rattle.answers.specs.Columns.{stateOf}
 use Rattle.answers.proofs.Outcomes.{plain-moved, woke-moved, plain-of, none-shown, shows-of}
 use Rattle.laws.proofs.Branches.{pick-yes, pick-no, picked-yes, both-true, first-fails, second-fails, second-decides}
-use Rattle.queues.specs.declared.Slot.{Slot}
+use Rattle.tables.specs.declared.Slot.{Slot}
+use Rattle.tables.specs.Slots.{slot, slotOf}
 use Rattle.queues.specs.declared.Way.{Way}
-use Rattle.queues.specs.Handing.{handed, slot, way, slotOf, roomOf, wayAt, wayOf, receiveStatus}
+use Rattle.queues.specs.Handing.{handed, way, roomOf, wayAt, wayOf, receiveStatus}
 
 pub limits-told : (most longest : ℕ) → areLimits most longest ≡ true → (most ≤ 16) × (longest ≤ 64)
 unfolding areLimits
@@ -63,20 +64,6 @@ module _ (longest n : ℕ) (message : List ℕ) where
   pub lent-decides : {w : ℕ} → w ≡ longest → n ≤ w → n ≤ 64 → leb n (length message) ≡ fitsQueue longest n message
   unfolding fitsQueue
   lent-decides e h l = sym (second-decides (leb n longest) _ (le-leb n longest (omega arith)) ∙ second-decides (leb n 64) _ (le-leb n 64 l))
-
--- what an identifier names, or its refusal: `f` is what the code found
-module _ (s : State) (g : ℕ → Answer) {f : Slot} {a : Answer} where
-  pub slot-found : (o : Found) → f ≡ slotOf o → f .status ≡ 0 → a ≡ g (f .at) → a ≡ onFound o s g
-  unfolding onFound slotOf
-  slot-found (At i) e h p = p ∙ ap (λ (x : Slot). g (x .at)) e
-  slot-found Deleted e h p = absurd (omega (arith, h, ap (λ (x : Slot). x .status) e))
-  slot-found Invalid e h p = absurd (omega (arith, h, ap (λ (x : Slot). x .status) e))
-
-  pub slot-refused : (o : Found) → f ≡ slotOf o → (f .status ≡ 0 → ⊥) → a ≡ plain s (f .status) → a ≡ onFound o s g
-  unfolding onFound slotOf
-  slot-refused (At i) e h p = absurd (h (ap (λ (x : Slot). x .status) e))
-  slot-refused Deleted e h p = p ∙ ap (λ (x : Slot). plain s (x .status)) e
-  slot-refused Invalid e h p = p ∙ ap (λ (x : Slot). plain s (x .status)) e
 
 -- queue_create, by the room found
 module _ (s : State) (name most longest options : ℕ) where

@@ -7,11 +7,9 @@ use lib.ListN.{length, getD}
 use lib.Dec.{ltb, leb, eqb}
 use Rattle.scope.specs.declared.State.{State}
 use Rattle.scope.specs.declared.Answer.{Answer}
-use Rattle.scope.specs.declared.Found.{Found}
-use Rattle.scope.specs.declared.Found.the-variants.{At, Deleted, Invalid}
 use Rattle.scope.specs.Choice.{pick}
 use Rattle.scope.specs.Identifiers.{lowestUsable}
-use Rattle.scope.specs.Statuses.{OK, PENDING, INVALID-PARAMETER, INVALID-ID, OBJECT-DELETED, INVALID-OPTIONS, TOO-MANY-OBJECTS, NO-CALLER}
+use Rattle.scope.specs.Statuses.{OK, PENDING, INVALID-PARAMETER, INVALID-OPTIONS, TOO-MANY-OBJECTS, NO-CALLER}
 use Rattle.scope.specs.Statuses.{INVALID-LENGTH, QUEUE-FULL, QUEUE-EMPTY}
 use Rattle.scope.specs.Seats.{queueSeats, firstOf}
 use Rattle.scope.specs.Objects.{queueObject}
@@ -20,24 +18,16 @@ use Rattle.scope.specs.Messages.{shownOf}
 use Rattle.scope.specs.Waiting.{wakeNext, noneWoken, isTimeOut}
 use Rattle.scope.specs.Semaphores.{lastOption}
 use Rattle.scope.specs.Queues.{areLimits, fitsQueue}
-use Rattle.queues.specs.declared.Slot.{Slot}
+use Rattle.tables.specs.declared.Slot.{Slot}
+use Rattle.tables.specs.Slots.{slot}
 use Rattle.queues.specs.declared.Way.{Way}
 
 -- "A message goes to the first waiter", here task t
 abbrev pub handed : State → ℕ → List ℕ → ℕ → Answer
 handed s n message t = deliversTo s (wakeNext (s .tasks) (noneWoken (s .line)) t) n (shownOf message n)
 
-abbrev pub slot : ℕ → ℕ → Slot
-slot at status = record { at = at; status = status }
-
 abbrev pub way : ℕ → ℕ → ℕ → Way
 way slot to status = record { slot = slot; to = to; status = status }
-
--- the queue found, or the refusal
-unfoldable pub slotOf : Found → Slot
-slotOf (At i) = slot i OK
-slotOf Deleted = slot 0 OBJECT-DELETED
-slotOf Invalid = slot 0 INVALID-ID
 
 -- where a new queue lies
 unfoldable pub roomOf : List ℕ → List Bool → ℕ → ℕ → ℕ → Slot

@@ -3,7 +3,7 @@
 // Each call is lent the columns it reads or changes, and changes them where they lie. (scope's specs/Queues.antt.)
 use answers::Outcome;
 use chapters::Asked;
-use scope::Found;
+use tables::Slot;
 ghost use mathlib.Core.Path.{_≡_};
 ghost use mathlib.Core.Bool.{Bool};
 ghost use Prim.Native.Nat.{ℕ, _<_, _≤_};
@@ -15,33 +15,15 @@ ghost use Rattle.scope.specs.Identifiers.{found};
 ghost use Rattle.scope.specs.Queues.{queueCreate, queueDelete, queueIdent, fitsQueue, queueSend, queueJump, queueReceive, queueInfo};
 ghost use Rattle.answers.specs.Outcomes.{answerShown, answerOf};
 ghost use Rattle.answers.specs.Columns.{lentQueues};
-ghost use Rattle.queues.specs.Handing.{handed, slotOf, roomOf, way, wayOf, receiveStatus};
-
-// What a call works on: the queue's slot, and the refusal where there is one, else OK.
-struct Slot {
-    at: usize,
-    status: u32,
-}
+ghost use Rattle.tables.specs.Slots.{slotOf};
+ghost use Rattle.queues.specs.Handing.{handed, roomOf, way, wayOf, receiveStatus};
 
 // The queue an identifier names.
 fn named<'a>(serial: &'a [u16; 8], live: &'a [bool; 8], id: u32) -> Slot
     ensures { λ r. ⌜ r ≡ slotOf (found (now (serial .entry)) (now (live .entry)) id) ⌝ }
     ensures { λ r. ⌜ r .at < 8 ⌝ }
 {
-    match tables::find(serial, live, id) {
-        Found::At(i) => Slot {
-            at: i,
-            status: scope::OK,
-        },
-        Found::Deleted => Slot {
-            at: 0,
-            status: scope::OBJECT_DELETED,
-        },
-        Found::Invalid => Slot {
-            at: 0,
-            status: scope::INVALID_ID,
-        },
-    }
+    tables::find(serial, live, id)
 }
 
 // The slot a new queue takes.
@@ -56,28 +38,16 @@ fn room<'a>(
     ensures { λ r. ⌜ (r .at < 8) × (r .status ≡ 0 → (getD (now (serial .entry)) (r .at) 0 < 65535) × (most ≤ 16) × (longest ≤ 64)) ⌝ }
 {
     if !messages::are_limits(most, longest) {
-        return Slot {
-            at: 0,
-            status: scope::INVALID_PARAMETER,
-        };
+        return tables::refused(scope::INVALID_PARAMETER);
     }
     if 1 < options {
-        return Slot {
-            at: 0,
-            status: scope::INVALID_OPTIONS,
-        };
+        return tables::refused(scope::INVALID_OPTIONS);
     }
     let i = tables::lowest_usable(serial, live);
     if 8 <= i {
-        return Slot {
-            at: 0,
-            status: scope::TOO_MANY_OBJECTS,
-        };
+        return tables::refused(scope::TOO_MANY_OBJECTS);
     }
-    Slot {
-        at: i,
-        status: scope::OK,
-    }
+    tables::taken(i)
 }
 
 pub fn queue_create(

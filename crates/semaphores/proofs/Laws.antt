@@ -13,13 +13,11 @@ use Rattle.scope.specs.declared.State.{State}
 use Rattle.scope.specs.declared.Line.{Line}
 use Rattle.scope.specs.declared.Waking.{Waking}
 use Rattle.scope.specs.declared.Answer.{Answer}
-use Rattle.scope.specs.declared.Found.{Found}
-use Rattle.scope.specs.declared.Found.the-variants.{At, Deleted, Invalid}
 use Rattle.scope.specs.Statuses.{OK, PENDING, SEMAPHORE-OVERFLOW, SEMAPHORE-DELETED}
 use Rattle.scope.specs.Identifiers.{identifier, lowestUsable}
 use Rattle.scope.specs.Seats.{standing, standsIn, firstOf, queueSeats, maskOf, runnerOf}
 use Rattle.scope.specs.Views.{waitersOf, withLine, withSemaphores}
-use Rattle.scope.specs.Answers.{noWakes, bitOf, answer, plain, gives, onFound}
+use Rattle.scope.specs.Answers.{noWakes, bitOf, answer, plain, gives}
 use Rattle.scope.specs.Waiting.{waits, isTimeOut, wakeNext, wakeAll, noneWoken}
 use Rattle.scope.specs.Semaphores.{lastCount, lastOption, semBorn, semGone, withUnits, semCreate, semCreateAt, semDeleteAt, semClaimAt, semWaitAt, semReleaseAt, semInfoAt}
 use Rattle.scope.proofs.Counts.{less-below, less-above}
@@ -29,8 +27,9 @@ use Rattle.answers.specs.Columns.{stateOf}
 use Rattle.answers.proofs.Outcomes.{plain-moved, woke-moved}
 use Rattle.laws.proofs.Searches.{number-le}
 use Rattle.laws.proofs.Branches.{pick-yes, pick-no, both, first-fails, second-fails, not-of-true, not-of-false}
-use Rattle.semaphores.specs.declared.Slot.{Slot}
-use Rattle.semaphores.specs.Deciding.{slot, slotOf, roomOf, claimStatus}
+use Rattle.tables.specs.declared.Slot.{Slot}
+use Rattle.tables.specs.Slots.{slot}
+use Rattle.semaphores.specs.Deciding.{roomOf, claimStatus}
 
 -- no more tasks wait than there are
 pub few : (q : List ℕ) (base : ℕ) → standing q base ≤ 32
@@ -46,20 +45,6 @@ module _ (s : State) (i n b u : ℕ) (a : Answer) (waiting : n ≡ waitersOf (s 
   pub info-above : n ≤ u → a ≡ answer s OK b (u - n) n 0 false → a ≡ semInfoAt s i
   unfolding semInfoAt
   info-above h e = rw (less-above (getD (s .semaphores .units) i 0) (waitersOf (s .line) i) (u - n) (omega arith), ← waiting, ← option) e
-
--- what an identifier names, or its refusal: `f` is what the code found
-module _ (s : State) (g : ℕ → Answer) {f : Slot} {a : Answer} where
-  pub slot-found : (o : Found) → f ≡ slotOf o → f .status ≡ 0 → a ≡ g (f .at) → a ≡ onFound o s g
-  unfolding onFound slotOf
-  slot-found (At i) e h p = p ∙ ap (λ (x : Slot). g (x .at)) e
-  slot-found Deleted e h p = absurd (omega (arith, h, ap (λ (x : Slot). x .status) e))
-  slot-found Invalid e h p = absurd (omega (arith, h, ap (λ (x : Slot). x .status) e))
-
-  pub slot-refused : (o : Found) → f ≡ slotOf o → (f .status ≡ 0 → ⊥) → a ≡ plain s (f .status) → a ≡ onFound o s g
-  unfolding onFound slotOf
-  slot-refused (At i) e h p = absurd (h (ap (λ (x : Slot). x .status) e))
-  slot-refused Deleted e h p = p ∙ ap (λ (x : Slot). plain s (x .status)) e
-  slot-refused Invalid e h p = p ∙ ap (λ (x : Slot). plain s (x .status)) e
 
 -- sem_create, by the room found
 module _ (s : State) (name count options : ℕ) where

@@ -5,24 +5,14 @@ use mathlib.Core.Bool.{Bool, not, _&&_}
 use mathlib.Core.List.{List}
 use lib.ListN.{length}
 use lib.Dec.{ltb, leb, eqb}
-use Rattle.scope.specs.declared.Found.{Found}
-use Rattle.scope.specs.declared.Found.the-variants.{At, Deleted, Invalid}
 use Rattle.scope.specs.Choice.{pick}
 use Rattle.scope.specs.Identifiers.{lowestUsable}
-use Rattle.scope.specs.Statuses.{OK, PENDING, INVALID-PARAMETER, INVALID-ID, OBJECT-DELETED, INVALID-OPTIONS, INVALID-COUNT, TOO-MANY-OBJECTS}
+use Rattle.scope.specs.Statuses.{OK, PENDING, INVALID-PARAMETER, INVALID-OPTIONS, INVALID-COUNT, TOO-MANY-OBJECTS}
 use Rattle.scope.specs.Statuses.{SEMAPHORE-NOT-AVAILABLE, NO-CALLER}
 use Rattle.scope.specs.Waiting.{isTimeOut}
 use Rattle.scope.specs.Semaphores.{lastCount, lastOption}
-use Rattle.semaphores.specs.declared.Slot.{Slot}
-
-abbrev pub slot : ℕ → ℕ → Slot
-slot at status = record { at = at; status = status }
-
--- the semaphore found, or the refusal
-unfoldable pub slotOf : Found → Slot
-slotOf (At i) = slot i OK
-slotOf Deleted = slot 0 OBJECT-DELETED
-slotOf Invalid = slot 0 INVALID-ID
+use Rattle.tables.specs.declared.Slot.{Slot}
+use Rattle.tables.specs.Slots.{slot}
 
 -- where a new semaphore lies
 unfoldable pub roomOf : List ℕ → List Bool → ℕ → ℕ → Slot

@@ -2,7 +2,7 @@
 // that wait, so whoever leaves its queue gives its one back by leaving. sem_release may come from an interrupt.
 // Each call is lent the columns it reads or changes, and changes them where they lie. (scope's specs/Semaphores.antt.)
 use answers::Outcome;
-use scope::Found;
+use tables::Slot;
 ghost use mathlib.Core.Path.{_≡_};
 ghost use mathlib.Core.Bool.{true, false};
 ghost use Prim.Native.Nat.{_<_, _≤_};
@@ -13,33 +13,15 @@ ghost use Rattle.scope.specs.Identifiers.{found};
 ghost use Rattle.scope.specs.Semaphores.{semCreate, semDelete, semIdent, semClaim, semRelease, semInfo};
 ghost use Rattle.answers.specs.Outcomes.{answerOf};
 ghost use Rattle.answers.specs.Columns.{lentSemaphores};
-ghost use Rattle.semaphores.specs.Deciding.{slotOf, roomOf, claimStatus};
-
-// What a call works on: the semaphore's slot, and the refusal where there is one, else OK.
-struct Slot {
-    at: usize,
-    status: u32,
-}
+ghost use Rattle.tables.specs.Slots.{slotOf};
+ghost use Rattle.semaphores.specs.Deciding.{roomOf, claimStatus};
 
 // The semaphore an identifier names.
 fn named<'a>(serial: &'a [u16; 16], live: &'a [bool; 16], id: u32) -> Slot
     ensures { λ r. ⌜ r ≡ slotOf (found (now (serial .entry)) (now (live .entry)) id) ⌝ }
     ensures { λ r. ⌜ r .at < 16 ⌝ }
 {
-    match tables::find(serial, live, id) {
-        Found::At(i) => Slot {
-            at: i,
-            status: scope::OK,
-        },
-        Found::Deleted => Slot {
-            at: 0,
-            status: scope::OBJECT_DELETED,
-        },
-        Found::Invalid => Slot {
-            at: 0,
-            status: scope::INVALID_ID,
-        },
-    }
+    tables::find(serial, live, id)
 }
 
 // The slot a new semaphore takes.
@@ -48,28 +30,16 @@ fn room<'a>(serial: &'a [u16; 16], live: &'a [bool; 16], count: u32, options: u3
     ensures { λ r. ⌜ (r .at < 16) × (r .status ≡ 0 → (getD (now (serial .entry)) (r .at) 0 < 65535) × (count ≤ 32767)) ⌝ }
 {
     if 32767 < count {
-        return Slot {
-            at: 0,
-            status: scope::INVALID_COUNT,
-        };
+        return tables::refused(scope::INVALID_COUNT);
     }
     if 1 < options {
-        return Slot {
-            at: 0,
-            status: scope::INVALID_OPTIONS,
-        };
+        return tables::refused(scope::INVALID_OPTIONS);
     }
     let i = tables::lowest_usable(serial, live);
     if 16 <= i {
-        return Slot {
-            at: 0,
-            status: scope::TOO_MANY_OBJECTS,
-        };
+        return tables::refused(scope::TOO_MANY_OBJECTS);
     }
-    Slot {
-        at: i,
-        status: scope::OK,
-    }
+    tables::taken(i)
 }
 
 pub fn sem_create(

@@ -1,12 +1,19 @@
 // Identifier tables. "What holds for all three identifier tables is proved once over the table size": the columns come as
 // slices, so one proof serves every table.
-use scope::Found;
 ghost use mathlib.Core.Path.{_≡_};
 ghost use Prim.Native.Nat.{_+_, _*_, _≤_, _<_};
 ghost use mathlib.Core.Bool.{false};
 ghost use lib.ListN.{length, getD};
+ghost use Rattle.scope.specs.Statuses.{OK};
 ghost use Rattle.scope.specs.Identifiers.{found, usable, lowestUsable, named, byName};
 ghost use Rattle.tables.specs.Masks.{bitAt, maskFrom};
+ghost use Rattle.tables.specs.Slots.{slot, slotOf};
+
+// What a call works on: the slot, and the status of the refusal where there is one, else OK.
+pub struct Slot {
+    pub at: usize,
+    pub status: u32,
+}
 
 fn wide(x: u16) -> u32
     ensures { λ r. ⌜ r ≡ x ⌝ }
@@ -24,29 +31,48 @@ fn flag(live: &[bool], k: usize) -> bool
     false
 }
 
-// What an identifier names.
-pub fn find<'a>(serial: &'a [u16], live: &'a [bool], id: u32) -> Found
-    ensures { λ r. ⌜ r ≡ found (now (serial .entry)) (now (live .entry)) id ⌝ }
+pub fn taken(at: usize) -> Slot
+    ensures { λ r. ⌜ r ≡ slot at OK ⌝ }
+{
+    Slot {
+        at: at,
+        status: scope::OK,
+    }
+}
+
+pub fn refused(status: u32) -> Slot
+    ensures { λ r. ⌜ r ≡ slot 0 status ⌝ }
+{
+    Slot {
+        at: 0,
+        status: status,
+    }
+}
+
+// The slot that an identifier names, or its refusal.
+pub fn find<'a>(serial: &'a [u16], live: &'a [bool], id: u32) -> Slot
+    ensures { λ r. ⌜ r ≡ slotOf (found (now (serial .entry)) (now (live .entry)) id) ⌝ }
+    ensures { λ r. ⌜ (0 < length (now (serial .entry)) → r .at < length (now (serial .entry))) ⌝ }
 {
     let slot = (id % 64) as usize;
     let issue = id / 64;
     if serial.len() <= slot {
-        return Found::Invalid;
+        return refused(scope::INVALID_ID);
     }
     if issue == 0 {
-        return Found::Invalid;
+        return refused(scope::INVALID_ID);
     }
     let last = wide(serial[slot]);
     if last < issue {
-        return Found::Invalid;
+        return refused(scope::INVALID_ID);
     }
     if flag(live, slot) {
         if last == issue {
-            return Found::At(slot);
+            return taken(slot);
         }
-        return Found::Deleted;
+        return refused(scope::OBJECT_DELETED);
     }
-    Found::Deleted
+    refused(scope::OBJECT_DELETED)
 }
 
 // 1 where the slot is free and has a serial left, else 0.

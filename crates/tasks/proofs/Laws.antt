@@ -1,7 +1,7 @@
 -- What each task call answers, over any state, by what its code found: a slot or a refusal, flags, seats; each law follows the
 -- definition's tests in order. And whether a slot lies in the table, and whether a task is ready.
 -- Assumes nothing.
-use Prim.Native.Nat.{ℕ, _+_, _-_, _≤_, _<_}
+use Prim.Native.Nat.{ℕ, _+_, _≤_, _<_}
 use native.Mathlib.Omega.{arith}
 use mathlib.Core.Path.{_≡_, refl, sym, ap, _∙_}
 use mathlib.Core.Bool.{Bool, true, false, not}
@@ -15,14 +15,13 @@ use Rattle.scope.specs.declared.Tasks.{Tasks}
 use Rattle.scope.specs.declared.Answer.{Answer}
 use Rattle.scope.specs.declared.Found.{Found}
 use Rattle.scope.specs.declared.Found.the-variants.{At, Invalid}
-use Rattle.scope.specs.Choice.{pick}
 use Rattle.scope.specs.Identifiers.{identifier, found, lowestUsable}
 use Rattle.scope.specs.Seats.{leaves, becomesReady, ringsLeft, ringsReady, waitsOn, maskOf, runnerOf}
 use Rattle.scope.specs.Views.{withTasks, withSeats, withWait, isReady, readyWith}
-use Rattle.scope.specs.Answers.{noWakes, plain}
+use Rattle.scope.specs.Answers.{noWakes}
 use Rattle.scope.specs.Tasks.{taskFound, taskBorn, taskGone, withStarted, withSuspended, withPriority, taskCreateAt, taskCreate, taskDeleteAt, taskStartAt}
 use Rattle.scope.specs.Tasks.{taskSuspendAt, taskResumeAt, taskSetPriorityAt}
-use Rattle.laws.proofs.Branches.{pick-yes, pick-no, picked-yes, picked-no, first-fails, second-fails}
+use Rattle.laws.proofs.Branches.{pick-yes, pick-no, first-fails, second-fails}
 use Rattle.answers.specs.declared.Outcome.{Outcome}
 use Rattle.answers.specs.Outcomes.{answerOf, outcome}
 use Rattle.answers.specs.Columns.{stateOf}
@@ -48,22 +47,6 @@ module _ (started suspended : Bool) (x : ℕ) where
   pub ready-unless-waits : {w : Bool} → not started ≡ false → suspended ≡ false → w ≡ waitsOn x → not w ≡ readyWith started suspended x
   unfolding readyWith
   ready-unless-waits n e f = rw (not-false started n, e, f)
-
--- r is a slot below 32, or 32 and a refusal's status: what is so found
-module _ (s : State) (x : Answer) {r : ℕ} {o : Answer} where
-  pub slot-told : (status : ℕ) → r ≡ 32 + status → o ≡ plain s status → o ≡ pick (leb 32 r) (plain s (r - 32)) x
-  slot-told status e p = pick-yes _ _ _ (le-leb 32 r (omega arith)) (p ∙ ap (plain s) (omega arith))
-
-  pub slot-given : r < 32 → o ≡ x → o ≡ pick (leb 32 r) (plain s (r - 32)) x
-  slot-given h p = pick-no _ _ _ (lt-leb 32 r h) p
-
--- and what is answered by it
-module _ (s : State) (x : Answer) {r : ℕ} {o : Answer} (found : o ≡ pick (leb 32 r) (plain s (r - 32)) x) where
-  pub refuses : {p : Outcome} → 32 ≤ r → p ≡ outcome (r - 32) 0 0 0 0 false (s .running) → answerOf s noWakes p ≡ o
-  refuses h e = plain-of s _ _ _ e ∙ sym (found ∙ picked-yes _ _ _ (le-leb 32 r h))
-
-  pub allows : {a : Answer} → r < 32 → a ≡ x → a ≡ o
-  allows h p = p ∙ sym (found ∙ picked-no _ _ _ (lt-leb 32 r h))
 
 -- what an identifier names: 0 is SELF, if anything runs; any other is looked up
 module _ (s : State) (id : ℕ) where

@@ -2,38 +2,33 @@
 // Each call is lent the columns it reads or changes, and changes them where they lie. (scope's specs/Tasks.antt.)
 // Where an argument has a column's name, the column's is in the plural.
 use answers::Outcome;
-use scope::Found;
+use tables::Slot;
 ghost use mathlib.Core.Path.{_≡_};
-ghost use Prim.Native.Nat.{ℕ, _-_};
-ghost use lib.Dec.{leb};
+ghost use Prim.Native.Nat.{_<_};
 ghost use Rattle.scope.specs.declared.State.{State};
-ghost use Rattle.scope.specs.declared.Answer.{Answer};
-ghost use Rattle.scope.specs.Choice.{pick};
-ghost use Rattle.scope.specs.Answers.{noWakes, plain, onFound};
+ghost use Rattle.scope.specs.Answers.{noWakes};
 ghost use Rattle.scope.specs.Views.{readyWith};
 ghost use Rattle.scope.specs.Tasks.{taskFound, taskCreate, taskDelete, taskIdent, taskStart, taskSuspend, taskResume, taskSetPriority};
 ghost use Rattle.answers.specs.Outcomes.{answerOf};
 ghost use Rattle.answers.specs.Columns.{lentTasks};
+ghost use Rattle.tables.specs.Slots.{slotOf};
 
 // "16 priorities (0 to 15, 15 most urgent)"
 const LAST_PRIORITY: u32 = 15;
 
-// The slot of the task that the identifier names; where it names none, 32 and the refusal's status. 0 is SELF, the caller.
-fn slot<'a>(serial: &'a [u16; 32], live: &'a [bool; 32], running: usize, id: u32) -> u32
-    ensures { λ r. ⌜ ((s : State) (f : ℕ → Answer) → s .tasks .serial ≡ now (serial .entry) → s .tasks .live ≡ now (live .entry) → s .running ≡ running
-        → onFound (taskFound s id) s f ≡ pick (leb 32 r) (plain s (r - 32)) (f r)) ⌝ }
+// The task an identifier names; 0 is SELF, the caller.
+fn named<'a>(serial: &'a [u16; 32], live: &'a [bool; 32], running: usize, id: u32) -> Slot
+    ensures { λ r. ⌜ ((s : State) → s .tasks .serial ≡ now (serial .entry) → s .tasks .live ≡ now (live .entry) → s .running ≡ running
+        → r ≡ slotOf (taskFound s id)) ⌝ }
+    ensures { λ r. ⌜ r .at < 32 ⌝ }
 {
     if id == 0 {
         if running < 32 {
-            return running as u32;
+            return tables::taken(running);
         }
-        return 32 + scope::INVALID_ID;
+        return tables::refused(scope::INVALID_ID);
     }
-    match tables::find(serial, live, id) {
-        Found::At(t) => t as u32,
-        Found::Deleted => 32 + scope::OBJECT_DELETED,
-        Found::Invalid => 32 + scope::INVALID_ID,
-    }
+    tables::find(serial, live, id)
 }
 
 pub fn task_create(
@@ -89,11 +84,11 @@ pub fn task_delete(
         ≡ taskDelete (lentTasks s (now (left .entry)) (now (seat .entry)) (now (joined .entry)) (now (rings .entry)) (now (name .entry)) (now (serial .entry))
         (now (live .entry)) (now (started .entry)) (now (suspended .entry)) (now (priority .entry)) running) id) ⌝ }
 {
-    let found = slot(serial, live, running, id);
-    if 32 <= found {
-        return answers::plain(found - 32, running);
+    let f = named(serial, live, running, id);
+    if f.status != scope::OK {
+        return answers::plain(f.status, running);
     }
-    let t = found as usize;
+    let t = f.at;
     name[t] = 0;
     live[t] = false;
     started[t] = false;
@@ -140,11 +135,11 @@ pub fn task_start<'a>(
         ≡ taskStart (lentTasks s (s .line .left) (now (seat .entry)) (now (joined .entry)) (now (rings .entry)) (s .tasks .name) (now (serial .entry))
         (now (live .entry)) (now (started .entry)) (s .tasks .suspended) (now (priority .entry)) running) id) ⌝ }
 {
-    let found = slot(serial, live, running, id);
-    if 32 <= found {
-        return answers::plain(found - 32, running);
+    let f = named(serial, live, running, id);
+    if f.status != scope::OK {
+        return answers::plain(f.status, running);
     }
-    let t = found as usize;
+    let t = f.at;
     if started[t] {
         return answers::plain(scope::TASK_ALREADY_STARTED, running);
     }
@@ -169,11 +164,11 @@ pub fn task_suspend<'a>(
         ≡ taskSuspend (lentTasks s (s .line .left) (now (seat .entry)) (s .line .joined) (now (rings .entry)) (s .tasks .name) (now (serial .entry))
         (now (live .entry)) (now (started .entry)) (now (suspended .entry)) (s .tasks .priority) running) id) ⌝ }
 {
-    let found = slot(serial, live, running, id);
-    if 32 <= found {
-        return answers::plain(found - 32, running);
+    let f = named(serial, live, running, id);
+    if f.status != scope::OK {
+        return answers::plain(f.status, running);
     }
-    let t = found as usize;
+    let t = f.at;
     if !started[t] {
         return answers::plain(scope::TASK_NOT_STARTED, running);
     }
@@ -207,11 +202,11 @@ pub fn task_resume<'a>(
         ≡ taskResume (lentTasks s (s .line .left) (now (seat .entry)) (now (joined .entry)) (now (rings .entry)) (s .tasks .name) (now (serial .entry))
         (now (live .entry)) (now (started .entry)) (now (suspended .entry)) (now (priority .entry)) running) id) ⌝ }
 {
-    let found = slot(serial, live, running, id);
-    if 32 <= found {
-        return answers::plain(found - 32, running);
+    let f = named(serial, live, running, id);
+    if f.status != scope::OK {
+        return answers::plain(f.status, running);
     }
-    let t = found as usize;
+    let t = f.at;
     if !started[t] {
         return answers::plain(scope::TASK_NOT_STARTED, running);
     }
@@ -265,11 +260,11 @@ pub fn task_set_priority<'a>(
         ≡ taskSetPriority (lentTasks s (s .line .left) (now (seat .entry)) (now (joined .entry)) (now (rings .entry)) (s .tasks .name) (now (serial .entry))
         (now (live .entry)) (now (started .entry)) (now (suspended .entry)) (now (priorities .entry)) running) id priority) ⌝ }
 {
-    let found = slot(serial, live, running, id);
-    if 32 <= found {
-        return answers::plain(found - 32, running);
+    let f = named(serial, live, running, id);
+    if f.status != scope::OK {
+        return answers::plain(f.status, running);
     }
-    let t = found as usize;
+    let t = f.at;
     if LAST_PRIORITY < priority {
         return answers::plain(scope::INVALID_PRIORITY, running);
     }

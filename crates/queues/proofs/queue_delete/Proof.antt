@@ -3,7 +3,8 @@
 use denote.Ref.{now}
 use Rattle.answers.specs.Columns.{lentQueues}
 use Rattle.answers.proofs.Outcomes.{plain-of}
-use Rattle.queues.proofs.Laws.{slot-found, slot-refused, all-woken}
+use Rattle.queues.proofs.Laws.{all-woken}
+use Rattle.tables.proofs.Slots.{slot-found, slot-refused}
 use Rattle.scope.specs.Queues.{queueDeleteAt}
 use borrow.Author.Needs.{needs}
 use Rattle.queues.proofs.queue_delete.Statement.{statement}

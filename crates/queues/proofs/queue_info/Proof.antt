@@ -6,7 +6,7 @@ use denote.Ref.{now}
 use Rattle.answers.specs.Columns.{lentQueues}
 use Rattle.answers.proofs.Outcomes.{plain-of, tells-of}
 use Rattle.laws.proofs.Seats.Counting.{standing-le}
-use Rattle.queues.proofs.Laws.{slot-found, slot-refused}
+use Rattle.tables.proofs.Slots.{slot-found, slot-refused}
 use Rattle.scope.specs.Queues.{queueInfoAt}
 use borrow.Author.Needs.{needs}
 use Rattle.queues.proofs.queue_info.Statement.{statement}

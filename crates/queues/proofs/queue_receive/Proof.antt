@@ -5,7 +5,8 @@ use mathlib.Core.Path.{refl, _∙_}
 use denote.Ref.{now}
 use Rattle.answers.specs.Columns.{lentQueues}
 use Rattle.answers.proofs.Outcomes.{plain-of, none-shown}
-use Rattle.queues.proofs.Laws.{slot-found, slot-refused, receive-refused, receive-taken, receive-waits}
+use Rattle.queues.proofs.Laws.{receive-refused, receive-taken, receive-waits}
+use Rattle.tables.proofs.Slots.{slot-found, slot-refused}
 use Rattle.scope.specs.Queues.{queueReceiveAt}
 use borrow.Author.Needs.{needs}
 use Rattle.queues.proofs.queue_receive.Statement.{statement}

@@ -4,7 +4,8 @@ use native.Mathlib.Omega.{arith}
 use denote.Ref.{now}
 use Rattle.answers.specs.Columns.{lentSemaphores}
 use Rattle.answers.proofs.Outcomes.{plain-of}
-use Rattle.semaphores.proofs.Laws.{slot-found, slot-refused, claim-refused, claim-taken, claim-waits}
+use Rattle.semaphores.proofs.Laws.{claim-refused, claim-taken, claim-waits}
+use Rattle.tables.proofs.Slots.{slot-found, slot-refused}
 use Rattle.scope.specs.Semaphores.{semClaimAt}
 use borrow.Author.Needs.{needs}
 use Rattle.semaphores.proofs.sem_claim.Statement.{statement}

@@ -3,7 +3,8 @@
 use denote.Ref.{now}
 use Rattle.answers.specs.Columns.{lentSemaphores}
 use Rattle.answers.proofs.Outcomes.{plain-of}
-use Rattle.semaphores.proofs.Laws.{slot-found, slot-refused, all-woken}
+use Rattle.semaphores.proofs.Laws.{all-woken}
+use Rattle.tables.proofs.Slots.{slot-found, slot-refused}
 use Rattle.scope.specs.Semaphores.{semDeleteAt}
 use borrow.Author.Needs.{needs}
 use Rattle.semaphores.proofs.sem_delete.Statement.{statement}

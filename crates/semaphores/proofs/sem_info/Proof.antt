@@ -5,7 +5,8 @@ use native.Mathlib.Omega.{arith}
 use denote.Ref.{now}
 use Rattle.answers.specs.Columns.{lentSemaphores}
 use Rattle.answers.proofs.Outcomes.{plain-of, tells-of}
-use Rattle.semaphores.proofs.Laws.{few, slot-found, slot-refused, info-below, info-above}
+use Rattle.semaphores.proofs.Laws.{few, info-below, info-above}
+use Rattle.tables.proofs.Slots.{slot-found, slot-refused}
 use Rattle.scope.specs.Semaphores.{semInfoAt}
 use borrow.Author.Needs.{needs}
 use Rattle.semaphores.proofs.sem_info.Statement.{statement}

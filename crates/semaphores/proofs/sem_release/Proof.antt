@@ -3,7 +3,8 @@
 use denote.Ref.{now}
 use Rattle.answers.specs.Columns.{lentSemaphores}
 use Rattle.answers.proofs.Outcomes.{plain-of}
-use Rattle.semaphores.proofs.Laws.{slot-found, slot-refused, release-wakes, release-full, release-more}
+use Rattle.semaphores.proofs.Laws.{release-wakes, release-full, release-more}
+use Rattle.tables.proofs.Slots.{slot-found, slot-refused}
 use Rattle.scope.specs.Semaphores.{semReleaseAt}
 use borrow.Author.Needs.{needs}
 use Rattle.semaphores.proofs.sem_release.Statement.{statement}
