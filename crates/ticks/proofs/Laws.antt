@@ -3,18 +3,20 @@
 use Prim.Native.Nat.{ℕ, zero, suc, _+_, _-_, _≤_, _<_}
 use native.Mathlib.Omega.{arith}
 use native.Mathlib.Numerals.{add-one}
-use mathlib.Core.Path.{_≡_, refl, _∙_}
+use mathlib.Core.Path.{_≡_, refl, ap, _∙_}
+use mathlib.Core.Logic.{⊎-elim}
 use mathlib.Core.Bool.{Bool, true, false}
 use mathlib.Core.List.{List}
 use lib.ListN.{getD}
 use lib.Dec.{eqb}
 use Rattle.laws.proofs.Arrays.{Changing, mapping-done}
-use Rattle.laws.proofs.Branches.{picked-yes, picked-no, second-fails}
+use Rattle.laws.proofs.Branches.{eq-or-not, picked-yes, picked-no, second-fails}
 use Rattle.scope.specs.declared.Line.{Line}
 use Rattle.scope.specs.declared.Tasks.{Tasks}
 use Rattle.scope.specs.declared.Waking.{Waking}
 use Rattle.scope.specs.Seats.{waitsOn}
 use Rattle.scope.specs.Choice.{pick}
+use Rattle.scope.specs.Answers.{bitOf}
 use Rattle.scope.specs.Waiting.{wakeNext}
 use Rattle.scope.specs.Ticks.{timeLeft, timesLeft, isDue, wakeDue}
 
@@ -22,6 +24,21 @@ use Rattle.scope.specs.Ticks.{timeLeft, timesLeft, isDue, wakeDue}
 pub times-done : (left r : List ℕ) (k : ℕ) → 32 ≤ k → Changing 32 (λ j. timeLeft) left r k → r ≡ timesLeft left
 unfolding timesLeft
 times-done left r k h m = mapping-done 32 timeLeft left r k h m
+
+-- what a place counts: one at most; and where none was counted before and place k counts nothing, none is up to k
+pub counts-one : (x : Bool) → bitOf x ≤ 1
+unfolding bitOf pick
+counts-one true = omega arith
+counts-one false = omega arith
+
+counts-none : (x : Bool) → bitOf x ≡ 0 → x ≡ false
+unfolding bitOf pick
+counts-none true e = absurd (omega (arith, e))
+counts-none false e = refl
+
+pub none-counted : (p : ℕ → Bool) (k last b : ℕ) → (last ≡ 0 → (j : ℕ) → j < k → p j ≡ false) → b ≡ bitOf (p k) → last + b ≡ 0 → (j : ℕ) → j < k + 1 → p j ≡ false
+none-counted p k last b before counts none j h =
+    ⊎-elim (λ e. ap p e ∙ counts-none (p k) (omega (arith, none, counts))) (λ ne. before (omega (arith, none)) j (omega arith)) (eq-or-not j k)
 
 -- The tasks below t are looked at: no more are woken, and the rest of the work gives what the whole gives.
 abbrev pub Looked : Tasks → Line → Waking → Waking → ℕ → Type 0

@@ -15,22 +15,23 @@ ghost use Rattle.scope.specs.Ticks.{timesLeft, wakeDue, tick};
 ghost use Rattle.answers.specs.Outcomes.{answerOf};
 ghost use Rattle.answers.specs.Columns.{lineOf, wakers, wakingOf, lentLine};
 
-// The time_outs when one is taken from each that runs, and whether any of them was the last one.
+// The time_outs when one is taken from each that runs, and from how many it was the last one.
 struct Taken {
     left: [u32; 32],
-    last: bool,
+    last: u32,
 }
 
-// Both in one pass without a branch: most ticks wake nobody, and are told so by the time_outs alone.
+// Both in one pass without a branch: most ticks wake nobody, and are told so by the time_outs alone. They are counted in a number as wide as
+// a time_out, which the compiler adds up where it compares.
 fn take_one(left: [u32; 32]) -> Taken
-    ensures { λ r. ⌜ (r .left ≡ timesLeft left) × (r .last ≡ false → (t : ℕ) → t < 32 → eqb (getD left t 0) 1 ≡ false) ⌝ }
+    ensures { λ r. ⌜ (r .left ≡ timesLeft left) × (r .last ≡ 0 → (t : ℕ) → t < 32 → eqb (getD left t 0) 1 ≡ false) ⌝ }
 {
     let mut r = left;
-    let mut last = false;
+    let mut last: u32 = 0;
     let mut k: usize = 0;
     while k < 32 {
         let x = r[k];
-        last = last | (x == 1);
+        last = last + answers::bit(x == 1);
         r[k] = times::time_left(x);
         k += 1;
     }
@@ -148,7 +149,7 @@ pub fn tick(
     *wakes = [0; 32];
     let taken = take_one(*left);
     let after = taken.left;
-    if !taken.last {
+    if taken.last == 0 {
         *left = after;
         return answers::woke(0, scope::TIME_OUT, seats::runner(seat, rings[0]));
     }

@@ -1,7 +1,6 @@
 -- `ticks::tick`: one is taken from each; nobody had one left, so nobody was due, or those who were are woken.
 -- Assumes nothing.
 use borrow.Author.Needs.{needs}
-use borrow.Author.Tests.{not-true}
 use Rattle.answers.proofs.Outcomes.{woke-moved}
 use Rattle.scope.specs.Ticks.{tick}
 use Rattle.ticks.proofs.Laws.{none-due}
@@ -22,7 +21,7 @@ woke-requires c κs = search needs
 
 returns : tie.Need-returns
 unfolding tick
-returns c = λ s running. woke-moved _ _ _ _ _ _ _ _ _ _ _ _ (c .woke .ensures) (c .before .runner .ensures) (rw (← c .before .before .before .before .before .before .before .take-one .ensures .0) (none-due _ _ _ 32 0 (c .before .before .before .before .before .before .before .take-one .ensures .1 (not-true _ (c .before .before .before .before .if1 .taken)))))
+returns c = λ s running. woke-moved _ _ _ _ _ _ _ _ _ _ _ _ (c .woke .ensures) (c .before .runner .ensures) (rw (← c .before .before .before .before .before .before .before .take-one .ensures .0) (none-due _ _ _ 32 0 (c .before .before .before .before .before .before .before .take-one .ensures .1 (c .before .before .before .before .if1 .taken))))
 
 wake-due-requires : tie.Need-wake-due-requires
 wake-due-requires c κs = search needs
