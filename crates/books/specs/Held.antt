@@ -8,6 +8,7 @@ use lib.Dec.{ltb, eqb}
 use Rattle.scope.specs.Choice.{pick}
 use Rattle.scope.specs.Lists.{without}
 use Rattle.scope.specs.Statuses.{OK}
+use Rattle.scope.specs.Options.{FORCED-DELETE}
 use Rattle.books.specs.Past.{Turn, isAnswerOf, value, creates, times}
 
 -- what the creation of pool id asked for
@@ -25,7 +26,7 @@ sizeIn (x ∷ past) id = pick (creates 14 id x) (x .event .d) (sizeIn past id)
 
 abbrev pub isForced : List Turn → ℕ → Bool
 isForced [] id = false
-isForced (x ∷ past) id = pick (creates 14 id x) (eqb (x .event .e) 1) (isForced past id)
+isForced (x ∷ past) id = pick (creates 14 id x) (eqb (x .event .e) FORCED-DELETE) (isForced past id)
 
 -- "Buffers = length ÷ size, rounded down"
 abbrev pub buffersIn : List Turn → ℕ → ℕ

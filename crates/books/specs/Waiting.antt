@@ -12,6 +12,7 @@ use lib.Dec.{eqb}
 use Rattle.scope.specs.Choice.{pick}
 use Rattle.scope.specs.Lists.{keep}
 use Rattle.scope.specs.Statuses.{OK, PENDING}
+use Rattle.scope.specs.Options.{FIFO}
 use Rattle.scope.specs.Replies.{Wake}
 use Rattle.histories.specs.History.{Event}
 use Rattle.books.specs.Past.{Turn, isAnswer, isAnswerOf, creates, runningIn, times}
@@ -48,7 +49,7 @@ initialCount (x ∷ past) id = pick (creates 8 id x) (x .event .b) (initialCount
 -- FIFO is the creation's option bit
 abbrev pub fifoOf : Kind → List Turn → ℕ → Bool
 fifoOf kind [] id = false
-fifoOf kind (x ∷ past) id = pick (creates (creation kind) id x) (eqb (optionsOf kind (x .event)) 1) (fifoOf kind past id)
+fifoOf kind (x ∷ past) id = pick (creates (creation kind) id x) (eqb (optionsOf kind (x .event)) FIFO) (fifoOf kind past id)
 
 abbrev pub isFifo : List Turn → ℕ → Bool
 isFifo = fifoOf aSemaphore

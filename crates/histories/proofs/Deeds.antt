@@ -32,7 +32,8 @@ use Rattle.scope.specs.Answers.{noMessage, answer, plain, gives, badState, show
 use Rattle.scope.specs.Tasks.{lastPriority, taskFound, taskBorn, taskGone, withStarted, withSuspended, withPriority, readied}
 use Rattle.scope.specs.Tasks.{taskCreateAt, taskCreate, taskDeleteAt, taskDelete, taskIdentAt, taskIdent, taskStartAt, taskStart, taskSuspendAt, taskSuspend, taskResumeAt, taskResume, taskSetPriorityAt, taskSetPriority}
 use Rattle.scope.specs.Waiting.{isTimeOut, wakeNext, noneWoken, waits}
-use Rattle.scope.specs.Semaphores.{lastCount, lastOption, semFound, semBorn, withUnits}
+use Rattle.scope.specs.Semaphores.{lastCount, semFound, semBorn, withUnits}
+use Rattle.scope.specs.Options.{lastOption}
 use Rattle.scope.specs.Semaphores.{semCreateAt, semCreate, semDeleteAt, semDelete, semIdentAt, semIdent, semWaitAt, semClaimAt, semClaim, semReleaseAt, semRelease, semInfoAt, semInfo}
 use Rattle.scope.specs.Pools.{poolFound, poolBuffers, poolRow, poolFree, overlapped, poolBorn, poolGone, withOut}
 use Rattle.scope.specs.Pools.{poolCreateAt, poolCreate, poolDeleteAt, poolDelete, poolIdentAt, poolIdent, poolGetBuffer, poolGetBuffAt, poolGetBuff, poolRetBuffer, poolRetBuffAt, poolRetBuff, poolInfoAt, poolInfo}

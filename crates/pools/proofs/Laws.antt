@@ -14,7 +14,7 @@ use Rattle.scope.specs.declared.Answer.{Answer}
 use Rattle.scope.specs.Choice.{pick}
 use Rattle.scope.specs.Areas.{isArea, isSize, buffersOf, isFree, isOut, freeOf, bufferAddress, bufferAt}
 use Rattle.scope.specs.Places.{rowOf, withRow, longestFree, firstLeaves, joinsLast, newRow, noRow}
-use Rattle.scope.specs.Semaphores.{lastOption}
+use Rattle.scope.specs.Options.{lastOption}
 use Rattle.scope.specs.Identifiers.{identifier, lowestUsable}
 use Rattle.scope.specs.Views.{withPools}
 use Rattle.scope.specs.Answers.{noWakes, plain, gives, bitOf}

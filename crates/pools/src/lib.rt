@@ -12,7 +12,7 @@ ghost use Rattle.scope.specs.Choice.{pick};
 ghost use Rattle.scope.specs.Statuses.{OK, INVALID-PARAMETER, INVALID-OPTIONS, INVALID-BUFF-SIZE};
 ghost use Rattle.scope.specs.Identifiers.{identifier, found};
 ghost use Rattle.scope.specs.Areas.{isArea, isSize, isOut, isFree};
-ghost use Rattle.scope.specs.Semaphores.{lastOption};
+ghost use Rattle.scope.specs.Options.{FORCED-DELETE, lastOption};
 ghost use Rattle.scope.specs.Views.{withPools};
 ghost use Rattle.scope.specs.Answers.{noWakes, plain, gives};
 ghost use Rattle.scope.specs.Pools.{poolBorn, poolCreate, poolDelete, poolIdent, poolGetBuff, poolRetBuff, poolInfo};
@@ -31,7 +31,7 @@ fn refusal(address: u32, length: u32, size: u32, options: u32) -> u32
     if !areas::is_size(length, size) {
         return scope::INVALID_BUFF_SIZE;
     }
-    if 1 < options {
+    if scope::LAST_OPTION < options {
         return scope::INVALID_OPTIONS;
     }
     scope::OK
@@ -50,7 +50,7 @@ fn room<'a>(
 ) -> Slot
     ensures tells { λ r. ⌜ ((s : State) (name : ℕ) → s .pools .address ≡ now (addresses .entry) → s .pools .length ≡ now (lengths .entry)
         → s .pools .serial ≡ now (serial .entry) → s .pools .live ≡ now (live .entry) → poolCreate s name address length size options
-        ≡ pick (eqb (r .status) OK) (gives (withPools s (poolBorn (s .pools) (r .at) name address length size (eqb options 1)))
+        ≡ pick (eqb (r .status) OK) (gives (withPools s (poolBorn (s .pools) (r .at) name address length size (eqb options FORCED-DELETE)))
         (identifier (getD (s .pools .serial) (r .at) 0 + 1) (r .at))) (plain s (r .status))) ⌝ }
     ensures left { λ r. ⌜ (r .at < 8) × (r .status ≡ OK → getD (now (serial .entry)) (r .at) 0 < 65535) ⌝ }
 {
@@ -112,7 +112,7 @@ pub fn pool_create(
     sizes[i] = size;
     serial[i] = next;
     live[i] = true;
-    forced[i] = options == 1;
+    forced[i] = options == scope::FORCED_DELETE;
     let row = places::new_row(areas::buffers_of(length, size) as usize);
     places::put_row(place, i, row);
     answers::gives(tables::identifier(next, i), running)

@@ -22,7 +22,7 @@ use Rattle.scope.specs.Objects.{queueObject}
 use Rattle.scope.specs.Identifiers.{identifier, lowestUsable}
 use Rattle.scope.specs.Answers.{noWakes, noMessage, plain, gives, shows, onFound}
 use Rattle.scope.specs.Waiting.{waits, isTimeOut, wakeAll, noneWoken}
-use Rattle.scope.specs.Semaphores.{lastOption}
+use Rattle.scope.specs.Options.{lastOption}
 use Rattle.scope.specs.Views.{withLine, withQueues}
 use Rattle.scope.specs.Queues.{areLimits, fitsQueue, storeOf, withStore, firstReceiver, queueBorn, mostOf, heldOf, longestOf}
 use Rattle.scope.specs.Queues.{queueCreate, queueCreateAt, queueGone, queueDeleteAt, queuePutAt, queueWaitAt, queueReceiveAt}

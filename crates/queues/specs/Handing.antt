@@ -16,7 +16,7 @@ use Rattle.scope.specs.Objects.{queueObject}
 use Rattle.scope.specs.Answers.{deliversTo}
 use Rattle.scope.specs.Messages.{shownOf}
 use Rattle.scope.specs.Waiting.{wakeNext, noneWoken, isTimeOut}
-use Rattle.scope.specs.Semaphores.{lastOption}
+use Rattle.scope.specs.Options.{NOWAIT, lastOption}
 use Rattle.scope.specs.Queues.{areLimits, fitsQueue}
 use Rattle.tables.specs.declared.Slot.{Slot}
 use Rattle.tables.specs.Slots.{slot}
@@ -51,4 +51,4 @@ unfoldable pub receiveStatus : ℕ → ℕ → ℕ → ℕ → ℕ
 receiveStatus holds options ticks running =
     pick (ltb lastOption options) INVALID-OPTIONS
     (pick (eqb options 0 && not (isTimeOut ticks)) INVALID-PARAMETER
-    (pick (ltb 0 holds) OK (pick (eqb options 1) QUEUE-EMPTY (pick (leb 32 running) NO-CALLER PENDING))))
+    (pick (ltb 0 holds) OK (pick (eqb options NOWAIT) QUEUE-EMPTY (pick (leb 32 running) NO-CALLER PENDING))))

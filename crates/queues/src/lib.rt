@@ -40,7 +40,7 @@ fn room<'a>(
     if !messages::are_limits(most, longest) {
         return tables::refused(scope::INVALID_PARAMETER);
     }
-    if 1 < options {
+    if scope::LAST_OPTION < options {
         return tables::refused(scope::INVALID_OPTIONS);
     }
     let i = tables::lowest_usable(serial, live);
@@ -78,7 +78,7 @@ pub fn queue_create(
     name[i] = what;
     serial[i] = next;
     live[i] = true;
-    fifo[i] = options == 1;
+    fifo[i] = options == scope::FIFO;
     limits[2 * i] = most as u8;
     limits[2 * i + 1] = longest as u8;
     answers::gives(tables::identifier(next, i), running)
@@ -382,7 +382,7 @@ fn receive_status(holds: u8, options: u32, ticks: u32, running: usize) -> u32
     ensures { λ r. ⌜ r ≡ receiveStatus holds options ticks running ⌝ }
     ensures { λ r. ⌜ (r ≡ 1 → running < 32) ⌝ }
 {
-    if 1 < options {
+    if scope::LAST_OPTION < options {
         return scope::INVALID_OPTIONS;
     }
     if times::lacks_time_out(options, ticks) {
@@ -391,7 +391,7 @@ fn receive_status(holds: u8, options: u32, ticks: u32, running: usize) -> u32
     if 0 < holds {
         return scope::OK;
     }
-    if options == 1 {
+    if options == scope::NOWAIT {
         return scope::QUEUE_EMPTY;
     }
     if 32 <= running {

@@ -14,7 +14,7 @@ use Rattle.scope.specs.Identifiers.{identifier, found, lowestUsable, byN
 use Rattle.scope.specs.Statuses.{OK, INVALID-PARAMETER, INVALID-OPTIONS, TOO-MANY-OBJECTS, NAME-NOT-FOUND, INVALID-BUFF-SIZE, POOL-OVERLAP, POOL-IN-USE, NO-MORE-MEMORY, INVALID-BUFF}
 use Rattle.scope.specs.Areas.{isArea, isSize, buffersOf, shareByte, isOut, isFree, freeOf, bufferAddress, bufferAt}
 use Rattle.scope.specs.Places.{rowOf, withRow, longestFree, firstLeaves, joinsLast, newRow, noRow}
-use Rattle.scope.specs.Semaphores.{lastOption}
+use Rattle.scope.specs.Options.{FORCED-DELETE, lastOption}
 use Rattle.scope.specs.Views.{withPools}
 use Rattle.scope.specs.Answers.{bitOf, answer, plain, gives, onFound}
 
@@ -82,7 +82,7 @@ unfoldable pub poolCreateAt : State → ℕ → ℕ → ℕ → ℕ → ℕ → 
 poolCreateAt s name address length size options i =
     pick (leb 8 i) (plain s TOO-MANY-OBJECTS)
     (pick (ltb (overlapped (s .pools) address length) 8) (plain s POOL-OVERLAP)
-    (gives (withPools s (poolBorn (s .pools) i name address length size (eqb options 1)))
+    (gives (withPools s (poolBorn (s .pools) i name address length size (eqb options FORCED-DELETE)))
     (identifier (getD (s .pools .serial) i 0 + 1) i)))
 
 unfoldable pub poolCreate : State → ℕ → ℕ → ℕ → ℕ → ℕ → Answer

@@ -19,7 +19,7 @@ use Rattle.scope.specs.Views.{withLine, withQueues, waitersOf}
 use Rattle.scope.specs.Answers.{bitOf, answer, plain, gives, shows, wakesWith, deliversTo, onFound}
 use Rattle.scope.specs.Messages.{Store, store, cellOf, shownOf, cellsOf, firstLength, firstShown, appended, pushed, taken, cleared}
 use Rattle.scope.specs.Waiting.{isTimeOut, waits, wakeNext, noneWoken, wakeAll}
-use Rattle.scope.specs.Semaphores.{lastOption}
+use Rattle.scope.specs.Options.{FIFO, NOWAIT, lastOption}
 
 -- "most messages (1 to 16)"
 abbrev pub lastMost : ℕ
@@ -89,7 +89,7 @@ areLimits most longest = leb 1 most && (leb most lastMost && (leb 1 longest && l
 unfoldable pub queueCreateAt : State → ℕ → ℕ → ℕ → ℕ → ℕ → Answer
 queueCreateAt s name most longest options i =
     pick (leb (length (s .queues .serial)) i) (plain s TOO-MANY-OBJECTS)
-    (gives (withQueues s (queueBorn (s .queues) i name most longest (eqb options 1)))
+    (gives (withQueues s (queueBorn (s .queues) i name most longest (eqb options FIFO)))
     (identifier (getD (s .queues .serial) i 0 + 1) i))
 
 unfoldable pub queueCreate : State → ℕ → ℕ → ℕ → ℕ → Answer
@@ -150,7 +150,7 @@ queueReceiveAt s options ticks i =
     (pick (ltb 0 (heldOf (s .queues) i))
     (shows (withQueues s (withStore (s .queues) (taken (storeOf (s .queues)) i))) (firstLength (cellsOf (s .queues .cells) i))
     (firstShown (cellsOf (s .queues .cells) i)))
-    (pick (eqb options 1) (plain s QUEUE-EMPTY) (queueWaitAt s ticks i))))
+    (pick (eqb options NOWAIT) (plain s QUEUE-EMPTY) (queueWaitAt s ticks i))))
 
 -- "Info gives options, messages held, tasks waiting."
 unfoldable pub queueInfoAt : State → ℕ → Answer

@@ -12,6 +12,7 @@ use Rattle.scope.specs.Choice.{pick}
 use Rattle.scope.specs.Identifiers.{identifier, found, lowestUsable, byName}
 use Rattle.scope.specs.Statuses.{OK, PENDING, INVALID-PARAMETER, INVALID-OPTIONS, TOO-MANY-OBJECTS, NAME-NOT-FOUND, INVALID-COUNT}
 use Rattle.scope.specs.Statuses.{SEMAPHORE-NOT-AVAILABLE, SEMAPHORE-DELETED, SEMAPHORE-OVERFLOW, NO-CALLER}
+use Rattle.scope.specs.Options.{FIFO, NOWAIT, lastOption}
 use Rattle.scope.specs.Seats.{queueSeats, firstOf}
 use Rattle.scope.specs.Views.{withLine, withSemaphores, waitersOf, count}
 use Rattle.scope.specs.Answers.{bitOf, answer, plain, gives, wakesWith, onFound}
@@ -20,10 +21,6 @@ use Rattle.scope.specs.Waiting.{isTimeOut, waits, wakeNext, noneWoken, w
 -- the greatest count
 abbrev pub lastCount : ℕ
 lastCount = 32767
-
--- "Options are bit 0: FIFO, FORCED_DELETE, NOWAIT."
-abbrev pub lastOption : ℕ
-lastOption = 1
 
 abbrev pub semFound : State → ℕ → Found
 semFound s id = found (s .semaphores .serial) (s .semaphores .live) id
@@ -56,7 +53,7 @@ withUnits m i n = record { name = m .name; serial = m .serial; units = set (m .u
 unfoldable pub semCreateAt : State → ℕ → ℕ → ℕ → ℕ → Answer
 semCreateAt s name count options i =
     pick (leb (length (s .semaphores .serial)) i) (plain s TOO-MANY-OBJECTS)
-    (gives (withSemaphores s (semBorn (s .semaphores) i name count (eqb options 1)))
+    (gives (withSemaphores s (semBorn (s .semaphores) i name count (eqb options FIFO)))
     (identifier (getD (s .semaphores .serial) i 0 + 1) i))
 
 unfoldable pub semCreate : State → ℕ → ℕ → ℕ → Answer
@@ -94,7 +91,7 @@ unfoldable pub semClaimAt : State → ℕ → ℕ → ℕ → Answer
 semClaimAt s options ticks i =
     pick (ltb lastOption options) (plain s INVALID-OPTIONS)
     (pick (eqb options 0 && not (isTimeOut ticks)) (plain s INVALID-PARAMETER)
-    (pick (eqb options 1 && not (ltb 0 (getD (s .semaphores .units) i 0))) (plain s SEMAPHORE-NOT-AVAILABLE)
+    (pick (eqb options NOWAIT && not (ltb 0 (getD (s .semaphores .units) i 0))) (plain s SEMAPHORE-NOT-AVAILABLE)
     (pick (ltb 0 (getD (s .semaphores .units) i 0))
     (plain (withSemaphores s (withUnits (s .semaphores) i (getD (s .semaphores .units) i 0 - 1))) OK)
     (semWaitAt s ticks i))))

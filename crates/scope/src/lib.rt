@@ -72,6 +72,15 @@ pub const QUEUE_EMPTY: u32 = 29;
 
 pub const QUEUE_DELETED: u32 = 30;
 
+// "Options are bit 0". (specs/Options.antt.)
+pub const FIFO: u32 = 1;
+
+pub const FORCED_DELETE: u32 = 1;
+
+pub const NOWAIT: u32 = 1;
+
+pub const LAST_OPTION: u32 = 1;
+
 // Where each task stands, and what it waits with.
 // A seat is queue × 64 + place, place 1 first, 0 for a task that stands nowhere. Queue i + 1 is the wait queue of
 // semaphore i, queue i + 17 that of message queue i; queue 32 + p holds the ready tasks of priority p. So one number says

@@ -19,7 +19,8 @@ use Rattle.scope.specs.Seats.{standing, standsIn, firstOf, queueSeats, maskOf, 
 use Rattle.scope.specs.Views.{waitersOf, withLine, withSemaphores}
 use Rattle.scope.specs.Answers.{noWakes, bitOf, answer, plain, gives}
 use Rattle.scope.specs.Waiting.{waits, isTimeOut, wakeNext, wakeAll, noneWoken}
-use Rattle.scope.specs.Semaphores.{lastCount, lastOption, semBorn, semGone, withUnits, semCreate, semCreateAt, semDeleteAt, semClaimAt, semWaitAt, semReleaseAt, semInfoAt}
+use Rattle.scope.specs.Semaphores.{lastCount, semBorn, semGone, withUnits, semCreate, semCreateAt, semDeleteAt, semClaimAt, semWaitAt, semReleaseAt, semInfoAt}
+use Rattle.scope.specs.Options.{lastOption}
 use Rattle.scope.proofs.Counts.{less-below, less-above}
 use Rattle.answers.specs.declared.Outcome.{Outcome}
 use Rattle.answers.specs.Outcomes.{answerOf, outcome, woke}

@@ -10,7 +10,8 @@ use Rattle.scope.specs.Identifiers.{lowestUsable}
 use Rattle.scope.specs.Statuses.{OK, PENDING, INVALID-PARAMETER, INVALID-OPTIONS, INVALID-COUNT, TOO-MANY-OBJECTS}
 use Rattle.scope.specs.Statuses.{SEMAPHORE-NOT-AVAILABLE, NO-CALLER}
 use Rattle.scope.specs.Waiting.{isTimeOut}
-use Rattle.scope.specs.Semaphores.{lastCount, lastOption}
+use Rattle.scope.specs.Semaphores.{lastCount}
+use Rattle.scope.specs.Options.{NOWAIT, lastOption}
 use Rattle.tables.specs.declared.Slot.{Slot}
 use Rattle.tables.specs.Slots.{slot}
 
@@ -26,5 +27,5 @@ unfoldable pub claimStatus : ℕ → ℕ → ℕ → ℕ → ℕ
 claimStatus free options ticks running =
     pick (ltb lastOption options) INVALID-OPTIONS
     (pick (eqb options 0 && not (isTimeOut ticks)) INVALID-PARAMETER
-    (pick (eqb options 1 && not (ltb 0 free)) SEMAPHORE-NOT-AVAILABLE
+    (pick (eqb options NOWAIT && not (ltb 0 free)) SEMAPHORE-NOT-AVAILABLE
     (pick (ltb 0 free) OK (pick (leb 32 running) NO-CALLER PENDING))))

@@ -32,7 +32,7 @@ fn room<'a>(serial: &'a [u16; 16], live: &'a [bool; 16], count: u32, options: u3
     if 32767 < count {
         return tables::refused(scope::INVALID_COUNT);
     }
-    if 1 < options {
+    if scope::LAST_OPTION < options {
         return tables::refused(scope::INVALID_OPTIONS);
     }
     let i = tables::lowest_usable(serial, live);
@@ -71,7 +71,7 @@ pub fn sem_create(
     serial[i] = next;
     units[i] = count as u16;
     live[i] = true;
-    fifo[i] = options == 1;
+    fifo[i] = options == scope::FIFO;
     answers::gives(tables::identifier(next, i), running)
 }
 
@@ -153,7 +153,7 @@ fn claim_status(free: u16, options: u32, ticks: u32, running: usize) -> u32
     ensures { λ r. ⌜ r ≡ claimStatus free options ticks running ⌝ }
     ensures { λ r. ⌜ (r ≡ 0 → 0 < free) × (r ≡ 1 → running < 32) ⌝ }
 {
-    if 1 < options {
+    if scope::LAST_OPTION < options {
         return scope::INVALID_OPTIONS;
     }
     if times::lacks_time_out(options, ticks) {
@@ -162,7 +162,7 @@ fn claim_status(free: u16, options: u32, ticks: u32, running: usize) -> u32
     if 0 < free {
         return scope::OK;
     }
-    if options == 1 {
+    if options == scope::NOWAIT {
         return scope::SEMAPHORE_NOT_AVAILABLE;
     }
     if 32 <= running {
