@@ -62,6 +62,10 @@ static bool queues_are_one(const struct queue *one, const struct queue *other)
         && one->waiters.last == other->waiters.last;
 }
 
+/* A struct that grew has a field that the two above do not compare. */
+_Static_assert(sizeof(struct pool) == 88 && sizeof(struct queue) == 1047,
+               "every field is compared");
+
 /* Tables, tasks and rows have nothing between their fields. */
 static bool rows_are_one(const struct kernel *one, const struct kernel *other)
 {
