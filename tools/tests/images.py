@@ -109,7 +109,9 @@ def test_page_parts(bench):
     bench.equal("parts in docs/IMAGE.md", [
         [int(cell.replace(",", "")) for cell in row[1:]] for row in rows],
         parts)
-    bench.equal("the image's length", image.LENGTH, 9920)
+    bench.equal("where the parts begin, and the image's length",
+                [part[0] for part in parts] + [image.LENGTH],
+                [0, 40, 584, 744, 1480, 9888, 9920])
     bench.holds("its length in docs/IMAGE.md",
                 read(ROOT, "docs", "IMAGE.md").decode(),
                 "is {:,} bytes long".format(image.LENGTH))

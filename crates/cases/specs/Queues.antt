@@ -11,7 +11,6 @@ use Rattle.scope.specs.declared.State.{State}
 use Rattle.scope.specs.declared.Answer.{Answer}
 use Rattle.scope.specs.Replies.{replyOf}
 use Rattle.scope.specs.Fresh.{freshState}
-use Rattle.scope.specs.Calls.{knownCalls}
 use Rattle.scope.specs.Script.{messageAt}
 use Rattle.scope.specs.Step.{answered}
 use Rattle.scope.specs.Listing.{lineOf}
@@ -150,7 +149,7 @@ queueCases =
     (create (7 ∷ 2 ∷ 4 ∷ 0 ∷ []) ∷ lone (interrupt 20 (7 ∷ 0 ∷ 0 ∷ 2 ∷ [])) ∷ lone (interrupt 21 (64 ∷ [])) ∷ lone (interrupt 22 (8 ∷ []))
     ∷ lone (interrupt 25 (64 ∷ 1 ∷ 0 ∷ [])) ∷ lone (interrupt 26 (64 ∷ [])) ∷ lone (interrupt 23 (64 ∷ 0 ∷ []))
     ∷ lone (interrupt 24 (64 ∷ 0 ∷ [])) ∷ lone (20 ∷ 2 ∷ []) ∷ lone (21 ∷ 2 ∷ []) ∷ lone (22 ∷ 2 ∷ []) ∷ lone (23 ∷ 2 ∷ [])
-    ∷ lone (24 ∷ 2 ∷ []) ∷ lone (25 ∷ 2 ∷ []) ∷ lone (26 ∷ 2 ∷ []) ∷ lone (call knownCalls []) ∷ create (7 ∷ 2 ∷ 4 ∷ 0 ∷ []) ∷ receive 65 0 9
+    ∷ lone (24 ∷ 2 ∷ []) ∷ lone (25 ∷ 2 ∷ []) ∷ lone (26 ∷ 2 ∷ []) ∷ lone (call 27 []) ∷ create (7 ∷ 2 ∷ 4 ∷ 0 ∷ []) ∷ receive 65 0 9
     ∷ create [] ∷ delete 0 ∷ ident 0 ∷ send 0 0 [] ∷ jump 0 0 [] ∷ receive 0 0 0 ∷ info 0 ∷ [])
     ("1 0 64 0 0 0 64\n2 2 0 0 0 0 64\n3 2 0 0 0 0 64\n4 2 0 0 0 0 64\n5 2 0 0 0 0 64\n6 2 0 0 0 0 64\n"
     ∷ "7 0 0 0 0 0 64\n8 0 0 0 0 0 64\n9 25 0 0 0 0 64\n10 25 0 0 0 0 64\n11 25 0 0 0 0 64\n12 25 0 0 0 0 64\n"
