@@ -35,7 +35,8 @@ use Rattle.histories.proofs.Pools.{row_says}
 use Rattle.histories.proofs.Marks.{free_or_out, none_out}
 use Rattle.histories.proofs.Answered.{by_name, by_number}
 use Rattle.histories.proofs.Ledger.{event_keeps}
-use Rattle.histories.proofs.Owners.{Out, InBuffer, buffers_out_apart}
+use Rattle.histories.proofs.Owners.{Out, InBuffer}
+use Rattle.histories.proofs.OwnersApart.{buffers_out_apart}
 use Rattle.books.specs.Past.{Turn}
 use Rattle.books.specs.Held.{address_in, length_in, size_in, is_forced, buffers_in, held, free_longer}
 use Rattle.books.proofs.HeldMarks.{OutAt}

@@ -43,9 +43,10 @@ quick_past past s (x ∷ xs) =
 quick_past_lem : (past : List Turn) (s : State) → Sound s → (xs : List Event) → past_from past s xs ≡ quick_past past s xs
 quick_past_lem past s ok [] = refl
 quick_past_lem past s ok (x ∷ xs) =
+    let b : Answer = answered s x.call x.mark x.a x.b x.c x.d x.e x.message in
     ap (λ (a : Answer). past_from (record { event = x; reply = reply_of a } ∷ past) a.state xs)
     (quick_step s ok x.call x.mark x.a x.b x.c x.d x.e x.message)
-    ∙ quick_past_lem _ _ (sound_stays s ok x.call x.mark x.a x.b x.c x.d x.e x.message) xs
+    ∙ quick_past_lem (record { event = x; reply = reply_of b } ∷ past) b.state (sound_stays s ok x.call x.mark x.a x.b x.c x.d x.e x.message) xs
 
 told : (xs : List Event) (id t : ℕ) (v : Place) → place (quick_past [] (fresh_state 5) xs) id t ≡ v → place (past_of 5 xs) id t ≡ v
 told xs id t v e = ap (λ (past : List Turn). place past id t) (quick_past_lem [] (fresh_state 5) (fresh_sound 5 (omega arith)) xs) ∙ e

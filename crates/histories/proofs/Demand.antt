@@ -29,7 +29,8 @@ use Rattle.histories.proofs.Answered.{Creates}
 use Rattle.histories.proofs.Units.{semaphore_account, semaphores_entered}
 use Rattle.histories.proofs.Marks.{pool_account, pools_entered}
 use Rattle.histories.proofs.Ledger.{Creation, history_keeps, later_after, books_since, books_whole}
-use Rattle.histories.proofs.Owners.{Out, InBuffer, buffers_out_apart}
+use Rattle.histories.proofs.Owners.{Out, InBuffer}
+use Rattle.histories.proofs.OwnersApart.{buffers_out_apart}
 
 -- the semaphores' table and the pools', as the ledger reads them
 abbrev sem_serial : State → List ℕ

@@ -26,6 +26,7 @@ pub mod Units
 pub mod Marks
 pub mod Ledger
 pub mod Owners
+pub mod OwnersApart
 pub mod Demand
 pub mod Staying
 pub mod Arriving

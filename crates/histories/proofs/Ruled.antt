@@ -22,6 +22,7 @@ pub data Each (s : State) : List (State → Bool) → Type 0 where
 
 pub row_holds : (rules : List (State → Bool)) (s : State) → keeps rules s ≡ true → (rule : State → Bool) → Row rule rules → rule s ≡ true
 unfolding keeps
+row_holds [] s e rule row = elim row [ ]
 row_holds (test ∷ rules) s e rule first = (both_true (rule s) (keeps rules s) e).0
 row_holds (other ∷ rules) s e rule (later row) = row_holds rules s (both_true (other s) (keeps rules s) e).1 rule row
 

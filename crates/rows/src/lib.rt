@@ -1,6 +1,8 @@
 // "The call table has twenty rows, one for each call", and M-100 adds seven, "Calls 20 to 26 in the order named": who may make it, and
 // which statuses it can answer, as a set of bits.
 // A constant table, read by call number, in two columns: a step reads the first alone.
+#![tactic(auto)]
+
 ghost use Rattle.std.specs.Prelude.{◌≡◌, ◌<◌};
 ghost use Rattle.scope.specs.Calls.{known_calls, call_at, may_call};
 ghost use Rattle.rows.specs.Rows.{set_at, may_give};

@@ -1,6 +1,8 @@
 // The state of the kernel and the answers it gives, as plain data. What they mean, sentence by sentence of document 01,
 // is in specs/. Every array is by slot: 32 tasks, 16 semaphores, 8 pools, 8 queues; places are by pool and buffer.
 
+#![tactic(auto)]
+
 pub const TASKS: usize = 32;
 
 pub const SEMAPHORES: usize = 16;
@@ -85,7 +87,7 @@ pub const LAST_OPTION: u32 = 1;
 // A seat is queue × 64 + place, place 1 first, 0 for a task that stands nowhere. Queue i + 1 is the wait queue of
 // semaphore i, queue i + 17 that of message queue i; queue 32 + p holds the ready tasks of priority p. So one number says
 // which queue a task stands in and how many stand ahead of it, and no list has to be kept.
-#[derive(Drop)]
+#[derive(Clone, Copy)]
 pub struct Line {
     // The ticks left of a waiting task's time_out, or FOREVER.
     pub left: [u32; 32],
@@ -96,7 +98,7 @@ pub struct Line {
     pub rings: [u16; 1],
 }
 
-#[derive(Drop)]
+#[derive(Clone, Copy)]
 pub struct Tasks {
     pub name: [u32; 32],
     pub serial: [u16; 32],
@@ -106,7 +108,7 @@ pub struct Tasks {
     pub priority: [u8; 32],
 }
 
-#[derive(Drop)]
+#[derive(Clone, Copy)]
 pub struct Semaphores {
     pub name: [u32; 16],
     pub serial: [u16; 16],
@@ -116,7 +118,7 @@ pub struct Semaphores {
     pub fifo: [bool; 16],
 }
 
-#[derive(Drop)]
+#[derive(Clone, Copy)]
 pub struct Pools {
     // Bit k is set while buffer k is out.
     pub out: [u64; 8],
@@ -133,7 +135,7 @@ pub struct Pools {
 }
 
 // The message queues.
-#[derive(Drop)]
+#[derive(Clone, Copy)]
 pub struct Queues {
     pub name: [u32; 8],
     pub serial: [u16; 8],
@@ -147,7 +149,7 @@ pub struct Queues {
     pub cells: [u8; 8320],
 }
 
-#[derive(Drop)]
+#[derive(Clone, Copy)]
 pub struct State {
     pub line: Line,
     pub tasks: Tasks,
@@ -159,14 +161,14 @@ pub struct State {
 }
 
 // The tasks that a call has woken so far, in order, beside where the tasks stand by then.
-#[derive(Drop)]
+#[derive(Clone, Copy)]
 pub struct Waking {
     pub line: Line,
     pub wakes: [u32; 32],
     pub woken: usize,
 }
 
-#[derive(Drop)]
+#[derive(Clone, Copy)]
 pub struct Answer {
     pub state: State,
     // The wake list: the identifiers of the first `woken` places, all woken with the status `why`.
@@ -187,7 +189,7 @@ pub struct Answer {
 }
 
 // A fresh state, or the refusal of its priority beside the fresh state of priority 0.
-#[derive(Drop)]
+#[derive(Clone, Copy)]
 pub struct Fresh {
     pub state: State,
     pub status: u32,
