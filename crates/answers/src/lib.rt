@@ -1,12 +1,14 @@
 // The shapes of an answer. A call changes the state's columns where they lie; what it answers beside them and the wake list is
 // its outcome: refused or plainly done, one value, several values, tasks woken, a message delivered. (specs/Outcomes.antt, and scope's specs/Answers.antt.)
+#![tactic(auto)]
+
 ghost use Rattle.std.specs.Prelude.{◌≡◌, false, ◌+◌, ◌*◌, get_or, ltb};
 ghost use Rattle.scope.specs.Choice.{pick};
 ghost use Rattle.scope.specs.Answers.{bit_of};
 ghost use Rattle.answers.specs.Outcomes.{outcome, woke, delivered};
 
 // What a call answers beside the state and the wake list.
-#[derive(Drop)]
+#[derive(Clone, Copy)]
 pub struct Outcome {
     pub status: u32,
     pub values: [u32; 4],

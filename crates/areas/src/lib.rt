@@ -1,5 +1,7 @@
 // Areas of memory and the buffers in them, on numbers alone (scope's specs/Areas.antt); then whether an area overlaps a live
 // pool's, and whether all pools are apart (scope's specs/Pools.antt and specs/Rules.antt).
+#![tactic(auto)]
+
 ghost use Rattle.std.specs.Prelude.{◌≡◌, true, ◌&&◌, ◌+◌, ◌-◌, ◌^◌, ◌<◌, ◌≤◌};
 ghost use Rattle.scope.specs.declared.Pools.{Pools};
 ghost use Rattle.scope.specs.Areas.{is_area, is_size, buffers_of, share_byte, is_out, is_free, free_of, buffer_address, buffer_at};

@@ -1,5 +1,7 @@
 // The messages that queues hold, changed where they lie: only the cells that hold one are moved. (scope's specs/Messages.antt.)
 // And how many a queue may hold, and how long. (Its specs/Queues.antt.)
+#![tactic(auto)]
+
 ghost use Rattle.std.specs.Prelude.{◌≡◌, ◌+◌, ◌-◌, ◌*◌, ◌<◌, ◌≤◌, length, get_or, take, drop, replicate, eqb};
 ghost use Rattle.std.proofs.Math.Seq.{paste};
 ghost use Rattle.scope.specs.Choice.{every};

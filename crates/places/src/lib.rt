@@ -1,5 +1,7 @@
 // The order of a pool's free buffers: its row of 64 places, by buffer, out of the places of all pools. (scope's specs/Places.antt.)
 // A row is copied out and in, and the loops over it have no way out in their middle: the compiler takes sixteen places at a time.
+#![tactic(auto)]
+
 ghost use Rattle.std.specs.Prelude.{◌≡◌, ◌+◌, ◌-◌, ◌*◌, ◌%◌, ◌^◌, ◌<◌, ◌≤◌, length, get_or, eqb, ltb, leb};
 ghost use Rattle.scope.specs.Choice.{pick, every, bits};
 ghost use Rattle.scope.specs.Areas.{is_free};

@@ -1,6 +1,8 @@
 // The verbs of the queues: leave from anywhere, join behind a key, first, who runs, how many; and of the mask of the rings that
 // hold a task. Nobody else touches a seat.
 // A seat is queue × 64 + place; slot 32 is nobody. (scope's specs/Seats.antt.)
+#![tactic(auto)]
+
 ghost use Rattle.std.specs.Prelude.{◌≡◌, ℕ, ◌+◌, ◌*◌, ◌/◌, ◌^◌, ◌<◌, ◌&&◌, ◌⊎◌, List, map, nat_le, nat_lt, slice_set};
 ghost use Rattle.scope.specs.Choice.{pick, has_bit};
 ghost use Rattle.scope.specs.Seats.{lower, raise, leaves, joins, becomes_ready, ahead_of, on_seat, first_standing, standing, runner_of, waits_on, queue_seats, seats_end};

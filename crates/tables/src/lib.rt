@@ -1,5 +1,7 @@
 // Identifier tables. "What holds for all three identifier tables is proved once over the table size": the columns come as
 // slices, so one proof serves every table.
+#![tactic(auto)]
+
 ghost use Rattle.std.specs.Prelude.{◌≡◌, ◌+◌, ◌*◌, ◌≤◌, ◌<◌, false, length, get_or};
 ghost use Rattle.scope.specs.Statuses.{OK};
 ghost use Rattle.scope.specs.Identifiers.{found, usable, lowest_usable, named, by_name};

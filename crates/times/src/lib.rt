@@ -1,4 +1,6 @@
 // Time_outs: which are in range, and what a tick leaves of one. (scope's specs/Waiting.antt and Ticks.antt.)
+#![tactic(auto)]
+
 ghost use Rattle.std.specs.Prelude.{◌≡◌, true, false, not, ◌&&◌, eqb};
 ghost use Rattle.scope.specs.Waiting.{is_time_out};
 ghost use Rattle.scope.specs.Ticks.{time_left};

@@ -1,0 +1,18 @@
+-- `places::longest_free`: what is found is the least of the buffers passed that is on the first place.
+use Prim.Native.Nat.{◌-◌}
+use mathlib.Core.Path.{◌∙◌}
+use borrow.Author.Rules.{rules}
+use Rattle.scope.specs.Seats.{is_on}
+use Rattle.scope.specs.Places.{on_place}
+use Rattle.places.proofs.Rows.{Finding, finding_start, finding_more, finding_done}
+use Rattle.places.proofs.longest_free.Goals as goal
+
+pub loop-k-init : goal.loop-k-init
+loop-k-init c = finding_start 64 (is_on c.args.row 1)
+
+pub loop-k-preserved : goal.loop-k-preserved
+loop-k-preserved c = finding_more c.loop-k.invariant (search rules) c.if_first.ensures c.lesser-found.ensures
+
+pub returns : goal.returns
+unfolding on_place
+returns c = c.number.ensures ∙ finding_done c.loop-k.invariant (search rules)

@@ -1,0 +1,16 @@
+-- `places::new_row`: the loop fills the row by buffers.
+use Prim.Native.Nat.{◌+◌, ◌-◌}
+use lib.ListN.{replicate}
+use lib.Dec.{ltb}
+use borrow.Author.Rules.{rules}
+use Rattle.scope.specs.Choice.{pick}
+use Rattle.scope.specs.Places.{new_row}
+use Rattle.scope.proofs.Places.{length_new, new_at}
+use Rattle.laws.proofs.Arrays.{Changing, changing_start, changing_more, changing_done}
+use Rattle.places.proofs.new_row.Given as goal
+
+abbrev pub invariant-loop-k : goal.invariant-loop-k
+invariant-loop-k l = Changing 64 (λ j x. pick (ltb j l.n) (j + 1) 0) l.initial.r l.r l.k
+
+abbrev pub decreases-loop-k : goal.decreases-loop-k
+decreases-loop-k l = 64 - l.k

@@ -1,0 +1,10 @@
+-- `places::place_bit`: a bit below 64 is in the word.
+use native.Mathlib.Omega.{arith}
+use native.Mathlib.Nat.{one-mul, mod-lt}
+use mathlib.Core.Path.{◌≡◌, ◌∙◌}
+use borrow.Author.Rules.{rules}
+use Rattle.laws.proofs.Bits.{bit_fits}
+use Rattle.places.proofs.place_bit.Goals as goal
+
+pub returns : goal.returns
+returns c = rw (one-mul, c.number.ensures, bit_fits _ 64 (mod-lt c.args.x (omega arith)))

@@ -1,0 +1,16 @@
+-- `places::put_row`: before buffer k the first k places of the row are put in.
+use Prim.Native.Nat.{◌+◌, ◌-◌, ◌*◌, ◌≤◌}
+use native.Mathlib.Omega.{arith}
+use native.Mathlib.Numerals.{add-one}
+use mathlib.Core.Path.{◌≡◌, refl, ◌∙◌}
+use lib.ListN.{length, get_or, length-set}
+use lib.Seq.{paste, paste-zero, paste-suc}
+use borrow.Author.Rules.{rules}
+use Rattle.places.proofs.Rows.{pasted}
+use Rattle.places.proofs.put_row.Given as goal
+
+abbrev pub invariant-loop-k : goal.invariant-loop-k
+invariant-loop-k l = (l.k ≤ 64) × (l.places ≡ paste l.initial.places l.base l.row l.k) × (lib.ListN.length l.places ≡ lib.ListN.length l.initial.places)
+
+abbrev pub decreases-loop-k : goal.decreases-loop-k
+decreases-loop-k l = 64 - l.k

@@ -1,0 +1,6 @@
+-- `seats::make_ready`: it joins its ring behind all.
+use Rattle.std.proofs.Common.{rules}
+use Rattle.seats.proofs.make_ready.Goals as goal
+
+pub returns : goal.returns
+returns c = λ key. rw (← c.wide.ensures) (c.join_last.ensures key)
