@@ -1,5 +1,7 @@
 // What the chapters of the call table share: what is asked of a step, and the caller's test, which each has in front of its calls.
 // (scope's specs/Step.antt.) Printed by tools/generate/run.
+#![tactic(auto)]
+
 ghost use Rattle.std.specs.Prelude.{◌≡◌};
 ghost use Rattle.scope.specs.Step.{caller_refusal};
 

@@ -1,5 +1,7 @@
 // The pool calls: chapter 6, as document 01 fixes it. Each is lent the pools' columns that it reads or changes, and changes them
 // where they lie. (scope's specs/Pools.antt.) Where an argument has a column's name, the column's is in the plural.
+#![tactic(auto)]
+
 ghost use Rattle.std.specs.Prelude.{◌≡◌, not, ◌&&◌, ℕ, ◌+◌, ◌≤◌, ◌<◌, get_or, ltb, eqb};
 ghost use Rattle.scope.specs.declared.State.{State};
 ghost use Rattle.scope.specs.Choice.{pick};

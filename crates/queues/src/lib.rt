@@ -1,6 +1,8 @@
 // The queue calls: chapter 8, as document 02 fixes it (M-100). Only what a queue holds is moved among its cells; a message handed to a
 // waiter is written once, into what is shown. queue_send and queue_jump may come from an interrupt.
 // Each call is lent the columns it reads or changes, and changes them where they lie. (scope's specs/Queues.antt.)
+#![tactic(auto)]
+
 ghost use Rattle.std.specs.Prelude.{◌≡◌, Bool, ℕ, ◌<◌, ◌≤◌, List, get_or, length};
 ghost use Rattle.scope.specs.declared.State.{State};
 ghost use Rattle.scope.specs.Answers.{no_wakes};

@@ -2,6 +2,8 @@
 // part is lent the columns that it reads, so the state stays where it lies. Nothing stops at the first failure: a state is nearly always
 // sound, and a loop without a way out in its middle runs several slots at a time. So tests are joined by `&`, which asks both.
 // (specs/Lent.antt, and scope's specs/Rules.antt.)
+#![tactic(auto)]
+
 ghost use Rattle.std.specs.Prelude.{◌≡◌, true, false, not, ◌&&◌, List, ℕ, ◌-◌, ◌%◌, ◌^◌, ◌<◌, get_or, eqb, ltb, leb};
 ghost use Rattle.scope.specs.Choice.{pick, number};
 ghost use Rattle.scope.specs.Seats.{is_on, queue_seats, queue_of, on_seat, standing};

@@ -1,6 +1,8 @@
 // The semaphore calls: chapter 7, as document 01 fixes it. A semaphore keeps its free units; its count is those less the tasks
 // that wait, so whoever leaves its queue gives its one back by leaving. sem_release may come from an interrupt.
 // Each call is lent the columns it reads or changes, and changes them where they lie. (scope's specs/Semaphores.antt.)
+#![tactic(auto)]
+
 ghost use Rattle.std.specs.Prelude.{◌≡◌, true, false, ◌<◌, ◌≤◌, get_or};
 ghost use Rattle.scope.specs.declared.State.{State};
 ghost use Rattle.scope.specs.Answers.{no_wakes};

@@ -1,6 +1,8 @@
 // The task calls: chapter 4, as document 01 fixes it. One public function a call, refusals first.
 // Each call is lent the columns it reads or changes, and changes them where they lie. (scope's specs/Tasks.antt.)
 // Where an argument has a column's name, the column's is in the plural.
+#![tactic(auto)]
+
 ghost use Rattle.std.specs.Prelude.{◌≡◌, ◌<◌};
 ghost use Rattle.scope.specs.declared.State.{State};
 ghost use Rattle.scope.specs.Answers.{no_wakes};

@@ -1,5 +1,7 @@
 // The tick: one taken from each running time_out, then those who reached 0 woken in ascending slot order.
 // (scope's specs/Ticks.antt.)
+#![tactic(auto)]
+
 ghost use Rattle.std.specs.Prelude.{◌≡◌, false, ◌&&◌, get_or, ℕ, ◌+◌, ◌<◌, ◌≤◌, eqb};
 ghost use Rattle.scope.specs.declared.State.{State};
 ghost use Rattle.scope.specs.declared.Tasks.{Tasks};

@@ -1,5 +1,7 @@
 // Waiting and waking, for whatever tasks wait for: a task joins the queue of an object, and leaves it from whatever place.
 // An object is a number below 31: 0 to 15 are the semaphores, 16 to 23 the message queues. (scope's specs/Waiting.antt.)
+#![tactic(auto)]
+
 ghost use Rattle.std.specs.Prelude.{◌≡◌, ℕ, ◌+◌, ◌<◌, List};
 ghost use Rattle.scope.specs.declared.Tasks.{Tasks};
 ghost use Rattle.scope.specs.Choice.{pick};

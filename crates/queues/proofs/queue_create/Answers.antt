@@ -1,0 +1,22 @@
+-- `queues::queue_create`: the refusal found, or the slot holds its next object.
+use native.Mathlib.Omega.{arith}
+use Rattle.answers.specs.Columns.{lent_queues}
+use Rattle.answers.proofs.Outcomes.{plain_of, gives_of}
+use Rattle.queues.proofs.Laws.{room_refused, room_taken}
+use borrow.Author.Rules.{rules}
+use Rattle.queues.proofs.queue_create.Goals as goal
+
+pub returns-then-f-ne-OK : goal.returns-then-f-ne-OK
+returns-then-f-ne-OK c = let a = c.args in λ s. room_refused (lent_queues s s.line.left s.line.seat s.line.joined s.line.rings s.tasks.serial s.tasks.suspended s.tasks.priority a.name.now a.serial.now a.live.now a.fifo.now a.limits.now s.queues.held s.queues.cells a.running) a.what a.most a.longest a.options c.room-f.ensures.value c.if-f-ne-OK.true (plain_of (lent_queues s s.line.left s.line.seat s.line.joined s.line.rings s.tasks.serial s.tasks.suspended s.tasks.priority a.name.now a.serial.now a.live.now a.fifo.now a.limits.now s.queues.held s.queues.cells a.running) _ _ _ c.plain.ensures)
+
+pub overflow_add-next : goal.overflow_add-next
+overflow_add-next c = omega (arith, (c.room-f.ensures.at_bound.1 c.if-f-ne-OK.false).0)
+
+pub overflow_cast-limits : goal.overflow_cast-limits
+overflow_cast-limits c = omega (arith, (c.room-f.ensures.at_bound.1 c.if-f-ne-OK.false).1)
+
+pub overflow_cast-limits-2 : goal.overflow_cast-limits-2
+overflow_cast-limits-2 c = omega (arith, (c.room-f.ensures.at_bound.1 c.if-f-ne-OK.false).2)
+
+pub returns : goal.returns
+returns c = let a = c.args in λ s. room_taken (lent_queues s s.line.left s.line.seat s.line.joined s.line.rings s.tasks.serial s.tasks.suspended s.tasks.priority a.name.now a.serial.now a.live.now a.fifo.now a.limits.now s.queues.held s.queues.cells a.running) a.what a.most a.longest a.options c.room-f.ensures.value c.if-f-ne-OK.false (gives_of _ _ _ _ (rw (← c.identifier.ensures) c.gives.ensures))

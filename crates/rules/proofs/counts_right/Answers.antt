@@ -1,0 +1,21 @@
+-- `rules::counts_right`: before each turn the loop holds the test of all slots passed.
+use Prim.Native.Nat.{◌-◌}
+use borrow.Author.Rules.{rules}
+use lib.ListN.{get_or}
+use Rattle.scope.specs.Seats.{queue_seats, standing}
+use Rattle.scope.specs.Views.{less}
+use Rattle.scope.specs.Rules.{counts_right, count_right}
+use Rattle.rules.proofs.Laws.{Testing, testing_start, testing_more, testing_done}
+use Rattle.rules.proofs.counts_right.Goals as goal
+
+pub loop-i-init : goal.loop-i-init
+loop-i-init c = testing_start _ _
+
+pub loop-i-preserved : goal.loop-i-preserved
+loop-i-preserved c =
+    testing_more c.loop-i.invariant (search rules)
+    (rw c.waiters-waiting.ensures at c.count_right-right.ensures)
+
+pub returns : goal.returns
+unfolding counts_right
+returns c = λ l m. testing_done c.loop-i.invariant (search rules)

@@ -1,0 +1,18 @@
+-- `rules::queues_right`: before each turn the loop holds the test of all slots passed.
+use Prim.Native.Nat.{◌-◌}
+use mathlib.Core.List.{[]}
+use borrow.Author.Rules.{rules}
+use Rattle.scope.specs.Rules.{queues_right, queue_right}
+use Rattle.rules.proofs.Laws.{Testing, testing_start, testing_more, testing_done}
+use Rattle.rules.proofs.queues_right.Goals as goal
+
+pub loop-i-init : goal.loop-i-init
+loop-i-init c = testing_start _ _
+
+pub loop-i-preserved : goal.loop-i-preserved
+unfolding queue_right
+loop-i-preserved c = testing_more c.loop-i.invariant (search rules) c.queue_right-right.ensures
+
+pub returns : goal.returns
+unfolding queues_right queue_right
+returns c = λ cells. testing_done c.loop-i.invariant (search rules)

@@ -1,0 +1,19 @@
+-- `rules::queues_sorted`: before each turn the loop holds the test of all slots passed.
+use Prim.Native.Nat.{◌-◌}
+use mathlib.Core.Bool.{false}
+use borrow.Author.Rules.{rules}
+use lib.ListN.{get_or}
+use Rattle.scope.specs.Objects.{of_object}
+use Rattle.scope.specs.Rules.{queues_sorted, joined_right}
+use Rattle.rules.proofs.Laws.{Testing, testing_start, testing_more, testing_done}
+use Rattle.rules.proofs.queues_sorted.Goals as goal
+
+pub loop-t-init : goal.loop-t-init
+loop-t-init c = testing_start _ _
+
+pub loop-t-preserved : goal.loop-t-preserved
+loop-t-preserved c = testing_more c.loop-t.invariant (search rules) c.joined_right-right.ensures
+
+pub returns : goal.returns
+unfolding queues_sorted
+returns c = λ left rings. testing_done c.loop-t.invariant (search rules)

@@ -1,0 +1,15 @@
+-- `rules::sems_right`: before each turn the loop holds the test of all slots passed.
+use Prim.Native.Nat.{◌-◌}
+use borrow.Author.Rules.{rules}
+use Rattle.scope.specs.Rules.{sems_right, sem_right}
+use Rattle.rules.proofs.Laws.{Testing, testing_start, testing_more, testing_done}
+use Rattle.rules.proofs.sems_right.Given as goal
+
+abbrev pub invariant-loop-i : goal.invariant-loop-i
+invariant-loop-i l =
+    Testing 16
+    (sem_right (record { name = l.name; serial = l.serial; units = l.units; live = l.live; fifo = l.fifo }))
+    l.ok l.i
+
+abbrev pub decreases-loop-i : goal.decreases-loop-i
+decreases-loop-i l = 16 - l.i
