@@ -1,5 +1,7 @@
 // "A fresh state holds one started task, identifier 64, name 0, of a given priority 0 to 15, and nothing else." (scope's specs/Fresh.antt.)
-ghost use Rattle.std.specs.Prelude.{◌≡◌, ◌<◌};
+#![tactic(auto)]
+
+ghost use Rattle.std.specs.Prelude.{◌≡◌, ◌<◌, ◌≤◌};
 ghost use Rattle.scope.specs.Fresh.{fresh_tasks, fresh_line, no_semaphores, no_pools, no_queues, fresh_state, fresh};
 
 use scope::{Line, Pools, Queues, Semaphores, State, Tasks};
@@ -101,14 +103,24 @@ fn fresh_state(priority: u8) -> State
     }
 }
 
+// The first task's priority: the one that is asked for, or 0.
+fn first_priority(priority: u32) -> u8
+    ensures above { 15 < priority → result ≡ 0 }
+    ensures within { priority ≤ 15 → result ≡ priority }
+    ensures small { result < 16 }
+{
+    if 15 < priority {
+        return 0;
+    }
+    priority as u8
+}
+
 // The fresh state by value: for who keeps a state of their own. "Asked with a priority above 15, .. the fresh state of priority 0."
 pub fn fresh_value(priority: u32) -> State
     ensures { result ≡ (fresh priority).state }
 {
-    if 15 < priority {
-        return fresh_state(0);
-    }
-    fresh_state(priority as u8)
+    let first = first_priority(priority);
+    fresh_state(first)
 }
 
 // "Asked with a priority above 15, the answer is 19".

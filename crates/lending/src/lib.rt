@@ -1,5 +1,7 @@
-// The state lent as one thing and only read: the question who runs is lent its column of it. What such walks share, those of the check and
-// of the chapters too, stands in proofs/. Printed by tools/generate/run, from its table of columns.
+// The state lent as one thing and only read: the question who runs is lent its column of it. Printed by tools/generate/run, from its table
+// of columns.
+#![tactic(auto)]
+
 ghost use Rattle.std.specs.Prelude.{◌≡◌};
 ghost use Rattle.scope.specs.Views.{running_task};
 

@@ -1,0 +1,26 @@
+-- `queue_chapter::queue_part`: the caller's test first, then each call by its number; the last is what is left when it is none of those before.
+-- the state before, out of the columns lent and a state's
+use native.Mathlib.Omega.{arith}
+use mathlib.Core.Path.{◌≡◌, refl, ◌∙◌}
+use borrow.Author.Rules.{rules}
+use Rattle.answers.proofs.Outcomes.{plain_of, none_woken_lem}
+use Rattle.answers.specs.Columns.{lent_queues}
+use Rattle.chapters.proofs.Laws.{answered_refused, answered-does, past, only}
+use Rattle.scope.specs.declared.State.{State}
+use Rattle.queue_chapter.proofs.queue_part.Goals as goal
+
+pub returns-then-refusal-ne-OK : goal.returns-then-refusal-ne-OK
+returns-then-refusal-ne-OK c = let whole = λ (s : State). lent_queues s c.args.left.now c.args.seat.now c.args.joined.now c.args.rings.now c.args.waker.now c.args.suspended.now c.args.priority.now c.args.name.now c.args.serial.now c.args.live.now c.args.fifo.now c.args.limits.now c.args.held.now c.args.cells.now c.args.x.running in
+    λ s m. answered_refused (whole s) c.args.x.call c.args.x.mark c.args.x.a c.args.x.b c.args.x.c c.args.x.d c.args.x.e _ m c.caller_refusal-refusal.ensures c.if-refusal-ne-OK.true (plain_of _ _ _ _ c.plain.ensures)
+
+pub returns-in-20 : goal.returns-in-20
+returns-in-20 c = let whole = λ (s : State). lent_queues s c.args.left.now c.args.seat.now c.args.joined.now c.args.rings.now c.args.waker.now c.args.suspended.now c.args.priority.now c.args.name.now c.args.serial.now c.args.live.now c.args.fifo.now c.args.limits.now c.args.held.now c.args.cells.now c.args.x.running in
+    λ s m. answered-does (whole s) c.args.x.call c.args.x.mark c.args.x.a c.args.x.b c.args.x.c c.args.x.d c.args.x.e _ m c.caller_refusal-refusal.ensures c.if-refusal-ne-OK.false (rw c.in-20.is (none_woken_lem _ _ refl (c.queue_create.ensures (whole s))))
+
+pub returns-in-21 : goal.returns-in-21
+returns-in-21 c = let whole = λ (s : State). lent_queues s c.args.left.now c.args.seat.now c.args.joined.now c.args.rings.now c.args.waker.now c.args.suspended.now c.args.priority.now c.args.name.now c.args.serial.now c.args.live.now c.args.fifo.now c.args.limits.now c.args.held.now c.args.cells.now c.args.x.running in
+    λ s m. answered-does (whole s) c.args.x.call c.args.x.mark c.args.x.a c.args.x.b c.args.x.c c.args.x.d c.args.x.e _ m c.caller_refusal-refusal.ensures c.if-refusal-ne-OK.false (rw c.in-21.is (c.queue_delete.ensures (whole s)))
+
+pub returns-in_default : goal.returns-in_default
+returns-in_default c = let whole = λ (s : State). lent_queues s c.args.left.now c.args.seat.now c.args.joined.now c.args.rings.now c.args.waker.now c.args.suspended.now c.args.priority.now c.args.name.now c.args.serial.now c.args.live.now c.args.fifo.now c.args.limits.now c.args.held.now c.args.cells.now c.args.x.running in
+    λ s m. answered-does (whole s) c.args.x.call c.args.x.mark c.args.x.a c.args.x.b c.args.x.c c.args.x.d c.args.x.e _ m c.caller_refusal-refusal.ensures c.if-refusal-ne-OK.false (let h : c.args.x.call ≡ 22 = omega (arith, c.requires) in rw h (none_woken_lem _ _ refl (c.queue_ident.ensures (whole s))))
