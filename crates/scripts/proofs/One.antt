@@ -1,7 +1,7 @@
 -- The promise of `play_part` leaves no choice: two answers that it allows, of rooms as long, are of the same number of records, for one
 -- that stopped earlier would have had room for the longest line; so the places and the bytes written are the same.
 -- Assumes nothing.
-use Prim.Native.Nat.{ℕ, ◌+◌, ◌-◌, ◌≤◌, ◌<◌}
+use Prim.Native.Nat.{ℕ, ◌-◌, ◌≤◌}
 use native.Mathlib.Omega.{arith}
 use mathlib.Core.Path.{◌≡◌, sym, ap, ◌∙◌}
 use mathlib.Core.Logic.{⊎_elim}

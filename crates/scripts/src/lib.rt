@@ -1,5 +1,7 @@
 // Where a script has got to, and where it begins; what playing it in parts keeps and gives is said in specs/, and its laws are in proofs/.
 // (scope's specs/Script.antt and Listing.antt.)
+#![tactic(auto)]
+
 ghost use Rattle.std.specs.Prelude.{◌≡◌, true};
 ghost use Rattle.scope.specs.Script.{is_script, first_priority};
 ghost use Rattle.scope.specs.Fresh.{fresh_state};

@@ -1,4 +1,6 @@
 // Numbers out of a script's bytes, and an answer's line into a listing's. (scope's specs/Script.antt and Listing.antt.)
+#![tactic(auto)]
+
 ghost use Rattle.std.specs.Prelude.{◌≡◌, false, List, [], ◌∷◌, ◌++◌, ℕ, ◌+◌, ◌*◌, ◌%◌, ◌≤◌, ◌<◌, length, take};
 ghost use Rattle.scope.specs.Script.{number32, message_at, is_script};
 ghost use Rattle.text.specs.Records.{record_at};
