@@ -176,3 +176,12 @@ module _ (rs : List Grant) (g : Grid) (r : ℕ) (e : r ≡ fill_status rs) where
       go : (b : Bool) → T (not (not b)) → b ≡ true
       go true t = refl
       go false t = absurd t
+
+  -- the same, of what a test of the status shows
+  pub filled_unless : (r ≡ OK → ⊥) → g ≡ filled rs g
+  unfolding filled
+  filled_unless ne = pick_no _ _ _ (is_status (ne_eqb r OK ne)) refl
+
+  pub filled_if : r ≡ OK → counted rs g ≡ filled rs g
+  unfolding filled
+  filled_if d = pick_yes _ _ _ (is_status (eq-eqb r OK d)) refl

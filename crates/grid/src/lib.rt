@@ -1,5 +1,7 @@
 // The grant grid (M-105), 32 rows of 16 columns, passed and returned by value: who was granted what, kept beside the state. The kernel
 // never sees it. (specs/Grid.antt, Keeping.antt and Filling.antt.)
+#![tactic(auto)]
+
 ghost use Rattle.std.specs.Prelude.{◌≡◌, ◌%◌, get_or};
 ghost use Rattle.scope.specs.Replies.{wakes_from};
 ghost use Rattle.grid.specs.Grid.{cleared, granted, row_cleared, column_cleared};
@@ -120,7 +122,7 @@ pub fn keep(
 }
 
 // A grant record: "one task slot and one semaphore slot".
-#[derive(Drop)]
+#[derive(Clone, Copy)]
 pub struct Grant {
     pub task: u32,
     pub semaphore: u32,
@@ -165,7 +167,8 @@ fn count_all(list: &[Grant], g: [[u16; 16]; 32]) -> [[u16; 16]; 32]
     let mut h = g;
     let mut i = 0;
     while i < list.len() {
-        h = count_one(h, list[i]);
+        let next = count_one(h, list[i]);
+        h = next;
         i += 1;
     }
     h

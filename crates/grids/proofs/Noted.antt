@@ -21,7 +21,7 @@ use Rattle.scope.specs.Replies.{wake_list}
 use Rattle.books.proofs.Granting.{nobody}
 use Rattle.books.proofs.Releasing.{wakes_one}
 use Rattle.scope.specs.Choice.{pick}
-use Rattle.scope.specs.Statuses.{OK, PENDING}
+use Rattle.scope.specs.Statuses.{OK}
 use Rattle.scope.specs.Identifiers.{identifier, slot_of}
 use Rattle.scope.specs.Seats.{queue_seats, first_standing}
 use Rattle.scope.specs.Views.{with_tasks, with_line, with_semaphores, with_pools, with_queues, running_task}
@@ -50,7 +50,7 @@ use Rattle.books.specs.Past.{Turn, is_answer, value, running_in}
 use Rattle.books.specs.Told.{task_id, sem_id}
 use Rattle.books.proofs.Agreeing.{turn_of, not_call, not_status, is_answer_lem}
 use Rattle.grid.specs.Grid.{Grid, granted, row_cleared, column_cleared}
-use Rattle.grid.specs.Keeping.{kept, released}
+use Rattle.grid.specs.Keeping.{released}
 use Rattle.grid.proofs.Laws.{kept_refused, kept_task, kept_semaphore, kept_claim, kept_release, kept_other}
 use Rattle.grids.specs.Grants.{Given, woken_by, grants_at}
 use Rattle.grids.specs.Kept.{kept_by}

@@ -1,5 +1,7 @@
 // Plays a script and keeps the grant grid beside the state (M-105): the grid as `grid` promises it, over the kernel's step. The state
 // is kept here and lent to each step. (specs/Watched.antt.)
+#![tactic(auto)]
+
 ghost use Rattle.std.specs.Prelude.{◌≡◌, true, ◌≤◌, length};
 ghost use Rattle.scope.specs.Script.{is_script};
 ghost use Rattle.watching.specs.Watched.{end_of, grid_of, Going, Shows, Gridded};
@@ -46,7 +48,8 @@ fn play_records(
         let o = performing::perform(
             &mut s, &mut wakes, &mut shown, &message, r.call, r.mark, r.a, r.b, r.c, r.d, r.e,
         );
-        g = grid::keep(g, caller, r.call, r.a, o, &wakes);
+        let next = grid::keep(g, caller, r.call, r.a, o, &wakes);
+        g = next;
         left -= 1;
         at += 28;
     }
