@@ -1,4 +1,6 @@
 // Columns of an image, put and taken: little-endian, a slot's numbers every `stride` bytes. (fields' specs/Columns.antt.)
+#![tactic(auto)]
+
 ghost use Rattle.std.specs.Prelude.{◌≡◌, map, ◌+◌, ◌*◌, ◌^◌, ◌≤◌, ◌<◌, length};
 ghost use Rattle.std.proofs.lemmas.List.Edits.{sets};
 ghost use Rattle.fields.specs.Numbers.{le, number, bit, is_on};

@@ -1,5 +1,7 @@
 // The columns of the state's tables, put into an image, taken from it and tested. Printed by tools/generate/run.
 // (specs/Image.antt, specs/Reading.antt, specs/Tests.antt; docs/IMAGE.md has the places.)
+#![tactic(auto)]
+
 ghost use Rattle.std.specs.Prelude.{◌≡◌, [], ◌∷◌, length};
 ghost use Rattle.fields.specs.Columns.{part};
 ghost use Rattle.fields.specs.Fields.{put_fields};
@@ -181,7 +183,7 @@ pub fn put_queues(
     cells: &[u8; 8320],
 )
     ensures { image.new ≡ put_fields 1051 8 (queue_columns name.now serial.now
-        live.now fifo.now limits.now held.now cells.now) 1480 image.entry.now }
+        live.now fifo.now limits.now held.now cells.now) 1480 image.old }
 {
     columns::put_u32s(image, 1480, 1051, name);
     columns::put_u16s(image, 1484, 1051, serial);

@@ -1,4 +1,6 @@
 // The image of a state by value, and whether bytes are one. (image's specs/Image.antt and specs/Tests.antt; docs/IMAGE.md.)
+#![tactic(auto)]
+
 ghost use Rattle.std.specs.Prelude.{◌≡◌, length};
 ghost use Rattle.fields.specs.Fields.{put_fields};
 ghost use Rattle.image.specs.Image.{task_fields, sem_fields, pool_fields, queue_fields, image_of, image_size, task_bytes, sem_bytes, pool_bytes, queue_bytes, tasks_at, semaphores_at, pools_at, queues_at};

@@ -1,5 +1,7 @@
 // The ready order as 32 bytes, from the seats: who is on each ready seat is noted once, then the rings are read from the most urgent
 // one down. (specs/Places.antt.)
+#![tactic(auto)]
+
 ghost use Rattle.std.specs.Prelude.{◌≡◌, List, [], ◌∷◌, ◌++◌, ℕ, suc, ◌<◌};
 ghost use Rattle.orders.specs.Places.{order_places, Told, ring_tasks, marked_at, Placed};
 

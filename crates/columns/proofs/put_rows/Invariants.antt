@@ -1,0 +1,13 @@
+-- `columns::put_rows`: before row i those below it are put.
+use Prim.Native.Nat.{◌-◌, ◌<◌}
+use native.Mathlib.Omega.{arith}
+use lib.ListN.{length}
+use borrow.Author.Rules.{rules}
+use Rattle.fields.proofs.Loops.{Putting, putting_start, putting_row, putting_done, room, below}
+use Rattle.columns.proofs.put_rows.Given as goal
+
+abbrev pub invariant-loop-i : goal.invariant-loop-i
+invariant-loop-i l = Putting 1 l.many l.stride l.xs l.rows l.at l.initial.s l.s l.i
+
+abbrev pub decreases-loop-i : goal.decreases-loop-i
+decreases-loop-i l = l.rows - l.i

@@ -1,0 +1,14 @@
+-- `columns::put_u64s`: before slot i those below it are put.
+use Prim.Native.Nat.{◌-◌, ◌<◌}
+use native.Mathlib.Omega.{arith}
+use mathlib.Core.Path.{refl, ◌∙◌}
+use lib.ListN.{length}
+use borrow.Author.Rules.{rules}
+use Rattle.fields.proofs.Loops.{Putting, putting_start, putting_one, putting_done, room}
+use Rattle.columns.proofs.put_u64s.Given as goal
+
+abbrev pub invariant-loop-i : goal.invariant-loop-i
+invariant-loop-i l = Putting 8 1 l.stride l.xs (length l.xs) l.at l.initial.s l.s l.i
+
+abbrev pub decreases-loop-i : goal.decreases-loop-i
+decreases-loop-i l = length l.xs - l.i

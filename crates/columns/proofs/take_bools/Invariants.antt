@@ -1,0 +1,17 @@
+-- `columns::take_bools`: before slot i those below it are taken.
+use Prim.Native.Nat.{◌-◌, ◌<◌}
+use native.Mathlib.Omega.{arith}
+use mathlib.Core.Path.{refl, ap, ◌∙◌}
+use mathlib.Core.List.{map}
+use lib.ListN.{length}
+use borrow.Author.Rules.{rules}
+use Rattle.fields.specs.Numbers.{is_on}
+use Rattle.fields.specs.Columns.{take_column}
+use Rattle.fields.proofs.Loops.{Taking, flags_none, taking_flag, taken_flags, room}
+use Rattle.columns.proofs.take_bools.Given as goal
+
+abbrev pub invariant-loop-i : goal.invariant-loop-i
+invariant-loop-i l = Taking (λ j. map is_on (take_column 1 1 l.stride j l.s l.at)) (length l.initial.xs) l.initial.xs l.xs l.i
+
+abbrev pub decreases-loop-i : goal.decreases-loop-i
+decreases-loop-i l = length l.initial.xs - l.i

@@ -1,0 +1,15 @@
+-- `columns::take_u16s`: before slot i those below it are taken.
+use Prim.Native.Nat.{◌-◌, ◌<◌}
+use native.Mathlib.Omega.{arith}
+use mathlib.Core.Path.{refl, ◌∙◌}
+use lib.ListN.{length}
+use borrow.Author.Rules.{rules}
+use Rattle.fields.specs.Columns.{take_column}
+use Rattle.fields.proofs.Loops.{Taking, taking_none, taking_one, taken_ones, room}
+use Rattle.columns.proofs.take_u16s.Given as goal
+
+abbrev pub invariant-loop-i : goal.invariant-loop-i
+invariant-loop-i l = Taking (λ j. take_column 2 1 l.stride j l.s l.at) (length l.initial.xs) l.initial.xs l.xs l.i
+
+abbrev pub decreases-loop-i : goal.decreases-loop-i
+decreases-loop-i l = length l.initial.xs - l.i

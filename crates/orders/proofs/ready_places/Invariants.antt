@@ -1,0 +1,12 @@
+-- `orders::ready_places`: before ring p those above it have places.
+use native.Mathlib.Omega.{arith}
+use mathlib.Core.Path.{refl}
+use Rattle.orders.proofs.Ringing.{Rings, rings_start, rings_more, rings_done}
+use borrow.Author.Rules.{rules}
+use Rattle.orders.proofs.ready_places.Given as goal
+
+abbrev pub invariant-loop-p : goal.invariant-loop-p
+invariant-loop-p l = Rings l.seat l.places l.n l.p
+
+abbrev pub decreases-loop-p : goal.decreases-loop-p
+decreases-loop-p l = l.p

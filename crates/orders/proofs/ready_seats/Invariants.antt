@@ -1,0 +1,10 @@
+-- `orders::ready_seats`: before slot t those from it on are noted.
+use Rattle.orders.proofs.Marking.{Marked, marked_start, marked_more, marked_done}
+use borrow.Author.Rules.{rules}
+use Rattle.orders.proofs.ready_seats.Given as goal
+
+abbrev pub invariant-loop-t : goal.invariant-loop-t
+invariant-loop-t l = Marked l.seat l.table l.t
+
+abbrev pub decreases-loop-t : goal.decreases-loop-t
+decreases-loop-t l = l.t
