@@ -1,4 +1,6 @@
 // The functions that C calls. A slice is a pointer and then its length. (include/dryswennol.h.)
+#![tactic(auto)]
+
 ghost use Rattle.std.specs.Prelude.{◌≡◌};
 ghost use Rattle.scope.specs.Listing.{listing};
 ghost use Rattle.watching.specs.Watched.{Gridded};
@@ -27,8 +29,8 @@ pub extern "C" fn dryswennol_step(
     d: u32,
     e: u32,
 ) -> u32
-    ensures { (record { image = image.exit.now; answer = answer.new; status = result })
-        ≡ steps_on image.entry.now call mark a b c d e message.now }
+    ensures { (record { image = image.new; answer = answer.new; status = result })
+        ≡ steps_on image.old call mark a b c d e message.now }
 {
     stepping::step(image, message, answer, call, mark, a, b, c, d, e)
 }

@@ -1,4 +1,6 @@
 // The line of an answer that stands in bytes, into a lent slice. (specs/Lines.antt.)
+#![tactic(auto)]
+
 ghost use Rattle.std.specs.Prelude.{◌≡◌, ◌≤◌, length, take};
 ghost use Rattle.std.proofs.lemmas.List.Edits.{sets};
 ghost use Rattle.fields.specs.Numbers.{is_on};

@@ -1,4 +1,6 @@
 // The answer of a step as bytes that C reads as a struct: the bytes of its numbers, its wakes and the message shown, and the answer that bytes which are no image get. (specs/Answers.antt.)
+#![tactic(auto)]
+
 ghost use Rattle.std.specs.Prelude.{◌≡◌};
 ghost use Rattle.replies.specs.Answers.{answer_bytes};
 ghost use Rattle.replies.specs.Steps.{bad_answer};

@@ -1,5 +1,7 @@
 // The kernel for C, on numbers and bytes: a fresh image, and a step that changes an image in place and gives its answer as bytes.
 // (specs/Steps.antt and specs/Answers.antt of `replies`.)
+#![tactic(auto)]
+
 ghost use Rattle.std.specs.Prelude.{◌≡◌, ◌≤◌, length, take};
 ghost use Rattle.std.proofs.lemmas.List.Edits.{sets};
 ghost use Rattle.scope.specs.Fresh.{fresh};
@@ -98,8 +100,8 @@ pub fn step(
     d: u32,
     e: u32,
 ) -> u32
-    ensures { (record { image = image.exit.now; answer = answer.new; status = result })
-        ≡ steps_on image.entry.now call mark a b c d e message.now }
+    ensures { (record { image = image.new; answer = answer.new; status = result })
+        ≡ steps_on image.old call mark a b c d e message.now }
 {
     if image.len() < image::SIZE {
         return replies::refuse(answer);
