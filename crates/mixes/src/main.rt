@@ -1,8 +1,11 @@
 // Plays a mix by the inner step, for the benchmark, and prints a checksum of the answers.
-use libc::{STDIN_FILENO, STDOUT_FILENO};
+#![tactic(auto)]
+
+ghost use Rattle.std.specs.Prelude.{◌≡◌, length};
+
 use scope::State;
 
-#[derive(Drop)]
+#[derive(Clone, Copy)]
 struct Played {
     state: State,
     sum: u32,
@@ -48,9 +51,17 @@ fn rounds(file: &[u8]) -> u32 {
     p.sum
 }
 
-fn main() {
-    let mut file = io::large_buffer();
-    let n = io::read_full(STDIN_FILENO, &mut file);
-    io::print_decimal(STDOUT_FILENO, rounds(&file[..n]) as u64);
-    io::write_all(STDOUT_FILENO, b"\n");
+// As many bytes as a mix has at most: what is behind them is not played.
+fn mix_room() -> [u8; 65536]
+    ensures { 65536 ≡ length result }
+{
+    [0; 65536]
+}
+
+// Where a read fails, what came before it is played.
+fn main(rt: HostRuntime) {
+    let mut file = mix_room();
+    let n = inputs::read_input(&mut rt.stdin(), &mut file).length;
+    let sum = rounds(&file[..n]);
+    let _ = println!(rt; "{sum}");
 }

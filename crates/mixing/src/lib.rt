@@ -1,5 +1,7 @@
 // What the two benchmark programs share: the head of a mix, its records, and a checksum of answers. A mix is a file: four numbers
 // (how many records, how many of them are the first part, how often the rest is played, zero) and then the records, as in a script.
+#![tactic(auto)]
+
 ghost use Rattle.std.specs.Prelude.{◌≡◌, ◌<◌};
 ghost use Rattle.mixing.specs.Mixes.{head_of, mix_record, mixed_with, summed_with};
 

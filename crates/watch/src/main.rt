@@ -2,12 +2,15 @@
 // by semaphore slot, with the identifiers of the latest objects there and the grants. Where there is a second argument, it writes the
 // image of the state that the script leaves instead (M-104). Where there is an argument at all, the last word, `done` or `failed`, goes to
 // descriptor 3, as the program `play` does it.
+#![tactic(auto)]
+
 ghost use Rattle.std.specs.Prelude.{◌≡◌, ◌<◌, length};
 
-use libc::{STDERR_FILENO, STDIN_FILENO, STDOUT_FILENO};
+use inputs::Ended;
 use scope::{Semaphores, State, Tasks};
-
-const REPORT: i32 = 3;
+use std::io;
+use std::io::Write;
+use std::process::ExitCode;
 
 fn no_cells() -> [u16; 512]
     ensures { 512 ≡ length result }
@@ -22,93 +25,95 @@ fn wide(n: u16) -> u64
 }
 
 // A number and what stands behind it.
-fn write_field(n: u64, after: &[u8]) -> bool {
-    if !io::print_decimal(STDOUT_FILENO, n) {
-        return false;
-    }
-    io::write_all(STDOUT_FILENO, after)
+fn write_field<W: Write>(to: &mut W, n: u64, after: &[u8]) -> io::Result<()> {
+    write!(to, "{n}")?;
+    to.write_all(after)
 }
 
-fn write_cell(task: u32, semaphore: u32, grants: u16) -> bool {
+fn write_cell<W: Write>(to: &mut W, task: u32, semaphore: u32, grants: u16) -> io::Result<()> {
     if grants == 0 {
-        return true;
+        return Ok(());
     }
-    if !write_field(task as u64, b" ") {
-        return false;
-    }
-    if !write_field(semaphore as u64, b" ") {
-        return false;
-    }
-    write_field(wide(grants), b"\n")
+    write_field(to, task as u64, b" ")?;
+    write_field(to, semaphore as u64, b" ")?;
+    write_field(to, wide(grants), b"\n")
 }
 
 // The cells of a task's row.
-fn write_row(task: u32, t: usize, m: Semaphores, cells: &[u16; 512]) -> bool
+fn write_row<W: Write>(
+    to: &mut W,
+    task: u32,
+    t: usize,
+    m: &Semaphores,
+    cells: &[u16; 512],
+) -> io::Result<()>
     requires { t < 32 }
 {
-    let mut i: usize = 0;
-    while i < 16 {
-        if !write_cell(task, tables::identifier(m.serial[i], i), cells[t * 16 + i]) {
-            return false;
-        }
-        i += 1;
+    for i in 0..16usize {
+        let semaphore = tables::identifier(m.serial[i], i);
+        write_cell(to, task, semaphore, cells[t * 16 + i])?;
     }
-    true
+    Ok(())
 }
 
-fn write_grid(k: Tasks, m: Semaphores, cells: &[u16; 512]) -> bool {
-    let mut t: usize = 0;
-    while t < 32 {
-        if !write_row(tables::identifier(k.serial[t], t), t, m, cells) {
-            return false;
-        }
-        t += 1;
+fn write_grid<W: Write>(
+    to: &mut W,
+    k: &Tasks,
+    m: &Semaphores,
+    cells: &[u16; 512],
+) -> io::Result<()> {
+    for t in 0..32usize {
+        let task = tables::identifier(k.serial[t], t);
+        write_row(to, task, t, m, cells)?;
     }
-    true
+    Ok(())
 }
 
 // "script refused" is a grid too, of one line; but such a script leaves no state, so no image.
-fn write_refused(wants_image: bool) -> bool {
+fn write_refused(rt: &HostRuntime, wants_image: bool) -> Ended {
     if wants_image {
-        io::write_all(STDERR_FILENO, b"play: script refused: it leaves no state\n");
-        return false;
+        let _ = rt
+            .stderr()
+            .write_all(b"play: script refused: it leaves no state\n");
+        return Ended::Failed;
     }
-    io::write_all(STDOUT_FILENO, b"script refused\n")
+    ended(rt.stdout().write_all(b"script refused\n"))
 }
 
-fn write_image(s: State) -> bool {
+fn write_image<W: Write>(to: &mut W, s: State) -> io::Result<()> {
     let image = images::image_of(s);
-    io::write_all(STDOUT_FILENO, &image)
+    to.write_all(&image)
 }
 
-fn watch_input(wants_image: bool) -> bool {
+// (What cannot be written is not told: the last word says it.)
+fn ended(written: io::Result<()>) -> Ended {
+    match written {
+        Ok(()) => Ended::Done,
+        Err(e) if inputs::is_unread(&e) => Ended::Unread,
+        Err(_) => Ended::Failed,
+    }
+}
+
+fn watch_input(rt: &HostRuntime, wants_image: bool) -> Ended {
     let mut script = inputs::script_room();
-    let got = inputs::read_input(STDIN_FILENO, &mut script);
-    if !got.well {
-        return inputs::complain(b"standard input", b": cannot be read");
+    let got = inputs::read_input(&mut rt.stdin(), &mut script);
+    if let Some(e) = got.failure {
+        inputs::complain(&mut rt.stderr(), b"standard input", b": cannot be read", e);
+        return Ended::Failed;
     }
     let n = got.length;
     if !text::is_script(&script[..n]) {
-        return write_refused(wants_image);
+        return write_refused(rt, wants_image);
     }
     let mut cells = no_cells();
     let s = watching::watch(&script[..n], &mut cells);
     if wants_image {
-        return write_image(s);
+        return ended(write_image(&mut rt.stdout(), s));
     }
-    let k = s.tasks;
-    let m = s.semaphores;
-    write_grid(k, m, &cells)
+    ended(write_grid(&mut rt.stdout(), &s.tasks, &s.semaphores, &cells))
 }
 
-fn main() {
-    let done = watch_input(2 < os::arg_count());
-    if os::arg_count() < 2 {
-        return;
-    }
-    if done {
-        io::write_all(REPORT, b"done\n");
-    } else {
-        io::write_all(REPORT, b"failed\n");
-    }
+fn main(rt: HostRuntime) -> ExitCode {
+    let ended = watch_input(&rt, inputs::has_argument(&rt, 2));
+    inputs::leave(&rt, ended, inputs::has_argument(&rt, 1))
 }
