@@ -1,7 +1,7 @@
 /*
  * A script's grant grid from C: a line for each cell that is not 0, with its task slot, its semaphore slot and the grants.
  *
- *   rt staticlib exports
+ *   tools/prove exports_c
  *   gcc -O2 -I include examples/grid.c target/staticlib/libexports.a -o target/grid
  *   target/grid < examples/grant-grid.script
  */

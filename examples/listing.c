@@ -1,7 +1,7 @@
 /*
  * Plays a script from C: the proved listing, linked from the library.
  *
- *   rt staticlib exports
+ *   tools/prove exports_c
  *   gcc -O2 -I include examples/listing.c target/staticlib/libexports.a -o target/listing
  *   target/listing < stored/cases/nine.script
  */

@@ -2,7 +2,7 @@
  * A simulator that holds the kernel between steps: an image in its own memory, which each call of a script changes in place. It
  * prints the listing, and with a name writes the last image there (`tools/image show` tells it).
  *
- *   rt staticlib exports
+ *   tools/prove exports_c
  *   gcc -O2 -I include examples/simulator.c target/staticlib/libexports.a -o target/simulator
  *   target/simulator < stored/cases/nine.script
  *   target/simulator nine.image < stored/cases/nine.script

@@ -1,5 +1,5 @@
 /*
- * The proved functions of libexports.a (`rt staticlib exports`), for C and C++ on x86-64.
+ * The proved functions of libexports.a (`tools/prove exports_c`), for C and C++ on x86-64.
  *
  * A slice is a pointer and then its length. No pointer is NULL, even where its length is 0, and nothing that a function
  * writes overlaps anything else that it is lent. No byte outside what is lent is read or written. Image, message, script and

@@ -14,8 +14,9 @@ EXAMPLES = os.path.join(ROOT, "examples")
 
 
 class Bench:
-    def __init__(self, scratch):
+    def __init__(self, scratch, built=False):
         self.scratch = scratch       # a folder that goes away afterwards
+        self.built = built           # whether what is proved is there
         self.passed, self.failures, self.skipped = 0, [], []
         self.told = {}
 
@@ -31,6 +32,13 @@ class Bench:
         words = "%s: %s" % (what, why)
         if words not in self.skipped:
             self.skipped.append(words)
+
+    def unbuilt(self, what, why):
+        """What wants a proved program or library that is not built."""
+        if self.built:
+            self.check(what, False, why)
+        else:
+            self.skip(what, why)
 
     def equal(self, what, found, expected):
         self.check(what, found == expected,
@@ -70,6 +78,15 @@ class Bench:
         return [(name, told) for place, (name, told)
                 in enumerate(self.runs())
                 if place % 3 == 0 or name in ("nine", "mixed-3")]
+
+
+def is_built(path):
+    """Whether it is there, and no file that rt reads changed since."""
+    parts = [place for part in ("src", "specs", "proofs")
+             for place in glob.glob(os.path.join(ROOT, "crates", "*", part))]
+    return os.path.exists(path) and not subprocess.run(
+        ["find", os.path.join(ROOT, "crates.txt"), *parts, "-newercm", path],
+        check=True, stdout=subprocess.PIPE).stdout
 
 
 def read(*path):

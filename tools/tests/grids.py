@@ -7,7 +7,7 @@ import subprocess
 import xml.etree.ElementTree as tree
 
 from lib import grid
-from tests.bench import EXAMPLES, ROOT, STORED, read
+from tests.bench import EXAMPLES, ROOT, STORED, is_built, read
 from tests.examples import player
 
 SVG = "{http://www.w3.org/2000/svg}"
@@ -61,12 +61,9 @@ def test_complaints(bench):
 
 def real(bench):
     """The proved program, where it is built from this tree."""
-    stamp = os.path.join(ROOT, "target", "watch.stamp")
-    if not os.path.exists(stamp) or subprocess.run(
-            ["find", ROOT + "/crates", ROOT + "/crates.txt", "-newercm",
-             stamp], check=True, stdout=subprocess.PIPE).stdout:
-        bench.skip("the proved grid and image", "their program is not built "
-                   "from this tree; ./play --grid builds it")
+    if not is_built(os.path.join(ROOT, "target", "watch.stamp")):
+        bench.unbuilt("the proved grid and image", "their program is not "
+                      "built from this tree; ./play --grid builds it")
         return None
     return lambda option, path: subprocess.run(
         ["./play", option, path], cwd=ROOT, stdin=subprocess.DEVNULL,

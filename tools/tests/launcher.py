@@ -3,7 +3,6 @@ where it is built."""
 
 import glob
 import os
-import platform
 import resource
 import shlex
 import shutil
@@ -13,33 +12,35 @@ import subprocess
 import time
 from concurrent.futures import ThreadPoolExecutor
 
-from tests.bench import ROOT, STORED, read, stored
+from tests.bench import ROOT, STORED, is_built, read, stored
 
-# Stands in for `rt`: notes each call, "proves" three crates, builds a player.
+# Stands in for `rt ci`: notes each call, "proves" three crates, builds the
+# program, all in the copy that tools/prove gives it.
 RT = """#!/bin/sh
-echo $$ > "$CALLS.group"
-echo "$*" >> "$CALLS"
-[ ! -e broken ] || { echo "rt: one NOT PROVED (exit 1, 0 s)"; exit 1; }
-mkdir -p target/bin
-echo "rt: one proved (unchanged since it was last proved)"
+cut -d" " -f5 /proc/$$/stat > "$CALLS.group"
+program=$(sed -n '$s/:.*//p' crates.txt)
+echo "$* $program" >> "$CALLS"
+[ ! -e "${CALLS%/*}/broken" ] || { echo "rt: one NOT PROVED"; exit 1; }
+mkdir -p "crates/$program/out"
+echo "rt: one is kept: an earlier run on this machine proved the same files"
 sleep 0.1
-echo "rt: two proved (3 s)"
-echo "rt: $2 proved (14 s)"
-cp player "target/bin/$2"
+echo "rt: two proved"
+echo "rt: $program proved"
+cp "${CALLS%/*}/player" "crates/$program/out/$program"
 """
 # Stands in for the player: its listing of a script is the script itself. For
 # the grid it is given no file, and reads standard input; for the image it is
-# asked for one, and writes that word first.
+# asked for one, and writes that word first. It opens no file whose name is not
+# in UTF-8.
 PLAYER = """#!/bin/sh
-case $1 in *crash*) exit 3 ;; report) printf %s "$2"; set -- - ;; esac
+case $1 in
+*crash* | *$(printf '\\351')*) exit 3 ;;
+report) printf %s "$2"; set -- - ;;
+esac
 cat -- "$1"
-case $? in 0) echo done >&3 ;; 141) kill -s PIPE $$ ;; *) echo failed >&3 ;; esac
+case $? in 0) echo done >&3 ;; 141) exit 141 ;; *) echo failed >&3 ;; esac
 """
 USAGE = "usage: play [--grid | --image] [FILE]"
-LOADER = """#!/bin/sh
-shift 2
-exec "$@"
-"""
 
 
 def write(path, text, mode=0o644):
@@ -59,20 +60,22 @@ class House:
         os.makedirs(self.root)
         shutil.copy(os.path.join(ROOT, "play"), self.path("play"))
         os.makedirs(self.path("tools"))
-        shutil.copy(os.path.join(ROOT, "tools", "made_from"),
-                    self.path("tools", "made_from"))
+        for tool in ("made_from", "prove"):
+            shutil.copy(os.path.join(ROOT, "tools", tool),
+                        self.path("tools", tool))
         write(self.path("crates.txt"), "one:\ntwo: one\nplay: two io\n"
                                        "watch: two io\n")
-        for crate in ("one", "two", "play", "watch"):
+        for crate in ("one", "two"):
             write(self.path("crates", crate, "src", "lib.rt"), crate)
+        for crate in ("play", "watch"):
+            write(self.path("crates", crate, "src", "main.rt"), crate)
         write(self.path("crates/two/proofs/Laws.antt"), "law")
+        os.makedirs(self.path("scratch"))
         write(self.path("player"), PLAYER, 0o755)
         write(self.path("good"), "1 0 0\n")
         write(self.calls, "")
         write(os.path.join(self.kit, "KIT-ID"), "kit 1\n")
         write(os.path.join(self.kit, "bin", "rt"), RT, 0o755)
-        write(os.path.join(self.kit, "on", platform.machine(), "toolchain", "lib",
-                           "ld-linux-x86-64.so.2"), LOADER, 0o755)
 
     def path(self, *parts):
         return os.path.join(self.root, *parts)
@@ -86,20 +89,22 @@ class House:
         return done.returncode, done.stdout.decode(), done.stderr.decode()
 
     def environment(self, path=None):
-        return {**os.environ, "CALLS": self.calls, "RATTLE_HOME": self.kit,
-                "PATH": path or "%s/bin:%s" % (self.kit, os.environ["PATH"])}
+        return {**os.environ, "CALLS": self.calls,
+                "TMPDIR": self.path("scratch"), "PATH": path or "%s/bin:%s" % (self.kit, os.environ["PATH"])}
 
     def builds(self):
-        return read(self.calls).decode().count("check play")
+        return read(self.calls).decode().count("ci play")
 
 
 def test_descriptors(bench):
     house = House(bench, "descriptors")
     house.play("good")
+    shutil.copy(house.path("good"), os.fsencode(house.path("caf")) + b"\351")
     for words, expected in (
             ("good", (0, "1 0 0\n", "")),
             ("- < good", (0, "1 0 0\n", "")), ("< good", (0, "1 0 0\n", "")),
             ("-- good", (0, "1 0 0\n", "")),
+            ("$(printf 'caf\\351')", (0, "1 0 0\n", "")),
             ("<&-", (1, "", "play: standard input: cannot be read: it is "
                             "closed\n")),
             ("good <&-", (0, "1 0 0\n", "")),
@@ -150,7 +155,7 @@ def test_grid(bench):
         bench.equal("./play " + words, (status, out), expected)
     bench.equal("an absent file", said, "play: absent: cannot be opened\n")
     bench.equal("the program of both is built once, the player not",
-                read(house.calls).decode(), "check watch\n")
+                read(house.calls).decode(), "ci watch\n")
     bench.equal("./play good", house.play("good")[:2], (0, "1 0 0\n"))
 
 
@@ -201,6 +206,10 @@ def changes(house):
         ("crates.txt", lambda: append("crates.txt")),
         ("a new file", lambda: write(old, "words")),
         ("an old time", older_file), ("a file gone", lambda: os.remove(old)),
+        ("a new folder", lambda: write(house.path(
+            "crates/one/specs/Lib.antt"), "words")),
+        ("a folder gone", lambda: shutil.rmtree(house.path(
+            "crates/one/specs"))),
         ("the kit", lambda: append("kit/KIT-ID")
          or write(house.kit + "/KIT-ID", "kit 2\n")),
         ("no player", lambda: os.remove(house.path("target/bin/play"))))
@@ -210,9 +219,13 @@ def test_never_stale(bench):
     house = House(bench, "stale")
     status, out, said = house.play("good")
     bench.equal("the first start", (status, out), (0, "1 0 0\n"))
-    bench.holds("progress, the second crate", said, "crate 2 of 3, two, 3 s")
-    bench.holds("progress, the third crate", said, "crate 3 of 3, play, 14 s")
-    bench.check("a crate that is unchanged is not told", "one" not in said)
+    bench.holds("progress, the second crate", said, "crate 2 of 3, two\n")
+    bench.holds("progress, the third crate", said, "crate 3 of 3, play\n")
+    bench.check("a crate that is kept is not told", "one" not in said)
+    write(house.path("crates/one/out/incremental/words"), "rt's own")
+    write(house.path("crates/one/must-fail/one.edit"), "an edit")
+    bench.equal("not built for what the program is not made of",
+                (house.play("good"), house.builds()), ((0, "1 0 0\n", ""), 1))
     for number, (name, change) in enumerate(changes(house), 2):
         time.sleep(0.02)
         change()
@@ -272,6 +285,7 @@ def test_interrupted(bench):
     bench.equal("the status of an interrupted build", going.wait(20), 130)
     time.sleep(0.1)
     bench.check("what it began has ended", not is_group(group))
+    bench.equal("and its copy is gone", os.listdir(house.path("scratch")), [])
     write(house.path("kit/bin/rt"), RT, 0o755)
     bench.equal("begun anew", house.play("good")[:2], (0, "1 0 0\n"))
 
@@ -288,18 +302,16 @@ def test_progress_on_terminal(bench):
         env=house.environment(), stdin=subprocess.DEVNULL,
         stdout=subprocess.PIPE)
     bench.holds("a line that is rewritten", done.stdout.decode(),
-                "\r\033[Kplay: crate 2 of 3, ")
+                "\r\033[Kplay: 1 of 3 crates, ")
 
 
 # -- the real player, where ./play has built it and nothing has changed since
 
 def real(bench):
-    stamp = os.path.join(ROOT, "target", "play.stamp")
-    if not shutil.which("rt") or not os.path.exists(stamp) or subprocess.run(
-            ["find", ROOT + "/crates", ROOT + "/crates.txt", "-newercm",
-             stamp], check=True, stdout=subprocess.PIPE).stdout:
-        bench.skip("the proved player", "it is not built from this tree; "
-                                        "./play builds it")
+    if not shutil.which("rt") or not is_built(
+            os.path.join(ROOT, "target", "play.stamp")):
+        bench.unbuilt("the proved player", "it is not built from this tree; "
+                                           "./play builds it")
         return None
 
     def play(words):

@@ -8,7 +8,7 @@ import shutil
 import subprocess
 
 from lib import reference, tables
-from tests.bench import ROOT, read, stored_names, stored_path
+from tests.bench import ROOT, is_built, read, stored_names, stored_path
 from tests.examples import player
 from tests.grids import second
 
@@ -28,49 +28,30 @@ def compile_line(source=SOURCE):
     return LINE.search(read(source).decode()).group(0)
 
 
-def machine_words(bench):
-    """What stands in for `gcc`, and what runs the program; or why not."""
-    if platform.machine() == "x86_64":
-        return (["gcc"], []) if shutil.which("gcc") else "no gcc"
-    cross = shutil.which("x86_64-linux-gnu-gcc")
-    if not cross:
-        return "no x86_64-linux-gnu-gcc (Debian: gcc-x86-64-linux-gnu)"
-    rt = shutil.which("rt")
-    kit = os.environ.get("RATTLE_HOME") or (
-        os.path.dirname(os.path.dirname(os.path.realpath(rt))) if rt else "")
-    emulator = os.path.join(kit, "on", platform.machine(), "toolchain", "bin",
-                            "qemu-x86_64")
-    if not os.path.exists(emulator):
-        return "no emulator for x86-64 in the kit"
-    return [cross, "-static"], [emulator]
-
-
-def library_trouble():
-    if not os.path.exists(LIBRARY):
-        return "no target/staticlib/libexports.a; `rt staticlib exports`"
-    if subprocess.run(["find", ROOT + "/crates", "-name", "*.rt", "-newer",
-                       LIBRARY], check=True,
-                      stdout=subprocess.PIPE).stdout:
-        return "target/staticlib/libexports.a is old; `rt staticlib exports`"
-    return None
+def compiler_here(bench, what):
+    """Whether a C program can be linked with the proved library here."""
+    if not is_built(LIBRARY):
+        bench.unbuilt(what, "target/staticlib/libexports.a is not built from "
+                            "this tree; `tools/prove exports_c`")
+    elif platform.machine() != "x86_64" or not shutil.which("gcc"):
+        bench.skip(what, "no gcc for x86-64")
+    else:
+        return True
+    return False
 
 
 def compiled(bench, source):
     """How the C program is started, or None where it cannot be made here."""
     name = "examples/" + os.path.basename(source)
-    words = machine_words(bench)
-    why = library_trouble() or (words if isinstance(words, str) else None)
-    if why:
-        bench.skip(name, why)
+    if not compiler_here(bench, name):
         return None
-    compiler, runner = words
     program = os.path.join(bench.scratch, os.path.basename(source)[:-2])
     line = compile_line(source).split()[1:-1] + [program]
-    done = subprocess.run(compiler + ["-Wall", "-Wextra", "-Werror"] + line,
+    done = subprocess.run(["gcc", "-Wall", "-Wextra", "-Werror"] + line,
                           cwd=ROOT, stderr=subprocess.PIPE)
     bench.equal(name + " compiles", (
         done.returncode, done.stderr.decode()), (0, ""))
-    return runner + [program]
+    return [program]
 
 
 def played(program, name):
@@ -153,13 +134,10 @@ def test_header(bench):
 
 def test_needs(bench):
     """It has no data of its own, and needs what the header says."""
-    words = machine_words(bench)
-    why = library_trouble() or (words if isinstance(words, str) else None)
-    if why:
-        return bench.skip("needs of the library", why)
-    nm = words[0][0][:-len("gcc")] + "nm"
+    if not compiler_here(bench, "needs of the library"):
+        return
     names = [line.split()[-2:] for line in subprocess.run(
-        [nm, LIBRARY], check=True, stdout=subprocess.PIPE).stdout.decode()
+        ["nm", LIBRARY], check=True, stdout=subprocess.PIPE).stdout.decode()
         .splitlines() if len(line.split()) > 1]
     header = " ".join(read(ROOT, "include", "dryswennol.h").decode().split())
     said = re.search(r"needs nothing but ([^.]*)\.", header).group(1)

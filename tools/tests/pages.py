@@ -41,22 +41,17 @@ def test_quotes(bench):
         bench.equal("what %s quotes from %s" % (name, path), missing, [])
 
 
-# what rt tries itself, from nothing, and what tools/edits tries
-EDITS = ("must-fail", "edits")
-
-
 def test_edit_texts(bench):
     """What an edit replaces stands once in its file, so that an edit that is tried seldom does not lose its text."""
     wrong = []
-    for folder in EDITS:
-        for path in sorted(glob.glob(os.path.join(ROOT, "crates", "*", folder, "*.edit"))):
-            crate = os.path.dirname(os.path.dirname(path))
-            name, text = os.path.relpath(path, ROOT), ""
-            for line in open(path, encoding="utf-8").read().split("\n"):
-                if line.startswith("file: "):
-                    text = open(os.path.join(crate, line[6:]), encoding="utf-8").read()
-                elif line.startswith("old: ") and text.count(line[5:]) != 1:
-                    wrong.append("%s: %d times: %s" % (name, text.count(line[5:]), line[5:]))
+    for path in sorted(glob.glob(os.path.join(ROOT, "crates", "*", "must-fail", "*.edit"))):
+        crate = os.path.dirname(os.path.dirname(path))
+        name, text = os.path.relpath(path, ROOT), ""
+        for line in open(path, encoding="utf-8").read().split("\n"):
+            if line.startswith("file: "):
+                text = open(os.path.join(crate, line[6:]), encoding="utf-8").read()
+            elif line.startswith("old: ") and text.count(line[5:]) != 1:
+                wrong.append("%s: %d times: %s" % (name, text.count(line[5:]), line[5:]))
     bench.equal("the texts that edits replace", wrong, [])
 
 
@@ -65,8 +60,7 @@ def test_edits(bench):
     for name in ("docs/PROVED.md", "docs/CHECKS.md", "docs/SENTENCES.md"):
         absent = [crate + "/" + label for crate, label in EDIT.findall(page(name))
                   if os.path.isdir(os.path.join(ROOT, "crates", crate))
-                  and not any(os.path.exists(os.path.join(ROOT, "crates", crate, folder, label + ".edit"))
-                              for folder in EDITS)]
+                  and not os.path.exists(os.path.join(ROOT, "crates", crate, "must-fail", label + ".edit"))]
         bench.equal("%s names edits that are there" % name, absent, [])
 
 

@@ -1,9 +1,9 @@
-"""tools/generate: the proofs that it prints stand in the crates as it prints them."""
+"""tools/generate: the parts that it prints stand in their files as it prints them."""
 
 
 def test_as_printed(bench):
     status, out, err = bench.tool("generate/run", "--check")
-    bench.equal("printed proofs", (status, out.decode(), err), (0, "", ""))
+    bench.equal("printed parts", (status, out.decode(), err), (0, "", ""))
 
 
 def test_bad_words(bench):
