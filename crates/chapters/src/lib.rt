@@ -6,7 +6,7 @@ ghost use Rattle.std.specs.Prelude.{◌≡◌};
 ghost use Rattle.scope.specs.Step.{caller_refusal};
 
 // What is asked of a step: "call, caller mark, five arguments"; and the slot of who runs then, 32 if nobody.
-#[derive(Drop)]
+#[derive(Clone, Copy)]
 pub struct Asked {
     pub call: u32,
     pub mark: u32,

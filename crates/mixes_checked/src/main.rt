@@ -4,6 +4,7 @@
 ghost use Rattle.std.specs.Prelude.{◌≡◌, length};
 
 use scope::State;
+use std::process::ExitCode;
 
 #[derive(Clone, Copy)]
 struct Played {
@@ -58,10 +59,13 @@ fn mix_room() -> [u8; 65536]
     [0; 65536]
 }
 
-// Where a read fails, what came before it is played.
-fn main(rt: HostRuntime) {
+// Where a read fails, what came before it is played. Where nobody reads the checksum, the status is that of a program that SIGPIPE ended.
+fn main(rt: HostRuntime) -> ExitCode {
     let mut file = mix_room();
     let n = inputs::read_input(&mut rt.stdin(), &mut file).length;
     let sum = rounds(&file[..n]);
-    let _ = println!(rt; "{sum}");
+    match println!(rt; "{sum}") {
+        Err(e) if inputs::is_unread(&e) => ExitCode::from(141),
+        _ => ExitCode::SUCCESS,
+    }
 }

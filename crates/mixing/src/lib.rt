@@ -8,7 +8,7 @@ ghost use Rattle.mixing.specs.Mixes.{head_of, mix_record, mixed_with, summed_wit
 use answers::Outcome;
 use text::Record;
 
-#[derive(Drop)]
+#[derive(Clone, Copy)]
 pub struct Head {
     pub count: usize,
     pub first: usize,

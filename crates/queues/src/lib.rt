@@ -176,7 +176,7 @@ fn fits(longest: u8, n: u32, message: &[u8]) -> bool
 }
 
 // Where a message goes: the queue's slot, the slot of the waiter that gets it (32 where it is held), and the refusal, else OK.
-#[derive(Drop)]
+#[derive(Clone, Copy)]
 struct Way {
     slot: usize,
     to: usize,

@@ -196,7 +196,7 @@ pub struct Fresh {
 }
 
 // What an identifier names.
-#[derive(Drop)]
+#[derive(Clone, Copy)]
 pub enum Found {
     At(usize),
     Deleted,

@@ -10,7 +10,7 @@ ghost use Rattle.scripts.specs.Place.{point_at, Begun};
 use scope::State;
 
 // Where a script has got to, beside the state: how many records are left, the number of the next and where it starts.
-#[derive(Drop)]
+#[derive(Clone, Copy)]
 pub struct Place {
     pub left: u32,
     pub number: u32,
@@ -18,7 +18,7 @@ pub struct Place {
 }
 
 // The place after a part of the listing, and how many bytes of it were written.
-#[derive(Drop)]
+#[derive(Clone, Copy)]
 pub struct Part {
     pub place: Place,
     pub written: usize,

@@ -31,7 +31,7 @@ fn lowered(y: u16, x: u16, reach: u16) -> u16
 }
 
 // The seats after one was left, and whether anybody is the first of its queue then.
-#[derive(Drop)]
+#[derive(Clone, Copy)]
 struct Closed {
     seats: [u16; 32],
     held: bool,
@@ -177,7 +177,7 @@ pub fn make_ready(seat: &mut [u16; 32], t: usize, p: u8)
 }
 
 // The seats after one was left, and the seat behind all of some queue then.
-#[derive(Drop)]
+#[derive(Clone, Copy)]
 struct Moved {
     seats: [u16; 32],
     behind: u16,

@@ -9,7 +9,7 @@ ghost use Rattle.tables.specs.Masks.{bit_at, mask_from};
 ghost use Rattle.tables.specs.Slots.{slot, slot_of};
 
 // What a call works on: the slot, and the status of the refusal where there is one, else OK.
-#[derive(Drop)]
+#[derive(Clone, Copy)]
 pub struct Slot {
     pub at: usize,
     pub status: u32,

@@ -25,7 +25,7 @@ pub fn read_number(s: &[u8], at: usize) -> u32
 }
 
 // "records of seven: call, caller mark, five arguments"
-#[derive(Drop)]
+#[derive(Clone, Copy)]
 pub struct Record {
     pub call: u32,
     pub mark: u32,

@@ -15,7 +15,7 @@ ghost use Rattle.answers.specs.Columns.{line_of, wakers, waking_of, lent_line};
 use answers::Outcome;
 
 // The time_outs when one is taken from each that runs, and from how many it was the last one.
-#[derive(Drop)]
+#[derive(Clone, Copy)]
 struct Taken {
     left: [u32; 32],
     last: u32,
