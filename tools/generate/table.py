@@ -7,6 +7,9 @@ TABLES = [
     ('P', 'Pools', 'pools', 8, [('out', 8), ('name', 4), ('address', 4), ('length', 4), ('size', 4), ('serial', 2), ('live', 0), ('forced', 0), ('place', 1)]),
     ('U', 'Queues', 'queues', 8, [('name', 4), ('serial', 2), ('live', 0), ('fifo', 0), ('limits', 1), ('held', 1), ('cells', 1)]),
 ]
+# A table's name among its definitions, and what stands for it there.
+FROM = {'L': 'line', 'K': 'tasks', 'Q': 'sems', 'P': 'pools', 'U': 'queues'}
+VAR = {'L': 'l', 'K': 'k', 'Q': 'm', 'P': 'p', 'U': 'u'}
 # A column that does not have one place for each slot: table, column, length.
 LENGTHS = {('L', 'rings'): 1, ('P', 'place'): 512, ('U', 'limits'): 16, ('U', 'cells'): 8320}
 # The image (docs/IMAGE.md): a header, then these tables, whose fields are these columns in order, then the ready order.
@@ -30,46 +33,34 @@ CALLS = {
 # name, what the promise is stated with, what is lent in order (table, 'mut' or 'shr', columns or None for all)
 WAKING = ['serial', 'suspended', 'priority']
 LENT = [
-    ('tick', 'lentLine', [('L', 'mut', None), ('K', 'shr', WAKING)]),
-    ('task', 'lentTasks', [('L', 'mut', None), ('K', 'mut', None)]),
-    ('sem', 'lentSemaphores', [('L', 'mut', None), ('K', 'shr', WAKING), ('Q', 'mut', None)]),
-    ('pool', 'lentPools', [('P', 'mut', None)]),
-    ('queue', 'lentQueues', [('L', 'mut', None), ('K', 'shr', WAKING), ('U', 'mut', None)]),
-    ('send', 'lentQueues', [('L', 'mut', None), ('K', 'shr', WAKING), ('U', 'mut', ['serial', 'live', 'limits', 'held', 'cells'])]),
-    ('receive', 'lentQueues', [('L', 'mut', None), ('K', 'shr', ['priority']), ('U', 'mut', ['serial', 'live', 'fifo', 'held', 'cells'])]),
+    ('tick', 'lent_line', [('L', 'mut', None), ('K', 'shr', WAKING)]),
+    ('task', 'lent_tasks', [('L', 'mut', None), ('K', 'mut', None)]),
+    ('sem', 'lent_semaphores', [('L', 'mut', None), ('K', 'shr', WAKING), ('Q', 'mut', None)]),
+    ('pool', 'lent_pools', [('P', 'mut', None)]),
+    ('queue', 'lent_queues', [('L', 'mut', None), ('K', 'shr', WAKING), ('U', 'mut', None)]),
+    ('send', 'lent_queues', [('L', 'mut', None), ('K', 'shr', WAKING), ('U', 'mut', ['serial', 'live', 'limits', 'held', 'cells'])]),
+    ('receive', 'lent_queues', [('L', 'mut', None), ('K', 'shr', ['priority']), ('U', 'mut', ['serial', 'live', 'fifo', 'held', 'cells'])]),
 ]
-# The readers: what is lent them is only read, so all of it is lent shared. `said` is what the callee ensures of the state d, `{}` in it
-# the columns lent; `is` is what the reader promises of the state `{}`; `home` is its crate.
+# The readers: what is lent them is only read, so all of it is lent shared. `is` is what the reader promises of the state `{}`; `home` is its
+# crate.
 READY = ['started', 'suspended', 'priority']
 QUEUED = ['units', 'live', 'fifo']
 RECEIVED = ['live', 'fifo', 'limits', 'held']
 READERS = [
-    {'name': 'runner', 'home': 'lending', 'head': 'The identifier of the task that runs; 0 for nobody.', 'type': 'u32', 'is': 'runningTask ({})',
-     'crate': 'answers', 'callee': 'running_task', 'lent': [('K', 'shr', ['serial'])], 'running': True,
-     'said': 'r ≡ choose (ltb (d .running) 32) (getD (d .tasks .serial) (d .running) 0 * 64 + d .running) 0',
-     'unfolding': 'runningTask', 'so': 'said',
-     'uses': 'use Rattle·scope.specs.Choice.{pick as choose}\nuse Rattle·scope.specs.Views.{running_task}\n'},
-    {'name': 'orders_kept', 'home': 'checking', 'head': 'Whether the state keeps the rules of orders and queues.', 'type': 'bool', 'is': 'keeps order_rules ({})',
-     'crate': 'rules', 'callee': 'orders_kept', 'lent': [('L', 'shr', None), ('K', 'shr', READY), ('Q', 'shr', QUEUED), ('U', 'shr', RECEIVED)], 'running': True,
-     'said': '(s : State) → r ≡ keeps order_rules (lent_orders s {} (d .running))', 'unfolding': '', 'so': 'said d',
-     'uses': 'use Rattle·scope.specs.Rules.{keeps, order_rules}\nuse Rattle·rules.specs.Lent.{lent_orders}\n'},
-    {'name': 'tasks_right', 'home': 'checking', 'head': "Whether it keeps the tasks' rule.", 'type': 'bool', 'is': 'tasksRight ({} .tasks)',
-     'crate': 'rules', 'callee': 'tasks_right', 'lent': [('K', 'shr', None)], 'running': False,
-     'said': 'r ≡ tasks_right (d .tasks)', 'unfolding': '', 'so': 'said', 'uses': 'use Rattle·scope.specs.Rules.{tasks_right}\n'},
-    {'name': 'sems_right', 'home': 'checking', 'head': "Whether it keeps the semaphores' rule.", 'type': 'bool', 'is': 'semsRight ({} .semaphores)',
-     'crate': 'rules', 'callee': 'sems_right', 'lent': [('Q', 'shr', None)], 'running': False,
-     'said': 'r ≡ sems_right (d .semaphores)', 'unfolding': '', 'so': 'said', 'uses': 'use Rattle·scope.specs.Rules.{sems_right}\n'},
-    {'name': 'queues_right', 'home': 'checking', 'head': "Whether it keeps the queues' rule.", 'type': 'bool', 'is': 'queuesRight ({} .queues)',
-     'crate': 'rules', 'callee': 'queues_right', 'lent': [('U', 'shr', ['name', 'serial', 'live', 'fifo', 'limits', 'held'])], 'running': False,
-     'said': '(cells : List ℕ) → r ≡ queues_right (queues_of {} cells)', 'unfolding': '', 'so': 'said (d .queues .cells)',
-     'uses': 'use Rattle·scope.specs.Rules.{queues_right}\nuse Rattle·answers.specs.Columns.{queues_of}\n'},
-    {'name': 'messages_right', 'home': 'checking', 'head': 'Whether the messages held are in their one form.', 'type': 'bool', 'is': 'messagesRight ({} .queues)',
-     'crate': 'messages', 'callee': 'all_in_form', 'lent': [('U', 'shr', ['limits', 'held', 'cells'])], 'running': False,
-     'said': 'r ≡ store_right (store_of (d .queues)) (d .queues .limits)', 'unfolding': 'messagesRight', 'so': 'said',
-     'uses': 'use Rattle·scope.specs.Rules.{messages_right}\nuse Rattle·scope.specs.Messages.{store_right}\nuse Rattle·scope.specs.Queues.{store_of}\n'},
-    {'name': 'pools_kept', 'home': 'checking', 'head': "Whether it keeps the pools' rules.", 'type': 'bool', 'is': 'poolsKept ({} .pools)',
-     'crate': 'rules', 'callee': 'pools_kept', 'lent': [('P', 'shr', None)], 'running': False,
-     'said': 'r ≡ pools_kept (d .pools)', 'unfolding': '', 'so': 'said', 'uses': 'use Rattle·rules.specs.Lent.{pools_kept}\n'},
+    {'name': 'runner', 'home': 'lending', 'head': 'The identifier of the task that runs; 0 for nobody.', 'type': 'u32', 'is': 'running_task {}',
+     'crate': 'answers', 'callee': 'running_task', 'lent': [('K', 'shr', ['serial'])], 'running': True},
+    {'name': 'orders_kept', 'home': 'checking', 'head': 'Whether the state keeps the rules of orders and queues.', 'type': 'bool', 'is': 'keeps order_rules {}',
+     'crate': 'rules', 'callee': 'orders_kept', 'lent': [('L', 'shr', None), ('K', 'shr', READY), ('Q', 'shr', QUEUED), ('U', 'shr', RECEIVED)], 'running': True},
+    {'name': 'tasks_right', 'home': 'checking', 'head': "Whether it keeps the tasks' rule.", 'type': 'bool', 'is': 'tasks_right {}.tasks',
+     'crate': 'rules', 'callee': 'tasks_right', 'lent': [('K', 'shr', None)], 'running': False},
+    {'name': 'sems_right', 'home': 'checking', 'head': "Whether it keeps the semaphores' rule.", 'type': 'bool', 'is': 'sems_right {}.semaphores',
+     'crate': 'rules', 'callee': 'sems_right', 'lent': [('Q', 'shr', None)], 'running': False},
+    {'name': 'queues_right', 'home': 'checking', 'head': "Whether it keeps the queues' rule.", 'type': 'bool', 'is': 'queues_right {}.queues',
+     'crate': 'rules', 'callee': 'queues_right', 'lent': [('U', 'shr', ['name', 'serial', 'live', 'fifo', 'limits', 'held'])], 'running': False},
+    {'name': 'messages_right', 'home': 'checking', 'head': 'Whether the messages held are in their one form.', 'type': 'bool', 'is': 'messages_right {}.queues',
+     'crate': 'messages', 'callee': 'all_in_form', 'lent': [('U', 'shr', ['limits', 'held', 'cells'])], 'running': False},
+    {'name': 'pools_kept', 'home': 'checking', 'head': "Whether it keeps the pools' rules.", 'type': 'bool', 'is': 'pools_kept {}.pools',
+     'crate': 'rules', 'callee': 'pools_kept', 'lent': [('P', 'shr', None)], 'running': False},
 ]
 LAST = LENT[-1][0]
 # What a call may be lent beside columns, in order, and its type.
@@ -89,18 +80,17 @@ def required(name, call='call'):
 
 # and of all that it is lent: the place of a message shown is blank
 def asks(name, call='call'):
-    return f'({required(name, call)}) × (now shown ≡ no_message)' if name in SHOWS else required(name, call)
+    return f'({required(name, call)}) × (shown.old ≡ no_message)' if name in SHOWS else required(name, call)
 
 # a chapter's calls in words, one of them
 def head(name):
     words, _, numbers = CALLS[name]
     return f'The {words}' if len(numbers) == 1 else f'A {words}' + (', or none of the table' if name == LAST else '')
 
-# its crate: the calls of the chapter, and the walk that lends them their columns
+# its crate: the choice among its calls, and the function that lends them their columns
 def home(name):
     return f'{name}_chapter'
 
-CHAPTERS = [(name, lent, segs, asks(name)) for name, lent, segs in LENT]
 NUMS = ['call', 'mark', 'a', 'b', 'c', 'd', 'e']
 
 def table(g):
@@ -114,33 +104,21 @@ def cols(segs):
 def local(c, shr):
     return 'waker' if shr and c == 'serial' else c
 
+# how many places a column has
+def long(g, c):
+    return LENGTHS.get((g, c), table(g)[3])
+
 # a column's type in the source
+TYPES = {0: 'bool', 1: 'u8', 2: 'u16', 4: 'u32', 8: 'u64'}
+
 def array(g, c):
-    _, _, _, n, cs = table(g)
-    return '[%s; %d]' % ({0: 'bool', 1: 'u8', 2: 'u16', 4: 'u32', 8: 'u64'}[dict(cs)[c]], LENGTHS.get((g, c), n))
-
-def up(a, e):
-    return (e + a - 1) // a * a
-
-def layout():
-    at, end = {}, 0
-    for g, S, f, n, cs in TABLES:
-        al = max(max(w, 1) for _, w in cs)
-        end = up(al, end)
-        at[g] = end
-        e = 0
-        for c, w in cs:
-            w = max(w, 1)
-            e = up(w, e) + w * LENGTHS.get((g, c), n)
-        end += up(al, e)
-    at['running'] = up(8, end)
-    return at
+    return f'[{TYPES[dict(table(g)[4])[c]]}; {long(g, c)}]'
 
 
 # a table of the image: its slots, and its fields (column, bytes of a number, 0 for a yes or no, how many numbers a slot, its own table)
 def image_fields(segs):
     n = table(segs[0][0])[3]
-    return n, [(c, w, LENGTHS.get((g, c), n) // n, g) for g, sub in segs for c, w in table(g)[4] if sub is None or c in sub]
+    return n, [(c, w, long(g, c) // n, g) for g, sub in segs for c, w in table(g)[4] if sub is None or c in sub]
 
 
 def stride(fields):

@@ -1,9 +1,9 @@
-"""tools/generate: the parts that it prints stand in their files as it prints them."""
+"""tools/generate: what it prints, files and parts of files, stands in the tree as it prints it."""
 
 
 def test_as_printed(bench):
     status, out, err = bench.tool("generate/run", "--check")
-    bench.equal("printed parts", (status, out.decode(), err), (0, "", ""))
+    bench.equal("as printed", (status, out.decode(), err), (0, "", ""))
 
 
 def test_bad_words(bench):
