@@ -77,7 +77,7 @@ SHARED = '''// What the chapters of the call table share: what is asked of a ste
 '''
 ASKED = '''
 // What is asked of a step: "call, caller mark, five arguments"; and the slot of who runs then, 32 if nobody.
-#[derive(Drop)]
+#[derive(Clone, Copy)]
 pub struct Asked {
 %s    pub running: usize,
 }

@@ -1,7 +1,10 @@
 // What a program that plays a script is given: room for it, its bytes, and a word of complaint where they cannot be had.
 #![tactic(auto)]
 
-ghost use Rattle.std.specs.Prelude.{◌≡◌, false, ◌≤◌, length};
+ghost use Rattle.std.specs.Prelude.{◌≡◌, false, ◌≤◌, ◌↔◌, length, IsTrue};
+ghost use Rattle.std.specs.Process.{exit_status};
+ghost use Rattle.std.specs.IoError.{error_kind};
+ghost use Rattle.inputs.specs.Ending.{status_of};
 
 use std::env::{Env, FillError};
 use std::fs::{Files, OpenOptions};
@@ -129,6 +132,9 @@ where
     let _ = write_report(rt, word);
 }
 
+// The exit status where nobody reads any more: what a shell tells of a program that SIGPIPE ended. (std ignores that signal.)
+pub const UNREAD: u8 = 141;
+
 // How a program ended. `Unread`: nobody reads what it writes any more.
 #[derive(Clone, Copy)]
 pub enum Ended {
@@ -138,18 +144,20 @@ pub enum Ended {
 }
 
 // Whether a write failed because nobody reads any more, as where `head` has seen enough.
-pub fn is_unread(why: &io::Error) -> bool {
+pub fn is_unread(why: &io::Error) -> bool
+    ensures { IsTrue result ↔ (error_kind why.now ≡ ErrorKind.BrokenPipe) }
+{
     matches!(why.kind(), ErrorKind::BrokenPipe)
 }
 
-// The exit status: 141, without a word, where nobody reads any more, as a shell tells of a program that SIGPIPE ended (std ignores that
-// signal). Else 0, and where the launcher asks for it the last word.
+// The exit status: UNREAD, without a word, where nobody reads any more. Else 0, and where the launcher asks for it the last word.
 pub fn leave<R: Files>(rt: &R, ended: Ended, asked: bool) -> ExitCode
 where
     R::File: Drop,
+    ensures { exit_status result ≡ status_of ended }
 {
     let done = match ended {
-        Ended::Unread => return ExitCode::from(141),
+        Ended::Unread => return ExitCode::from(UNREAD),
         Ended::Done => true,
         Ended::Failed => false,
     };

@@ -59,13 +59,13 @@ fn mix_room() -> [u8; 65536]
     [0; 65536]
 }
 
-// Where a read fails, what came before it is played. Where nobody reads the checksum, the status is that of a program that SIGPIPE ended.
+// Where a read fails, what came before it is played.
 fn main(rt: HostRuntime) -> ExitCode {
     let mut file = mix_room();
     let n = inputs::read_input(&mut rt.stdin(), &mut file).length;
     let sum = rounds(&file[..n]);
     match println!(rt; "{sum}") {
-        Err(e) if inputs::is_unread(&e) => ExitCode::from(141),
+        Err(e) if inputs::is_unread(&e) => ExitCode::from(inputs::UNREAD),
         _ => ExitCode::SUCCESS,
     }
 }
