@@ -2,7 +2,7 @@
 -- delivers a message (M-100) and says so, and a refusal wakes nobody. Each deed wakes nobody, or wakes with a status that is not 0, or
 -- delivers.
 -- Assumes nothing.
-use Prim.Native.Nat.{ℕ, zero, suc, ◌+◌}
+use Prim.Native.Nat.{ℕ, zero, suc}
 use native.Mathlib.Omega.{arith}
 use mathlib.Core.Path.{◌≡◌, refl, sym, subst, ap, ◌∙◌}
 use mathlib.Core.Logic.{◌⊎◌, inl, inr, ⊎_elim}

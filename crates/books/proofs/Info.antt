@@ -1,7 +1,7 @@
 -- "while a semaphore lives, its count = initial count + releases answered OK - claims granted - tasks now waiting; tasks wait only
 -- when the count is negative, and then its size is their number": of the count that sem_info answers, told by the answers alone.
 -- Assumes nothing.
-use Prim.Native.Nat.{ℕ, ◌+◌, ◌≤◌, ◌<◌}
+use Prim.Native.Nat.{ℕ, ◌≤◌, ◌<◌}
 use native.Mathlib.Omega.{arith}
 use mathlib.Core.Path.{◌≡◌, refl, sym, subst, ap, ◌∙◌}
 use mathlib.Core.Bool.{false}
@@ -24,7 +24,7 @@ use Rattle.histories.proofs.Answered.{by_name, by_number}
 use Rattle.histories.proofs.Ledger.{Creation}
 use Rattle.histories.proofs.Demand.{WaitingNegative, end_sound, count_of_history, waiting_of_history}
 use Rattle.books.specs.Past.{Turn, past_of}
-use Rattle.books.specs.Waiting.{is_fifo, releases, waiting}
+use Rattle.books.specs.Waiting.{is_fifo, waiting}
 use Rattle.books.proofs.Told.{seats_told}
 use Rattle.books.proofs.Totals.{releases_told, grants_told, initial_told}
 use Rattle.books.specs.Told.{SemInfoTold, SeatsTold, sem_id}

@@ -2,7 +2,7 @@
 -- waiter that leaves ungranted gives its one back, and who waited for a message queue gives none to a semaphore. So the count stays between -32 and 32,767: by the waiters, of whom there are at
 -- most 32, or by the units.
 -- Assumes nothing.
-use Prim.Native.Nat.{ℕ, ◌+◌, ◌%◌, ◌≤◌, ◌<◌}
+use Prim.Native.Nat.{ℕ, ◌+◌, ◌≤◌, ◌<◌}
 use native.Mathlib.Omega.{arith}
 use mathlib.Core.Path.{◌≡◌, sym, ap, ◌∙◌}
 use mathlib.Core.Logic.{◌⊎◌, ⊎_elim}

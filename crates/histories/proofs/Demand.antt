@@ -11,7 +11,6 @@ use mathlib.Core.List.{List}
 use lib.ListN.{get_or, get_or-replicate}
 use Rattle.scope.specs.declared.State.{State}
 use Rattle.scope.specs.declared.Found.TheVariants.{Deleted}
-use Rattle.scope.specs.Statuses.{OK}
 use Rattle.scope.specs.Identifiers.{found}
 use Rattle.scope.specs.Views.{waiters_of, less}
 use Rattle.scope.specs.Fresh.{fresh_state}

@@ -18,7 +18,6 @@ use Rattle.scope.specs.declared.Pools.{Pools}
 use Rattle.scope.specs.declared.Found.TheVariants.{At}
 use Rattle.scope.specs.Choice.{pick, number}
 use Rattle.scope.specs.Statuses.{OK}
-use Rattle.scope.specs.Identifiers.{identifier}
 use Rattle.scope.specs.Areas.{buffer_address, is_out, is_free}
 use Rattle.scope.specs.Places.{first_leaves, joins_last}
 use Rattle.scope.specs.Views.{with_pools}

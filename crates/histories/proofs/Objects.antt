@@ -1,7 +1,7 @@
 -- What the tables say of an object: number i below 16 is the semaphore in slot i, number 16 + i the queue in slot i, and no other is
 -- live or has a stock. By the numbers, and past the last by the columns' lengths.
 -- Assumes nothing.
-use Prim.Native.Nat.{ℕ, ◌+◌, ◌-◌, ◌≤◌, ◌<◌}
+use Prim.Native.Nat.{ℕ, ◌-◌, ◌≤◌, ◌<◌}
 use native.Mathlib.Omega.{arith}
 use mathlib.Core.Path.{◌≡◌, refl, sym, ap, ◌∙◌}
 use mathlib.Core.Logic.{⊎_elim}

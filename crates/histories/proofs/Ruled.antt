@@ -2,7 +2,7 @@
 -- holds the list is kept.
 -- Assumes nothing.
 use mathlib.Core.Path.{◌≡◌, refl}
-use mathlib.Core.Bool.{Bool, true, ◌&&◌}
+use mathlib.Core.Bool.{Bool, true}
 use mathlib.Core.List.{List, [], ◌∷◌}
 use Rattle.scope.specs.declared.State.{State}
 use Rattle.scope.specs.Rules.{order_rules, table_rules, keeps, sound}

@@ -14,7 +14,6 @@ use Rattle.scope.specs.declared.Answer.{Answer}
 use Rattle.scope.specs.declared.Semaphores.{Semaphores}
 use Rattle.scope.specs.declared.Found.TheVariants.{At}
 use Rattle.scope.specs.Statuses.{OK}
-use Rattle.scope.specs.Identifiers.{identifier}
 use Rattle.scope.specs.Seats.{queue_seats, first_standing}
 use Rattle.scope.specs.Queues.{queue_delete_at}
 use Rattle.scope.specs.Ticks.{tick}

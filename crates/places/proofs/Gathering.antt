@@ -2,7 +2,7 @@
 -- with 0, somebody is on. The order is right exactly if the first word is that of the free buffers, no place is above their number, and
 -- the second word has all places up to it: m buffers on m places, none of them empty, so on each place one.
 -- Assumes nothing.
-use Prim.Native.Nat.{ℕ, zero, suc, ◌+◌, ◌-◌, ◌*◌, ◌/◌, ◌%◌, ◌^◌, ◌≤◌, ◌<◌}
+use Prim.Native.Nat.{ℕ, zero, suc, ◌+◌, ◌-◌, ◌*◌, ◌%◌, ◌^◌, ◌≤◌, ◌<◌}
 use native.Mathlib.Omega.{arith}
 use native.Mathlib.Nat.{pow-suc, add-mul, mul_assoc, mul_comm, eq-or-lt_of_le, mod-eq_of_lt, mod-lt}
 use mathlib.Core.Path.{◌≡◌, refl, sym, subst, ap, ◌∙◌}

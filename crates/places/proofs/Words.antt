@@ -1,7 +1,7 @@
 -- Words of 64 bits: two with the same bits are one number, a word of its lowest bits set, that of the free buffers, and what `|` and a
 -- single bit do.
 -- Assumes nothing.
-use Prim.Native.Nat.{ℕ, zero, suc, ◌+◌, ◌-◌, ◌*◌, ◌/◌, ◌%◌, ◌^◌, ◌≤◌, ◌<◌}
+use Prim.Native.Nat.{ℕ, zero, suc, ◌+◌, ◌-◌, ◌/◌, ◌%◌, ◌^◌, ◌≤◌, ◌<◌}
 use native.Mathlib.Omega.{arith}
 use native.Mathlib.Nat.{mod-one, mod-lt, mod-eq_of_lt, zero-div}
 use mathlib.Core.Path.{◌≡◌, refl, sym, ap, ◌∙◌}

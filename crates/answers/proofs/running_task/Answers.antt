@@ -2,7 +2,6 @@
 use mathlib.Core.Path.{refl}
 use borrow.Author.Tests.{lt-ltb, le-ltb}
 use Rattle.laws.proofs.Branches.{pick_yes, pick_no}
-use borrow.Author.Rules.{rules}
 use Rattle.answers.proofs.running_task.Goals as goal
 
 pub returns-then-t-lt32 : goal.returns-then-t-lt32

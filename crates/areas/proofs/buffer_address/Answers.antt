@@ -1,4 +1,3 @@
-use borrow.Author.Rules.{rules}
 use native.Mathlib.Omega.{arith}
 use Rattle.scope.specs.Areas.{buffer_address}
 use Rattle.laws.proofs.Areas.Sizes.{far}

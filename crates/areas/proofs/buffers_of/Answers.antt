@@ -1,4 +1,3 @@
-use borrow.Author.Rules.{rules}
 use Rattle.laws.proofs.Areas.Sizes.{buffers_none, buffers_few, buffers_most}
 use Rattle.areas.proofs.buffers_of.Goals as goal
 

@@ -1,6 +1,4 @@
 use native.Mathlib.Omega.{arith}
-use mathlib.Core.Path.{◌≡◌, ◌∙◌}
-use borrow.Author.Rules.{rules}
 use Rattle.scope.specs.Choice.{number}
 use Rattle.scope.specs.Areas.{free_of}
 use Rattle.areas.proofs.Ones.{shifted_free}

@@ -1,4 +1,3 @@
-use borrow.Author.Rules.{rules}
 use native.Mathlib.Nat.{one-mul}
 use Rattle.laws.proofs.Areas.Marks.{bit_fits, back_fits}
 use Rattle.areas.proofs.give_back.Goals as goal

@@ -1,4 +1,3 @@
-use borrow.Author.Rules.{rules}
 use mathlib.Core.Path.{refl}
 use Rattle.scope.specs.Areas.{is_out}
 use Rattle.areas.proofs.is_out.Goals as goal

@@ -1,4 +1,3 @@
-use borrow.Author.Rules.{rules}
 use Rattle.laws.proofs.Areas.Sizes.{size_none, size_some, size_over}
 use Rattle.areas.proofs.is_size.Goals as goal
 

@@ -1,4 +1,3 @@
-use borrow.Author.Rules.{rules}
 use mathlib.Core.Path.{sym, ◌∙◌}
 use Rattle.laws.proofs.Branches.{second_decides}
 use Rattle.areas.proofs.live_shares.Goals as goal

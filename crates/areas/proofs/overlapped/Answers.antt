@@ -1,9 +1,9 @@
-use mathlib.Core.Path.{◌≡◌, sym, ◌∙◌}
+use mathlib.Core.Path.{sym, ◌∙◌}
 use mathlib.Core.Bool.{false}
-use Prim.Native.Nat.{ℕ, ◌-◌, ◌≤◌, ◌<◌}
+use Prim.Native.Nat.{◌-◌}
 use borrow.Author.Rules.{rules}
 use borrow.Author.Count.{below_none, below_more}
-use Rattle.areas.proofs.Overlaps.{hit, search_hit, search_none}
+use Rattle.areas.proofs.Overlaps.{search_hit, search_none}
 use Rattle.areas.proofs.overlapped.Goals as goal
 
 pub loop-k-init : goal.loop-k-init

@@ -1,9 +1,7 @@
-use mathlib.Core.Path.{◌≡◌, sym, ◌∙◌}
+use mathlib.Core.Path.{◌≡◌}
 use mathlib.Core.Bool.{false}
 use Prim.Native.Nat.{ℕ, ◌-◌, ◌≤◌, ◌<◌}
-use borrow.Author.Rules.{rules}
-use borrow.Author.Count.{below_none, below_more}
-use Rattle.areas.proofs.Overlaps.{hit, search_hit, search_none}
+use Rattle.areas.proofs.Overlaps.{hit}
 use Rattle.areas.proofs.overlapped.Given as goal
 
 abbrev pub invariant-loop-k : goal.invariant-loop-k

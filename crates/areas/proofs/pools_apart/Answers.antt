@@ -1,10 +1,10 @@
-use mathlib.Core.Path.{◌≡◌, refl, ◌∙◌}
+use mathlib.Core.Path.{refl, ◌∙◌}
 use mathlib.Core.Bool.{true}
-use Prim.Native.Nat.{◌-◌, ◌≤◌, ◌<◌}
+use Prim.Native.Nat.{◌-◌}
 use borrow.Author.Rules.{rules}
 use borrow.Author.Count.{below_none}
 use Rattle.scope.specs.Rules.{pair_shares, pools_apart}
-use Rattle.areas.proofs.Overlaps.{pair, RowClear, RowsClear, row_start, row_more, rows_more, pairs_hit, pairs_none}
+use Rattle.areas.proofs.Overlaps.{pair, row_start, row_more, rows_more, pairs_hit, pairs_none}
 use Rattle.areas.proofs.pools_apart.Goals as goal
 
 pub pairs-init : goal.pairs-init

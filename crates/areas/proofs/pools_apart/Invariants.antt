@@ -1,10 +1,7 @@
-use mathlib.Core.Path.{◌≡◌, refl, ◌∙◌}
+use mathlib.Core.Path.{◌≡◌}
 use mathlib.Core.Bool.{true}
 use Prim.Native.Nat.{◌-◌, ◌≤◌, ◌<◌}
-use borrow.Author.Rules.{rules}
-use borrow.Author.Count.{below_none}
-use Rattle.scope.specs.Rules.{pair_shares, pools_apart}
-use Rattle.areas.proofs.Overlaps.{pair, RowClear, RowsClear, row_start, row_more, rows_more, pairs_hit, pairs_none}
+use Rattle.areas.proofs.Overlaps.{pair, RowClear, RowsClear}
 use Rattle.areas.proofs.pools_apart.Given as goal
 
 abbrev pub invariant-loop-j : goal.invariant-loop-j

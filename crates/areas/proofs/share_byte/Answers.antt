@@ -1,4 +1,3 @@
-use borrow.Author.Rules.{rules}
 use native.Mathlib.Omega.{arith}
 use Rattle.laws.proofs.Areas.Sizes.{share_one, share_none}
 use Rattle.areas.proofs.share_byte.Goals as goal

@@ -1,9 +1,8 @@
 -- `chapters::caller_refusal`: a test after the other, in the definition's order.
-use mathlib.Core.Path.{◌≡◌, refl, sym, ◌∙◌}
-use borrow.Author.Tests.{lt-ltb, le-ltb, le-leb, lt-leb, eq-eqb, ne_eqb, not-true, not-false}
+use mathlib.Core.Path.{refl, sym, ◌∙◌}
+use borrow.Author.Tests.{lt-ltb, le-ltb, le-leb, lt-leb, eq-eqb, ne_eqb}
 use Rattle.laws.proofs.Branches.{pick_yes, pick_no}
 use Rattle.scope.specs.Step.{caller_refusal}
-use borrow.Author.Rules.{rules}
 use Rattle.chapters.proofs.caller_refusal.Goals as goal
 
 pub returns-then-call-ge27 : goal.returns-then-call-ge27

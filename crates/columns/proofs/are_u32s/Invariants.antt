@@ -1,11 +1,7 @@
 -- `columns::are_u32s`: before slot i those below it are compared.
-use Prim.Native.Nat.{◌-◌, ◌<◌}
-use native.Mathlib.Omega.{arith}
-use mathlib.Core.Path.{◌∙◌}
+use Prim.Native.Nat.{◌-◌}
 use lib.ListN.{length}
-use borrow.Author.Rules.{rules}
-use Rattle.fields.proofs.Loops.{room}
-use Rattle.fields.proofs.Testing.{Comparing, comparing_start, comparing_more, comparing_done}
+use Rattle.fields.proofs.Testing.{Comparing}
 use Rattle.columns.proofs.are_u32s.Given as goal
 
 abbrev pub invariant-loop-i : goal.invariant-loop-i

@@ -1,11 +1,9 @@
 -- `columns::are_u8s`: before slot i those below it are compared.
 use Prim.Native.Nat.{◌-◌, ◌<◌}
 use native.Mathlib.Omega.{arith}
-use mathlib.Core.Path.{◌∙◌}
 use lib.ListN.{length}
-use borrow.Author.Rules.{rules}
 use Rattle.fields.proofs.Loops.{room}
-use Rattle.fields.proofs.Testing.{Comparing, comparing_start, comparing_more, comparing_done}
+use Rattle.fields.proofs.Testing.{comparing_start, comparing_more, comparing_done}
 use Rattle.columns.proofs.are_u8s.Goals as goal
 
 pub loop-i-init : goal.loop-i-init

@@ -2,7 +2,7 @@
 use Prim.Native.Nat.{◌-◌}
 use mathlib.Core.Path.{refl}
 use borrow.Author.Rules.{rules}
-use Rattle.fields.proofs.Loops.{Copying, copying_start, copying_more, copying_done}
+use Rattle.fields.proofs.Loops.{copying_start, copying_more, copying_done}
 use Rattle.columns.proofs.copy.Goals as goal
 
 pub loop-k-init : goal.loop-k-init

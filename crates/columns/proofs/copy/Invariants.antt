@@ -1,8 +1,6 @@
 -- `columns::copy`: before byte k the first k bytes are there.
 use Prim.Native.Nat.{◌-◌}
-use mathlib.Core.Path.{refl}
-use borrow.Author.Rules.{rules}
-use Rattle.fields.proofs.Loops.{Copying, copying_start, copying_more, copying_done}
+use Rattle.fields.proofs.Loops.{Copying}
 use Rattle.columns.proofs.copy.Given as goal
 
 abbrev pub invariant-loop-k : goal.invariant-loop-k

@@ -2,9 +2,8 @@
 use Prim.Native.Nat.{◌-◌, ◌<◌}
 use native.Mathlib.Omega.{arith}
 use lib.ListN.{length}
-use borrow.Author.Rules.{rules}
 use Rattle.fields.proofs.Loops.{room}
-use Rattle.fields.proofs.Testing.{Looking, looking_start, looking_more, looking_done}
+use Rattle.fields.proofs.Testing.{looking_start, looking_more, looking_done}
 use Rattle.columns.proofs.flags_only.Goals as goal
 
 pub loop-i-init : goal.loop-i-init

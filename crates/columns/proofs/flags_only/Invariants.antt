@@ -1,10 +1,6 @@
 -- `columns::flags_only`: before slot i those below it are looked at.
-use Prim.Native.Nat.{◌-◌, ◌<◌}
-use native.Mathlib.Omega.{arith}
-use lib.ListN.{length}
-use borrow.Author.Rules.{rules}
-use Rattle.fields.proofs.Loops.{room}
-use Rattle.fields.proofs.Testing.{Looking, looking_start, looking_more, looking_done}
+use Prim.Native.Nat.{◌-◌}
+use Rattle.fields.proofs.Testing.{Looking}
 use Rattle.columns.proofs.flags_only.Given as goal
 
 abbrev pub invariant-loop-i : goal.invariant-loop-i

@@ -1,7 +1,7 @@
 -- `columns::get`: the bytes from k on are read.
 use native.Mathlib.Omega.{arith}
 use borrow.Author.Rules.{rules}
-use Rattle.fields.proofs.Loops.{Reading, reading_start, reading_room, reading_more, reading_done}
+use Rattle.fields.proofs.Loops.{reading_start, reading_room, reading_more, reading_done}
 use Rattle.columns.proofs.get.Goals as goal
 
 pub loop-k-init : goal.loop-k-init

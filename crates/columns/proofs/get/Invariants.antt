@@ -1,7 +1,5 @@
 -- `columns::get`: the bytes from k on are read.
-use native.Mathlib.Omega.{arith}
-use borrow.Author.Rules.{rules}
-use Rattle.fields.proofs.Loops.{Reading, reading_start, reading_room, reading_more, reading_done}
+use Rattle.fields.proofs.Loops.{Reading}
 use Rattle.columns.proofs.get.Given as goal
 
 abbrev pub invariant-loop-k : goal.invariant-loop-k

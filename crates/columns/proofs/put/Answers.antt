@@ -2,7 +2,7 @@
 use Prim.Native.Nat.{◌-◌}
 use mathlib.Core.Path.{refl}
 use borrow.Author.Rules.{rules}
-use Rattle.fields.proofs.Loops.{Writing, writing_start, writing_more, writing_done}
+use Rattle.fields.proofs.Loops.{writing_start, writing_more, writing_done}
 use Rattle.columns.proofs.put.Goals as goal
 
 pub loop-k-init : goal.loop-k-init

@@ -1,8 +1,6 @@
 -- `columns::put`: before byte k what is left of the number is still to write.
 use Prim.Native.Nat.{◌-◌}
-use mathlib.Core.Path.{refl}
-use borrow.Author.Rules.{rules}
-use Rattle.fields.proofs.Loops.{Writing, writing_start, writing_more, writing_done}
+use Rattle.fields.proofs.Loops.{Writing}
 use Rattle.columns.proofs.put.Given as goal
 
 abbrev pub invariant-loop-k : goal.invariant-loop-k

@@ -1,12 +1,10 @@
 -- `columns::put_bools`: before slot i those below it are put.
 use Prim.Native.Nat.{◌-◌, ◌<◌}
 use native.Mathlib.Omega.{arith}
-use mathlib.Core.Path.{◌∙◌}
 use mathlib.Core.List.{map}
 use lib.ListN.{length}
-use borrow.Author.Rules.{rules}
 use Rattle.fields.specs.Numbers.{bit}
-use Rattle.fields.proofs.Loops.{Putting, putting_start, putting_flag, putting_done, room}
+use Rattle.fields.proofs.Loops.{putting_start, putting_flag, putting_done, room}
 use Rattle.columns.proofs.put_bools.Goals as goal
 
 pub loop-i-init : goal.loop-i-init

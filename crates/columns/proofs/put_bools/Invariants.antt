@@ -1,12 +1,9 @@
 -- `columns::put_bools`: before slot i those below it are put.
-use Prim.Native.Nat.{◌-◌, ◌<◌}
-use native.Mathlib.Omega.{arith}
-use mathlib.Core.Path.{◌∙◌}
+use Prim.Native.Nat.{◌-◌}
 use mathlib.Core.List.{map}
 use lib.ListN.{length}
-use borrow.Author.Rules.{rules}
 use Rattle.fields.specs.Numbers.{bit}
-use Rattle.fields.proofs.Loops.{Putting, putting_start, putting_flag, putting_done, room}
+use Rattle.fields.proofs.Loops.{Putting}
 use Rattle.columns.proofs.put_bools.Given as goal
 
 abbrev pub invariant-loop-i : goal.invariant-loop-i

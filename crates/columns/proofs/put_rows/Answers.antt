@@ -2,8 +2,7 @@
 use Prim.Native.Nat.{◌-◌, ◌<◌}
 use native.Mathlib.Omega.{arith}
 use lib.ListN.{length}
-use borrow.Author.Rules.{rules}
-use Rattle.fields.proofs.Loops.{Putting, putting_start, putting_row, putting_done, room, below}
+use Rattle.fields.proofs.Loops.{putting_start, putting_row, putting_done, room, below}
 use Rattle.columns.proofs.put_rows.Goals as goal
 
 pub loop-i-init : goal.loop-i-init

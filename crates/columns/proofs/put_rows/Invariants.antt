@@ -1,9 +1,6 @@
 -- `columns::put_rows`: before row i those below it are put.
-use Prim.Native.Nat.{◌-◌, ◌<◌}
-use native.Mathlib.Omega.{arith}
-use lib.ListN.{length}
-use borrow.Author.Rules.{rules}
-use Rattle.fields.proofs.Loops.{Putting, putting_start, putting_row, putting_done, room, below}
+use Prim.Native.Nat.{◌-◌}
+use Rattle.fields.proofs.Loops.{Putting}
 use Rattle.columns.proofs.put_rows.Given as goal
 
 abbrev pub invariant-loop-i : goal.invariant-loop-i

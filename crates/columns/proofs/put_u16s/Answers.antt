@@ -1,10 +1,8 @@
 -- `columns::put_u16s`: before slot i those below it are put.
 use Prim.Native.Nat.{◌-◌, ◌<◌}
 use native.Mathlib.Omega.{arith}
-use mathlib.Core.Path.{◌∙◌}
 use lib.ListN.{length}
-use borrow.Author.Rules.{rules}
-use Rattle.fields.proofs.Loops.{Putting, putting_start, putting_one, putting_done, room}
+use Rattle.fields.proofs.Loops.{putting_start, putting_one, putting_done, room}
 use Rattle.columns.proofs.put_u16s.Goals as goal
 
 pub loop-i-init : goal.loop-i-init

@@ -1,10 +1,7 @@
 -- `columns::put_u64s`: before slot i those below it are put.
-use Prim.Native.Nat.{◌-◌, ◌<◌}
-use native.Mathlib.Omega.{arith}
-use mathlib.Core.Path.{refl, ◌∙◌}
+use Prim.Native.Nat.{◌-◌}
 use lib.ListN.{length}
-use borrow.Author.Rules.{rules}
-use Rattle.fields.proofs.Loops.{Putting, putting_start, putting_one, putting_done, room}
+use Rattle.fields.proofs.Loops.{Putting}
 use Rattle.columns.proofs.put_u64s.Given as goal
 
 abbrev pub invariant-loop-i : goal.invariant-loop-i

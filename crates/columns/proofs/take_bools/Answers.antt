@@ -2,12 +2,9 @@
 use Prim.Native.Nat.{◌-◌, ◌<◌}
 use native.Mathlib.Omega.{arith}
 use mathlib.Core.Path.{refl, ap, ◌∙◌}
-use mathlib.Core.List.{map}
 use lib.ListN.{length}
-use borrow.Author.Rules.{rules}
 use Rattle.fields.specs.Numbers.{is_on}
-use Rattle.fields.specs.Columns.{take_column}
-use Rattle.fields.proofs.Loops.{Taking, flags_none, taking_flag, taken_flags, room}
+use Rattle.fields.proofs.Loops.{flags_none, taking_flag, taken_flags, room}
 use Rattle.columns.proofs.take_bools.Goals as goal
 
 pub loop-i-init : goal.loop-i-init

@@ -1,13 +1,10 @@
 -- `columns::take_bools`: before slot i those below it are taken.
-use Prim.Native.Nat.{◌-◌, ◌<◌}
-use native.Mathlib.Omega.{arith}
-use mathlib.Core.Path.{refl, ap, ◌∙◌}
+use Prim.Native.Nat.{◌-◌}
 use mathlib.Core.List.{map}
 use lib.ListN.{length}
-use borrow.Author.Rules.{rules}
 use Rattle.fields.specs.Numbers.{is_on}
 use Rattle.fields.specs.Columns.{take_column}
-use Rattle.fields.proofs.Loops.{Taking, flags_none, taking_flag, taken_flags, room}
+use Rattle.fields.proofs.Loops.{Taking}
 use Rattle.columns.proofs.take_bools.Given as goal
 
 abbrev pub invariant-loop-i : goal.invariant-loop-i

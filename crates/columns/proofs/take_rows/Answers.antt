@@ -2,9 +2,7 @@
 use Prim.Native.Nat.{◌-◌, ◌<◌}
 use native.Mathlib.Omega.{arith}
 use lib.ListN.{length}
-use borrow.Author.Rules.{rules}
-use Rattle.fields.specs.Columns.{take_column}
-use Rattle.fields.proofs.Loops.{Taking, rows_none, taking_row, taken_rows, room, below}
+use Rattle.fields.proofs.Loops.{rows_none, taking_row, taken_rows, room, below}
 use Rattle.columns.proofs.take_rows.Goals as goal
 
 pub loop-i-init : goal.loop-i-init

@@ -1,10 +1,7 @@
 -- `columns::take_rows`: before row i those below it are taken.
-use Prim.Native.Nat.{◌-◌, ◌<◌}
-use native.Mathlib.Omega.{arith}
-use lib.ListN.{length}
-use borrow.Author.Rules.{rules}
+use Prim.Native.Nat.{◌-◌}
 use Rattle.fields.specs.Columns.{take_column}
-use Rattle.fields.proofs.Loops.{Taking, rows_none, taking_row, taken_rows, room, below}
+use Rattle.fields.proofs.Loops.{Taking}
 use Rattle.columns.proofs.take_rows.Given as goal
 
 abbrev pub invariant-loop-i : goal.invariant-loop-i

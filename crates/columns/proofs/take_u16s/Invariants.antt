@@ -1,11 +1,8 @@
 -- `columns::take_u16s`: before slot i those below it are taken.
-use Prim.Native.Nat.{◌-◌, ◌<◌}
-use native.Mathlib.Omega.{arith}
-use mathlib.Core.Path.{refl, ◌∙◌}
+use Prim.Native.Nat.{◌-◌}
 use lib.ListN.{length}
-use borrow.Author.Rules.{rules}
 use Rattle.fields.specs.Columns.{take_column}
-use Rattle.fields.proofs.Loops.{Taking, taking_none, taking_one, taken_ones, room}
+use Rattle.fields.proofs.Loops.{Taking}
 use Rattle.columns.proofs.take_u16s.Given as goal
 
 abbrev pub invariant-loop-i : goal.invariant-loop-i

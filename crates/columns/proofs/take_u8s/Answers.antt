@@ -1,11 +1,9 @@
 -- `columns::take_u8s`: before slot i those below it are taken.
 use Prim.Native.Nat.{◌-◌, ◌<◌}
 use native.Mathlib.Omega.{arith}
-use mathlib.Core.Path.{refl, ◌∙◌}
+use mathlib.Core.Path.{refl}
 use lib.ListN.{length}
-use borrow.Author.Rules.{rules}
-use Rattle.fields.specs.Columns.{take_column}
-use Rattle.fields.proofs.Loops.{Taking, taking_none, taking_one, taken_ones, room}
+use Rattle.fields.proofs.Loops.{taking_none, taking_one, taken_ones, room}
 use Rattle.columns.proofs.take_u8s.Goals as goal
 
 pub loop-i-init : goal.loop-i-init

@@ -1,6 +1,5 @@
 -- `fresh::fresh_line`: the first task on the first seat of its priority, and that ring's bit alone in the mask.
 use native.Mathlib.Nat.{one-mul}
-use borrow.Author.Rules.{rules}
 use Rattle.laws.proofs.Bits.{bit_fits}
 use Rattle.fresh.proofs.fresh_line.Goals as goal
 

@@ -1,6 +1,5 @@
 -- `fresh::fresh_state`: the five tables.
 use Rattle.scope.specs.Fresh.{fresh_state}
-use borrow.Author.Rules.{rules}
 use Rattle.fresh.proofs.fresh_state.Goals as goal
 
 pub returns : goal.returns

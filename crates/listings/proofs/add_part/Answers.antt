@@ -1,6 +1,4 @@
 use mathlib.Core.Path.{refl}
-use borrow.Author.Tests.{not-true, not-false}
-use borrow.Author.Rules.{rules}
 use Rattle.laws.proofs.Branches.{pick_yes, pick_no}
 use Rattle.listings.proofs.add_part.Goals as goal
 

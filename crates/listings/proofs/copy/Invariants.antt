@@ -1,10 +1,6 @@
 use Prim.Native.Nat.{◌-◌, ◌≤◌}
-use native.Mathlib.Omega.{arith}
-use mathlib.Core.Path.{◌≡◌, ap, ◌∙◌}
-use lib.ListN.{length}
-use lib.Seq.{paste, paste-zero, length-paste}
-use borrow.Author.Rules.{rules}
-use Rattle.listings.proofs.Parts.{paste_more}
+use mathlib.Core.Path.{◌≡◌}
+use lib.Seq.{paste}
 use Rattle.listings.proofs.copy.Given as goal
 
 abbrev pub invariant-loop-k : goal.invariant-loop-k

@@ -1,8 +1,6 @@
 use native.Mathlib.Omega.{arith}
 use mathlib.Core.Path.{sym, ◌∙◌}
-use borrow.Author.Tests.{not-true, not-false}
 use Rattle.listings.proofs.Parts.{begun_short, whole_long, whole_lines, whole_again, no_keep}
-use borrow.Author.Rules.{rules}
 use Rattle.listings.proofs.listing.Goals as goal
 
 pub list_refused-requires : goal.list_refused-requires

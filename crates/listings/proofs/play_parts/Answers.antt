@@ -1,5 +1,5 @@
 -- `listings::play_parts`: a part is played from where the last one ended, and stands behind those before it.
-use Rattle.std.proofs.Common.{◌≡◌, ◌≤◌, List, ℕ, length, sym, subst}
+use Rattle.std.proofs.Common.{◌≤◌, List, ℕ, length, sym, subst}
 use Rattle.scope.specs.declared.State.{State}
 use Rattle.scripts.specs.Place.{point_at, reached, Begun}
 use Rattle.listings.proofs.Parts.{run_first, run_fits, run_small, run_more, run_done}

@@ -1,6 +1,5 @@
 -- `listings::told`: the whole listing where it fits, and else nothing of it.
 use Rattle.listings.proofs.Rooms.{listing_no, listing_yes}
-use borrow.Author.Rules.{rules}
 use Rattle.listings.proofs.told.Goals as goal
 
 pub returns-then-room-n : goal.returns-then-room-n

@@ -3,7 +3,7 @@ use Prim.Native.Nat.{ℕ, ◌+◌, ◌-◌, ◌*◌}
 use mathlib.Core.Path.{◌≡◌, sym, ap, ◌∙◌}
 use lib.ListN.{length, get_or}
 use borrow.Author.Rules.{rules}
-use Rattle.laws.proofs.Testing.{Testing, testing_start, testing_more, testing_done}
+use Rattle.laws.proofs.Testing.{testing_start, testing_more, testing_done}
 use Rattle.scope.specs.Messages.{cells_of, row_right, store_right}
 use Rattle.laws.proofs.Messages.Forms.{none_held}
 use Rattle.messages.proofs.all_in_form.Goals as goal

@@ -4,7 +4,7 @@ use native.Mathlib.Omega.{arith}
 use mathlib.Core.Path.{sym, ◌∙◌}
 use lib.ListN.{drop, replicate, length-drop}
 use lib.Seq.{get_or-drop}
-use Rattle.messages.proofs.Pasting.{Pasting, pasting_start, pasting_more, pasting_done}
+use Rattle.messages.proofs.Pasting.{pasting_start, pasting_more, pasting_done}
 use Rattle.messages.proofs.Cells.{filled}
 use borrow.Author.Rules.{rules}
 use Rattle.messages.proofs.bytes_at.Goals as goal

@@ -1,12 +1,7 @@
 -- `messages::bytes_at`: before byte k the first k bytes are copied.
 use Prim.Native.Nat.{◌-◌}
-use native.Mathlib.Omega.{arith}
-use mathlib.Core.Path.{sym, ◌∙◌}
-use lib.ListN.{drop, replicate, length-drop}
-use lib.Seq.{get_or-drop}
-use Rattle.messages.proofs.Pasting.{Pasting, pasting_start, pasting_more, pasting_done}
-use Rattle.messages.proofs.Cells.{filled}
-use borrow.Author.Rules.{rules}
+use lib.ListN.{drop, replicate}
+use Rattle.messages.proofs.Pasting.{Pasting}
 use Rattle.messages.proofs.bytes_at.Given as goal
 
 abbrev pub invariant-loop-k : goal.invariant-loop-k

@@ -3,7 +3,7 @@ use Prim.Native.Nat.{ℕ, ◌+◌, ◌-◌}
 use native.Mathlib.Omega.{arith}
 use mathlib.Core.Path.{◌≡◌, refl, ap, ◌∙◌}
 use lib.ListN.{set, replicate}
-use Rattle.messages.proofs.Pasting.{Pasting, pasting_start, pasting_more, pasting_done}
+use Rattle.messages.proofs.Pasting.{pasting_start, pasting_more, pasting_done}
 use Rattle.messages.proofs.Cells.{cell_is}
 use lib.Seq.{paste}
 use borrow.Author.Rules.{rules}

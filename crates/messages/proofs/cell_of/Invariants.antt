@@ -1,12 +1,6 @@
 -- `messages::cell_of`: before byte k the first k bytes of the message are put in behind its length.
-use Prim.Native.Nat.{ℕ, ◌+◌, ◌-◌}
-use native.Mathlib.Omega.{arith}
-use mathlib.Core.Path.{◌≡◌, refl, ap, ◌∙◌}
-use lib.ListN.{set, replicate}
-use Rattle.messages.proofs.Pasting.{Pasting, pasting_start, pasting_more, pasting_done}
-use Rattle.messages.proofs.Cells.{cell_is}
-use lib.Seq.{paste}
-use borrow.Author.Rules.{rules}
+use Prim.Native.Nat.{◌-◌}
+use Rattle.messages.proofs.Pasting.{Pasting}
 use Rattle.messages.proofs.cell_of.Given as goal
 
 abbrev pub invariant-loop-k : goal.invariant-loop-k

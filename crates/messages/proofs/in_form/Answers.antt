@@ -2,8 +2,7 @@
 use Prim.Native.Nat.{◌-◌}
 use mathlib.Core.Path.{◌≡◌}
 use lib.ListN.{length}
-use Rattle.laws.proofs.Testing.{Testing, testing_start, testing_more, testing_done}
-use Rattle.scope.specs.Messages.{cells_of, cell_at, cell_right}
+use Rattle.laws.proofs.Testing.{testing_start, testing_more, testing_done}
 use Rattle.laws.proofs.Messages.Forms.{row_told, row_many}
 use borrow.Author.Rules.{rules}
 use Rattle.messages.proofs.in_form.Goals as goal

@@ -3,7 +3,7 @@ use Prim.Native.Nat.{◌+◌, ◌-◌}
 use native.Mathlib.Omega.{arith}
 use mathlib.Core.Path.{refl}
 use lib.ListN.{drop, length-drop}
-use Rattle.messages.proofs.Pasting.{Pasting, pasting_start, lowering_more, pasting_done}
+use Rattle.messages.proofs.Pasting.{pasting_start, lowering_more, pasting_done}
 use borrow.Author.Rules.{rules}
 use Rattle.messages.proofs.lower.Goals as goal
 

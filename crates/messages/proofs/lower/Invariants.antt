@@ -1,10 +1,7 @@
 -- `messages::lower`: before byte k the first k bytes have come down; what is read has not been laid over.
 use Prim.Native.Nat.{◌+◌, ◌-◌}
-use native.Mathlib.Omega.{arith}
-use mathlib.Core.Path.{refl}
-use lib.ListN.{drop, length-drop}
-use Rattle.messages.proofs.Pasting.{Pasting, pasting_start, lowering_more, pasting_done}
-use borrow.Author.Rules.{rules}
+use lib.ListN.{drop}
+use Rattle.messages.proofs.Pasting.{Pasting}
 use Rattle.messages.proofs.lower.Given as goal
 
 abbrev pub invariant-loop-k : goal.invariant-loop-k

@@ -3,7 +3,7 @@ use Prim.Native.Nat.{◌-◌}
 use native.Mathlib.Omega.{arith}
 use mathlib.Core.Path.{◌≡◌, refl}
 use lib.ListN.{length}
-use Rattle.messages.proofs.Pasting.{Pasting, pasting_start, pasting_more, pasting_done}
+use Rattle.messages.proofs.Pasting.{pasting_start, pasting_more, pasting_done}
 use borrow.Author.Rules.{rules}
 use Rattle.messages.proofs.put.Goals as goal
 

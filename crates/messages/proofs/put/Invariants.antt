@@ -1,10 +1,6 @@
 -- `messages::put`: before byte k the first k bytes of the cell are written.
 use Prim.Native.Nat.{◌-◌}
-use native.Mathlib.Omega.{arith}
-use mathlib.Core.Path.{◌≡◌, refl}
-use lib.ListN.{length}
-use Rattle.messages.proofs.Pasting.{Pasting, pasting_start, pasting_more, pasting_done}
-use borrow.Author.Rules.{rules}
+use Rattle.messages.proofs.Pasting.{Pasting}
 use Rattle.messages.proofs.put.Given as goal
 
 abbrev pub invariant-loop-k : goal.invariant-loop-k

@@ -3,7 +3,7 @@ use Prim.Native.Nat.{◌+◌}
 use native.Mathlib.Omega.{arith}
 use mathlib.Core.Path.{refl}
 use lib.ListN.{drop, length-drop}
-use Rattle.messages.proofs.Pasting.{Raising, raising_start, raising_step, raising_done}
+use Rattle.messages.proofs.Pasting.{raising_start, raising_step, raising_done}
 use borrow.Author.Rules.{rules}
 use Rattle.messages.proofs.raise.Goals as goal
 

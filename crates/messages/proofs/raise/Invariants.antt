@@ -1,10 +1,6 @@
 -- `messages::raise`: from byte k on the bytes have gone up; what is read has not been laid over.
-use Prim.Native.Nat.{◌+◌}
-use native.Mathlib.Omega.{arith}
-use mathlib.Core.Path.{refl}
-use lib.ListN.{drop, length-drop}
-use Rattle.messages.proofs.Pasting.{Raising, raising_start, raising_step, raising_done}
-use borrow.Author.Rules.{rules}
+use lib.ListN.{drop}
+use Rattle.messages.proofs.Pasting.{Raising}
 use Rattle.messages.proofs.raise.Given as goal
 
 abbrev pub invariant-loop-k : goal.invariant-loop-k

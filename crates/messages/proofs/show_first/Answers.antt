@@ -1,7 +1,6 @@
 -- `messages::show_first`: the first cell's bytes and its length are read where they lie.
 use mathlib.Core.Path.{◌∙◌}
 use Rattle.messages.proofs.Cells.{first_shown_lem, first_length_lem}
-use borrow.Author.Rules.{rules}
 use Rattle.messages.proofs.show_first.Goals as goal
 
 pub returns : goal.returns

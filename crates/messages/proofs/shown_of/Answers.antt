@@ -3,7 +3,7 @@ use Prim.Native.Nat.{ℕ, ◌-◌}
 use native.Mathlib.Omega.{arith}
 use mathlib.Core.Path.{refl, ◌∙◌}
 use lib.ListN.{replicate, length-replicate}
-use Rattle.messages.proofs.Pasting.{Pasting, pasting_start, pasting_more, pasting_done}
+use Rattle.messages.proofs.Pasting.{pasting_start, pasting_more, pasting_done}
 use Rattle.messages.proofs.Cells.{shown_is}
 use borrow.Author.Rules.{rules}
 use Rattle.messages.proofs.shown_of.Goals as goal

@@ -1,11 +1,7 @@
 -- `messages::shown_of`: before byte k the first k bytes of the message are put into zeros.
-use Prim.Native.Nat.{ℕ, ◌-◌}
-use native.Mathlib.Omega.{arith}
-use mathlib.Core.Path.{refl, ◌∙◌}
-use lib.ListN.{replicate, length-replicate}
-use Rattle.messages.proofs.Pasting.{Pasting, pasting_start, pasting_more, pasting_done}
-use Rattle.messages.proofs.Cells.{shown_is}
-use borrow.Author.Rules.{rules}
+use Prim.Native.Nat.{◌-◌}
+use lib.ListN.{replicate}
+use Rattle.messages.proofs.Pasting.{Pasting}
 use Rattle.messages.proofs.shown_of.Given as goal
 
 abbrev pub invariant-loop-k : goal.invariant-loop-k

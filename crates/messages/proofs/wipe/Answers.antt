@@ -3,7 +3,7 @@ use Prim.Native.Nat.{ℕ, ◌-◌, ◌<◌}
 use native.Mathlib.Omega.{arith}
 use mathlib.Core.Path.{refl, sym}
 use lib.ListN.{replicate, length-replicate, get_or-replicate}
-use Rattle.messages.proofs.Pasting.{Pasting, pasting_start, pasting_more, pasting_done}
+use Rattle.messages.proofs.Pasting.{pasting_start, pasting_more, pasting_done}
 use borrow.Author.Rules.{rules}
 use Rattle.messages.proofs.wipe.Goals as goal
 

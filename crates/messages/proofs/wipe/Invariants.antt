@@ -1,10 +1,7 @@
 -- `messages::wipe`: before byte k the first k are zeros.
-use Prim.Native.Nat.{ℕ, ◌-◌, ◌<◌}
-use native.Mathlib.Omega.{arith}
-use mathlib.Core.Path.{refl, sym}
-use lib.ListN.{replicate, length-replicate, get_or-replicate}
-use Rattle.messages.proofs.Pasting.{Pasting, pasting_start, pasting_more, pasting_done}
-use borrow.Author.Rules.{rules}
+use Prim.Native.Nat.{◌-◌}
+use lib.ListN.{replicate}
+use Rattle.messages.proofs.Pasting.{Pasting}
 use Rattle.messages.proofs.wipe.Given as goal
 
 abbrev pub invariant-loop-k : goal.invariant-loop-k

@@ -1,7 +1,6 @@
 -- `messages::zeros`: before byte j the loop holds the bits of all bytes passed.
 use Prim.Native.Nat.{◌-◌}
-use borrow.Author.Rules.{rules}
-use Rattle.laws.proofs.Messages.Forms.{Zeroing, zeroing_start, zeroing_more, zeroing_done}
+use Rattle.laws.proofs.Messages.Forms.{Zeroing}
 use Rattle.messages.proofs.zeros.Given as goal
 
 abbrev pub invariant-loop-j : goal.invariant-loop-j

@@ -1,6 +1,5 @@
 -- `orders::append`: the next place, or none past the 32nd.
 use Rattle.orders.proofs.Placing.{placed_more, placed_full}
-use borrow.Author.Rules.{rules}
 use Rattle.orders.proofs.append.Goals as goal
 
 pub returns-then-n-lt32 : goal.returns-then-n-lt32

@@ -3,7 +3,6 @@ use mathlib.Core.Path.{refl}
 use borrow.Author.Tests.{lt-ltb, le-ltb}
 use Rattle.laws.proofs.Branches.{pick_yes, pick_no}
 use Rattle.orders.specs.Places.{marked_at}
-use borrow.Author.Rules.{rules}
 use Rattle.orders.proofs.mark.Goals as goal
 
 pub returns-then-x-lt2048 : goal.returns-then-x-lt2048

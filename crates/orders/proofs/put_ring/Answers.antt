@@ -1,11 +1,8 @@
 -- `orders::put_ring`: before seat k those of the ring before it have places.
 use native.Mathlib.Omega.{arith}
-use Prim.Native.Nat.{ℕ, ◌-◌, ◌≤◌}
+use Prim.Native.Nat.{◌-◌}
 use mathlib.Core.Path.{refl}
-use mathlib.Core.List.{List}
-use Rattle.orders.specs.Places.{Told, Placed}
-use Rattle.orders.proofs.Ringing.{Ringing, ringing_start, ringing_more, ringing_empty, ringing_done}
-use borrow.Author.Rules.{rules}
+use Rattle.orders.proofs.Ringing.{ringing_start, ringing_more, ringing_empty, ringing_done}
 use Rattle.orders.proofs.put_ring.Goals as goal
 
 pub loop-k-init : goal.loop-k-init

@@ -1,8 +1,7 @@
 -- `orders::ready_places`: before ring p those above it have places.
 use native.Mathlib.Omega.{arith}
 use mathlib.Core.Path.{refl}
-use Rattle.orders.proofs.Ringing.{Rings, rings_start, rings_more, rings_done}
-use borrow.Author.Rules.{rules}
+use Rattle.orders.proofs.Ringing.{rings_start, rings_more, rings_done}
 use Rattle.orders.proofs.ready_places.Goals as goal
 
 pub loop-p-init : goal.loop-p-init

@@ -1,6 +1,5 @@
 -- `orders::ready_seats`: before slot t those from it on are noted.
-use Rattle.orders.proofs.Marking.{Marked, marked_start, marked_more, marked_done}
-use borrow.Author.Rules.{rules}
+use Rattle.orders.proofs.Marking.{marked_start, marked_more, marked_done}
 use Rattle.orders.proofs.ready_seats.Goals as goal
 
 pub loop-t-init : goal.loop-t-init

@@ -1,6 +1,5 @@
 -- `places::bits_upto`: one bit more than the places, or all.
 use borrow.Author.Tests.{lt-ltb, le-ltb}
-use borrow.Author.Rules.{rules}
 use Rattle.scope.specs.Choice.{pick}
 use Rattle.places.proofs.bits_upto.Goals as goal
 

@@ -2,7 +2,7 @@
 use Prim.Native.Nat.{◌-◌}
 use borrow.Author.Rules.{rules}
 use Rattle.scope.specs.Places.{first_leaves}
-use Rattle.laws.proofs.Arrays.{Changing, changing_start, changing_more, mapping_done}
+use Rattle.laws.proofs.Arrays.{changing_start, changing_more, mapping_done}
 use Rattle.places.proofs.first_leaves.Goals as goal
 
 pub loop-k-init : goal.loop-k-init

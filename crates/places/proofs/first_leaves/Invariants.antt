@@ -1,8 +1,6 @@
 -- `places::first_leaves`: the loop maps the row in place.
 use Prim.Native.Nat.{◌-◌}
-use borrow.Author.Rules.{rules}
-use Rattle.scope.specs.Places.{first_leaves}
-use Rattle.laws.proofs.Arrays.{Changing, changing_start, changing_more, mapping_done}
+use Rattle.laws.proofs.Arrays.{Changing}
 use Rattle.places.proofs.first_leaves.Given as goal
 
 abbrev pub invariant-loop-k : goal.invariant-loop-k

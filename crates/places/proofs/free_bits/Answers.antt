@@ -1,8 +1,6 @@
 -- `places::free_bits`: of n marks, all but those that are set.
 use native.Mathlib.Omega.{arith}
-use mathlib.Core.Path.{◌∙◌}
 use lib.Bits.{and_mask, and_le_r}
-use borrow.Author.Rules.{rules}
 use Rattle.places.proofs.Words.{free_and_out}
 use Rattle.places.proofs.free_bits.Goals as goal
 

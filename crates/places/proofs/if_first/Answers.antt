@@ -2,7 +2,6 @@
 use mathlib.Core.Path.{refl}
 use borrow.Author.Tests.{eq-eqb, ne_eqb}
 use Rattle.laws.proofs.Branches.{pick_yes, pick_no}
-use borrow.Author.Rules.{rules}
 use Rattle.places.proofs.if_first.Goals as goal
 
 pub returns-then-x-eq1 : goal.returns-then-x-eq1

@@ -1,6 +1,5 @@
 -- `places::join_last`: one place of the pool's row is set, to the next behind the free ones.
 use Prim.Native.Nat.{◌+◌}
-use borrow.Author.Rules.{rules}
 use Rattle.scope.specs.Places.{joins_last}
 use Rattle.places.proofs.Rows.{set_row}
 use Rattle.places.proofs.join_last.Goals as goal

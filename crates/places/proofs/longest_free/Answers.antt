@@ -4,7 +4,7 @@ use mathlib.Core.Path.{◌∙◌}
 use borrow.Author.Rules.{rules}
 use Rattle.scope.specs.Seats.{is_on}
 use Rattle.scope.specs.Places.{on_place}
-use Rattle.places.proofs.Rows.{Finding, finding_start, finding_more, finding_done}
+use Rattle.places.proofs.Rows.{finding_start, finding_more, finding_done}
 use Rattle.places.proofs.longest_free.Goals as goal
 
 pub loop-k-init : goal.loop-k-init

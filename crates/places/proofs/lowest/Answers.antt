@@ -1,5 +1,4 @@
 -- `places::lowest`: of 64 set bits, the highest are shifted out.
-use borrow.Author.Rules.{rules}
 use Rattle.places.proofs.Words.{lowest_is}
 use Rattle.places.proofs.lowest.Goals as goal
 

@@ -2,7 +2,6 @@
 use mathlib.Core.Path.{refl}
 use borrow.Author.Tests.{lt-ltb, le-ltb}
 use Rattle.laws.proofs.Branches.{pick_yes, pick_no}
-use borrow.Author.Rules.{rules}
 use Rattle.places.proofs.new_place.Goals as goal
 
 pub returns-then-k-n : goal.returns-then-k-n

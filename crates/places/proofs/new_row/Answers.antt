@@ -6,7 +6,7 @@ use borrow.Author.Rules.{rules}
 use Rattle.scope.specs.Choice.{pick}
 use Rattle.scope.specs.Places.{new_row}
 use Rattle.scope.proofs.Places.{length_new, new_at}
-use Rattle.laws.proofs.Arrays.{Changing, changing_start, changing_more, changing_done}
+use Rattle.laws.proofs.Arrays.{changing_start, changing_more, changing_done}
 use Rattle.places.proofs.new_row.Goals as goal
 
 pub loop-k-init : goal.loop-k-init

@@ -1,12 +1,8 @@
 -- `places::new_row`: the loop fills the row by buffers.
 use Prim.Native.Nat.{◌+◌, ◌-◌}
-use lib.ListN.{replicate}
 use lib.Dec.{ltb}
-use borrow.Author.Rules.{rules}
 use Rattle.scope.specs.Choice.{pick}
-use Rattle.scope.specs.Places.{new_row}
-use Rattle.scope.proofs.Places.{length_new, new_at}
-use Rattle.laws.proofs.Arrays.{Changing, changing_start, changing_more, changing_done}
+use Rattle.laws.proofs.Arrays.{Changing}
 use Rattle.places.proofs.new_row.Given as goal
 
 abbrev pub invariant-loop-k : goal.invariant-loop-k

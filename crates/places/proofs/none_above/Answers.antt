@@ -1,10 +1,8 @@
 -- `places::none_above`: before place k the loop holds the test of all places passed.
-use Prim.Native.Nat.{◌+◌, ◌-◌, ◌*◌}
+use Prim.Native.Nat.{◌-◌}
 use mathlib.Core.Path.{refl, ◌∙◌}
-use lib.ListN.{get_or}
-use lib.Dec.{leb}
 use borrow.Author.Rules.{rules}
-use Rattle.laws.proofs.Testing.{Testing, testing_start, testing_more, testing_done}
+use Rattle.laws.proofs.Testing.{testing_start, testing_more, testing_done}
 use Rattle.places.proofs.Gathering.{row_tested}
 use Rattle.places.proofs.none_above.Goals as goal
 

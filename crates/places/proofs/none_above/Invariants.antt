@@ -1,11 +1,8 @@
 -- `places::none_above`: before place k the loop holds the test of all places passed.
-use Prim.Native.Nat.{◌+◌, ◌-◌, ◌*◌}
-use mathlib.Core.Path.{refl, ◌∙◌}
+use Prim.Native.Nat.{◌+◌, ◌-◌}
 use lib.ListN.{get_or}
 use lib.Dec.{leb}
-use borrow.Author.Rules.{rules}
-use Rattle.laws.proofs.Testing.{Testing, testing_start, testing_more, testing_done}
-use Rattle.places.proofs.Gathering.{row_tested}
+use Rattle.laws.proofs.Testing.{Testing}
 use Rattle.places.proofs.none_above.Given as goal
 
 abbrev pub invariant-loop-k : goal.invariant-loop-k

@@ -10,7 +10,7 @@ use Rattle.scope.specs.Choice.{every}
 use Rattle.scope.specs.Places.{row_of}
 use Rattle.scope.specs.Rules.{order_right}
 use Rattle.scope.proofs.Places.{length_row, row_at}
-use Rattle.places.proofs.Gathering.{Gathering, gathering_start, one_most, room_for, gathering_more, gathering_done, free_few, clear_right, width, order_by}
+use Rattle.places.proofs.Gathering.{gathering_start, one_most, room_for, gathering_more, gathering_done, free_few, clear_right, width, order_by}
 use Rattle.places.proofs.order_right.Goals as goal
 
 pub returns-then-n-eq0 : goal.returns-then-n-eq0

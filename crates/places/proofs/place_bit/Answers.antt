@@ -1,8 +1,6 @@
 -- `places::place_bit`: a bit below 64 is in the word.
 use native.Mathlib.Omega.{arith}
 use native.Mathlib.Nat.{one-mul, mod-lt}
-use mathlib.Core.Path.{◌≡◌, ◌∙◌}
-use borrow.Author.Rules.{rules}
 use Rattle.laws.proofs.Bits.{bit_fits}
 use Rattle.places.proofs.place_bit.Goals as goal
 

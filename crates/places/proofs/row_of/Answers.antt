@@ -5,7 +5,7 @@ use lib.ListN.{get_or, replicate}
 use borrow.Author.Rules.{rules}
 use Rattle.scope.specs.Places.{row_of}
 use Rattle.scope.proofs.Places.{length_row, row_at}
-use Rattle.laws.proofs.Arrays.{Changing, changing_start, changing_more, changing_done}
+use Rattle.laws.proofs.Arrays.{changing_start, changing_more, changing_done}
 use Rattle.places.proofs.row_of.Goals as goal
 
 pub loop-k-init : goal.loop-k-init

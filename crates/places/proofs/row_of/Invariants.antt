@@ -1,11 +1,7 @@
 -- `places::row_of`: the loop fills the row by the places from its start on.
-use Prim.Native.Nat.{◌+◌, ◌-◌, ◌*◌}
-use mathlib.Core.Path.{refl}
-use lib.ListN.{get_or, replicate}
-use borrow.Author.Rules.{rules}
-use Rattle.scope.specs.Places.{row_of}
-use Rattle.scope.proofs.Places.{length_row, row_at}
-use Rattle.laws.proofs.Arrays.{Changing, changing_start, changing_more, changing_done}
+use Prim.Native.Nat.{◌+◌, ◌-◌}
+use lib.ListN.{get_or}
+use Rattle.laws.proofs.Arrays.{Changing}
 use Rattle.places.proofs.row_of.Given as goal
 
 abbrev pub invariant-loop-k : goal.invariant-loop-k

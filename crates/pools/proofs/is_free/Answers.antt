@@ -1,5 +1,4 @@
 -- `pools::is_free`: both halves of the definition's test, the second looked at where the first holds.
-use borrow.Author.Rules.{rules}
 use mathlib.Core.Path.{refl, sym, ◌∙◌}
 use borrow.Author.Tests.{lt-ltb, le-ltb}
 use Rattle.laws.proofs.Branches.{first_fails, second_decides}

@@ -1,7 +1,7 @@
 -- `pools::pool_create`: its arguments are refused, or the slot found holds its next object, its buffers in ascending places.
 -- the state that the call is lent
 use lib.Dec.{lit<}
-use borrow.Author.Rules.{rules, scaled_Fits}
+use borrow.Author.Rules.{scaled_Fits}
 use native.Mathlib.Omega.{arith}
 use mathlib.Core.Path.{refl}
 use Rattle.pools.proofs.Laws.{create_refuses, created}

@@ -2,8 +2,7 @@
 -- the state that the call is lent
 use mathlib.Core.Path.{ap}
 use lib.Dec.{lit<}
-use borrow.Author.Rules.{rules, scaled_Fits}
-use mathlib.Core.Logic.{⊎_elim}
+use borrow.Author.Rules.{scaled_Fits}
 use mathlib.Core.Bool.{false, not}
 use lib.ListN.{get_or}
 use borrow.Author.Tests.{le-ltb}

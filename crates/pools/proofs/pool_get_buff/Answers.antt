@@ -3,7 +3,7 @@
 use mathlib.Core.Bool.{not}
 use mathlib.Core.Path.{ap}
 use lib.Dec.{lit<}
-use borrow.Author.Rules.{rules, scaled_Fits}
+use borrow.Author.Rules.{scaled_Fits}
 use Rattle.pools.proofs.Laws.{marked, passes, none_free, goes_out}
 use Rattle.answers.proofs.Outcomes.{plain_of}
 use Rattle.tables.proofs.Slots.{slot_found, slot_refused}

@@ -1,7 +1,6 @@
 -- `pools::refusal`: the tests on creation's arguments, in order.
 use mathlib.Core.Path.{refl, sym, ◌∙◌}
-use borrow.Author.Rules.{rules}
-use borrow.Author.Tests.{lt-ltb, le-ltb, not-true, not-false}
+use borrow.Author.Tests.{lt-ltb, le-ltb}
 use Rattle.laws.proofs.Branches.{pick_yes, pick_no, not_of_true, not_of_false}
 use Rattle.pools.proofs.refusal.Goals as goal
 

@@ -1,7 +1,6 @@
 -- `queues::deliver`: the waiter is woken, and what it is given is shown.
 use mathlib.Core.Path.{refl}
 use Rattle.answers.proofs.Outcomes.{delivered_moved}
-use borrow.Author.Rules.{rules}
 use Rattle.queues.proofs.deliver.Goals as goal
 
 pub returns : goal.returns

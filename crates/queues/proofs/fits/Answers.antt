@@ -1,6 +1,5 @@
 -- `queues::fits`: its three tests, in order.
 use Rattle.queues.proofs.Laws.{too_long, past_all, lent_decides}
-use borrow.Author.Rules.{rules}
 use Rattle.queues.proofs.fits.Goals as goal
 
 pub returns-then-wide-n : goal.returns-then-wide-n

@@ -4,7 +4,6 @@ use Rattle.answers.proofs.Outcomes.{plain_of}
 use Rattle.queues.proofs.Laws.{all_woken}
 use Rattle.tables.proofs.Slots.{slot_found, slot_refused}
 use Rattle.scope.specs.Queues.{queue_delete_at}
-use borrow.Author.Rules.{rules}
 use Rattle.queues.proofs.queue_delete.Goals as goal
 
 pub returns-then-f-ne-OK : goal.returns-then-f-ne-OK

@@ -6,7 +6,6 @@ use Rattle.answers.proofs.Outcomes.{plain_of, tells_of}
 use Rattle.laws.proofs.Seats.Counting.{standing-le}
 use Rattle.tables.proofs.Slots.{slot_found, slot_refused}
 use Rattle.scope.specs.Queues.{queue_info_at}
-use borrow.Author.Rules.{rules}
 use Rattle.queues.proofs.queue_info.Goals as goal
 
 pub returns-then-f-ne-OK : goal.returns-then-f-ne-OK

@@ -4,7 +4,6 @@ use Rattle.answers.specs.Columns.{lent_queues}
 use Rattle.answers.proofs.Outcomes.{plain_of, none_shown}
 use Rattle.scope.specs.Messages.{appended}
 use Rattle.queues.proofs.Laws.{put_refused, put-handed, put_held, now_held}
-use borrow.Author.Rules.{rules}
 use Rattle.queues.proofs.queue_send.Goals as goal
 
 pub returns-then-w-ne-OK : goal.returns-then-w-ne-OK

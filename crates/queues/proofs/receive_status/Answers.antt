@@ -4,7 +4,6 @@ use mathlib.Core.Path.{refl, sym, ◌∙◌}
 use borrow.Author.Tests.{lt-ltb, le-ltb, eq-eqb, ne_eqb, le-leb, lt-leb}
 use Rattle.laws.proofs.Branches.{pick_yes, pick_no}
 use Rattle.queues.specs.Handing.{receive_status}
-use borrow.Author.Rules.{rules}
 use Rattle.queues.proofs.receive_status.Goals as goal
 
 pub returns-then-options-gt-LAST_OPTION : goal.returns-then-options-gt-LAST_OPTION

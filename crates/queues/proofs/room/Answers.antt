@@ -2,7 +2,7 @@
 use native.Mathlib.Omega.{arith}
 use mathlib.Core.Path.{◌≡◌, refl, sym, ◌∙◌}
 use lib.ListN.{length}
-use borrow.Author.Tests.{lt-ltb, le-ltb, not-true, not-false}
+use borrow.Author.Tests.{lt-ltb, le-ltb}
 use Rattle.laws.proofs.Arrays.{pick_outside, pick_inside}
 use Rattle.laws.proofs.Branches.{pick_yes, pick_no, not_of_true, not_of_false}
 use Rattle.laws.proofs.Tables.{serial_left}

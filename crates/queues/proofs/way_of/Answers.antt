@@ -2,11 +2,10 @@
 use native.Mathlib.Omega.{arith}
 use mathlib.Core.Path.{refl, sym, ap, ◌∙◌}
 use Rattle.queues.specs.declared.Way.{Way}
-use borrow.Author.Tests.{lt-ltb, le-ltb, le-leb, lt-leb, eq-eqb, ne_eqb, not-true, not-false}
+use borrow.Author.Tests.{lt-ltb, le-ltb, le-leb, lt-leb, eq-eqb, ne_eqb}
 use Rattle.laws.proofs.Branches.{pick_yes, pick_no, not_of_true, not_of_false}
 use Rattle.queues.proofs.Laws.{fits_told}
 use Rattle.queues.specs.Handing.{way_at, way_of}
-use borrow.Author.Rules.{rules}
 use Rattle.queues.proofs.way_of.Goals as goal
 
 pub returns-then-f-ne-OK : goal.returns-then-f-ne-OK

@@ -2,10 +2,9 @@
 -- the state before, out of the columns lent and a state's
 use native.Mathlib.Omega.{arith}
 use mathlib.Core.Path.{◌≡◌, sym, ◌∙◌}
-use borrow.Author.Rules.{rules}
 use Rattle.answers.proofs.Outcomes.{plain_of, none_shown}
 use Rattle.answers.specs.Columns.{lent_queues}
-use Rattle.chapters.proofs.Laws.{answered_refused, answered-does, known_call, past, only}
+use Rattle.chapters.proofs.Laws.{answered_refused, answered-does, known_call}
 use Rattle.scope.specs.declared.State.{State}
 use Rattle.receive_chapter.proofs.receive_part.Goals as goal
 

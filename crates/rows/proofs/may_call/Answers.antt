@@ -1,5 +1,4 @@
 -- `rows::may_call` meets its contract: the row's bit is the definition's.
-use borrow.Author.Rules.{rules}
 use Rattle.scope.specs.Calls.{may_call}
 use Rattle.rows.proofs.may_call.Goals as goal
 

@@ -1,6 +1,5 @@
 -- `rows::who_of` meets its contract: the column is the paper's, which antt computes for all rows at once.
 use lib.ListN.{get_or-map}
-use borrow.Author.Rules.{rules}
 use Rattle.scope.specs.Calls.{Call, calls, no_call}
 use Rattle.rows.proofs.who_of.Goals as goal
 

@@ -1,11 +1,8 @@
 -- `rules::counts_right`: before each turn the loop holds the test of all slots passed.
 use Prim.Native.Nat.{◌-◌}
 use borrow.Author.Rules.{rules}
-use lib.ListN.{get_or}
-use Rattle.scope.specs.Seats.{queue_seats, standing}
-use Rattle.scope.specs.Views.{less}
-use Rattle.scope.specs.Rules.{counts_right, count_right}
-use Rattle.rules.proofs.Laws.{Testing, testing_start, testing_more, testing_done}
+use Rattle.scope.specs.Rules.{counts_right}
+use Rattle.rules.proofs.Laws.{testing_start, testing_more, testing_done}
 use Rattle.rules.proofs.counts_right.Goals as goal
 
 pub loop-i-init : goal.loop-i-init

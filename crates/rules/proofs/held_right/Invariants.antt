@@ -1,10 +1,9 @@
 -- `rules::held_right`: before each turn the loop holds the test of all slots passed.
 use Prim.Native.Nat.{◌+◌, ◌-◌, ◌*◌}
-use borrow.Author.Rules.{rules}
 use lib.ListN.{get_or}
 use Rattle.scope.specs.Seats.{queue_seats, standing}
-use Rattle.scope.specs.Rules.{held_right, holds_right}
-use Rattle.rules.proofs.Laws.{Testing, testing_start, testing_more, testing_done}
+use Rattle.scope.specs.Rules.{holds_right}
+use Rattle.rules.proofs.Laws.{Testing}
 use Rattle.rules.proofs.held_right.Given as goal
 
 abbrev pub invariant-loop-i : goal.invariant-loop-i

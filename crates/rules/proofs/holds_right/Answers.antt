@@ -1,5 +1,4 @@
 -- `rules::holds_right`: by whether the queue holds anything.
-use borrow.Author.Rules.{rules}
 use Rattle.rules.proofs.Laws.{holds_none, holds_some}
 use Rattle.rules.proofs.holds_right.Goals as goal
 

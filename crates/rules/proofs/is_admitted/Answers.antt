@@ -1,6 +1,5 @@
 -- `rules::is_admitted`: the tests are those of its definition, in turn.
 use mathlib.Core.Bool.{and_assoc}
-use borrow.Author.Rules.{rules}
 use Rattle.scope.specs.Rules.{admitted}
 use Rattle.rules.proofs.is_admitted.Goals as goal
 

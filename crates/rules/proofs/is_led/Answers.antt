@@ -1,6 +1,5 @@
 -- `rules::is_led`: a branch for each choice.
 use mathlib.Core.Path.{refl, sym, ◌∙◌}
-use borrow.Author.Rules.{rules}
 use borrow.Author.Tests.{lt-ltb, le-ltb, eq-eqb, ne_eqb}
 use Rattle.laws.proofs.Branches.{pick_yes, pick_no, first_fails, second_decides}
 use Rattle.rules.proofs.is_led.Goals as goal

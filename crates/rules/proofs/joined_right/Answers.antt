@@ -1,6 +1,5 @@
 -- `rules::joined_right`: a branch for each choice.
 use mathlib.Core.Path.{refl, sym, ◌∙◌}
-use borrow.Author.Rules.{rules}
 use Rattle.scope.specs.Rules.{joined_right}
 use Rattle.laws.proofs.Branches.{pick_yes, pick_no}
 use Rattle.rules.proofs.Laws.{behind_first}

@@ -2,8 +2,7 @@
 use Prim.Native.Nat.{◌-◌}
 use native.Mathlib.Omega.{arith}
 use borrow.Author.Rules.{rules}
-use Rattle.scope.specs.Seats.{is_on}
-use Rattle.rules.proofs.Laws.{Counting, counting_start, counting_more, counting_le, counting_done}
+use Rattle.rules.proofs.Laws.{counting_start, counting_more, counting_le, counting_done}
 use Rattle.rules.proofs.number_on.Goals as goal
 
 pub loop-t-init : goal.loop-t-init

@@ -1,9 +1,7 @@
 -- `rules::number_on`: before each turn the loop holds how many of the tasks passed are on the seat.
 use Prim.Native.Nat.{◌-◌}
-use native.Mathlib.Omega.{arith}
-use borrow.Author.Rules.{rules}
 use Rattle.scope.specs.Seats.{is_on}
-use Rattle.rules.proofs.Laws.{Counting, counting_start, counting_more, counting_le, counting_done}
+use Rattle.rules.proofs.Laws.{Counting}
 use Rattle.rules.proofs.number_on.Given as goal
 
 abbrev pub invariant-loop-t : goal.invariant-loop-t

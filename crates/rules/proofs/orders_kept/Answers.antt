@@ -1,5 +1,4 @@
 -- `rules::orders_kept`: each rule of orders and queues is asked by its function, and holds of any state with these columns.
-use borrow.Author.Rules.{rules}
 use Rattle.scope.specs.Objects.{objects}
 use Rattle.scope.specs.Rules.{keeps}
 use Rattle.answers.specs.Columns.{line_of}

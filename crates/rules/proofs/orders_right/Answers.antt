@@ -2,13 +2,12 @@
 use Prim.Native.Nat.{◌-◌}
 use native.Mathlib.Omega.{arith}
 use mathlib.Core.Path.{◌≡◌, ◌∙◌}
-use lib.ListN.{length, get_or}
+use lib.ListN.{length}
 use borrow.Author.Rules.{rules}
 use Rattle.scope.specs.Areas.{buffers_of}
-use Rattle.scope.specs.Places.{row_of}
-use Rattle.scope.specs.Rules.{order_right, orders_right}
+use Rattle.scope.specs.Rules.{orders_right}
 use Rattle.scope.proofs.Buffers.{buffers_few}
-use Rattle.rules.proofs.Laws.{Testing, testing_start, testing_more, testing_done}
+use Rattle.rules.proofs.Laws.{testing_start, testing_more, testing_done}
 use Rattle.rules.proofs.orders_right.Goals as goal
 
 pub loop-i-init : goal.loop-i-init

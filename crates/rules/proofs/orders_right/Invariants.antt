@@ -1,14 +1,10 @@
 -- `rules::orders_right`: before each turn the loop holds the test of all slots passed.
 use Prim.Native.Nat.{◌-◌}
-use native.Mathlib.Omega.{arith}
-use mathlib.Core.Path.{◌≡◌, ◌∙◌}
-use lib.ListN.{length, get_or}
-use borrow.Author.Rules.{rules}
+use lib.ListN.{get_or}
 use Rattle.scope.specs.Areas.{buffers_of}
 use Rattle.scope.specs.Places.{row_of}
-use Rattle.scope.specs.Rules.{order_right, orders_right}
-use Rattle.scope.proofs.Buffers.{buffers_few}
-use Rattle.rules.proofs.Laws.{Testing, testing_start, testing_more, testing_done}
+use Rattle.scope.specs.Rules.{order_right}
+use Rattle.rules.proofs.Laws.{Testing}
 use Rattle.rules.proofs.orders_right.Given as goal
 
 abbrev pub invariant-loop-i : goal.invariant-loop-i

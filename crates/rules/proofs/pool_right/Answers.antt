@@ -1,5 +1,4 @@
 -- `rules::pool_right`: a branch for each choice.
-use borrow.Author.Rules.{rules}
 use Rattle.laws.proofs.Branches.{pick_yes, pick_no}
 use Rattle.rules.proofs.pool_right.Goals as goal
 

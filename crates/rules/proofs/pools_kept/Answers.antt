@@ -1,7 +1,6 @@
 -- `rules::pools_kept`: each rule of the pools is asked by its function.
 use mathlib.Core.Bool.{and_assoc}
 use mathlib.Core.Path.{refl}
-use borrow.Author.Rules.{rules}
 use Rattle.answers.specs.Columns.{pools_of}
 use Rattle.rules.proofs.pools_kept.Goals as goal
 

@@ -1,9 +1,8 @@
 -- `rules::pools_right`: before each turn the loop holds the test of all slots passed.
-use Prim.Native.Nat.{ℕ, ◌-◌}
-use mathlib.Core.List.{List}
+use Prim.Native.Nat.{◌-◌}
 use borrow.Author.Rules.{rules}
 use Rattle.scope.specs.Rules.{pools_right, pool_right}
-use Rattle.rules.proofs.Laws.{Testing, testing_start, testing_more, testing_done}
+use Rattle.rules.proofs.Laws.{testing_start, testing_more, testing_done}
 use Rattle.rules.proofs.pools_right.Goals as goal
 
 pub loop-i-init : goal.loop-i-init

@@ -1,9 +1,8 @@
 -- `rules::pools_right`: before each turn the loop holds the test of all slots passed.
 use Prim.Native.Nat.{ℕ, ◌-◌}
 use mathlib.Core.List.{List}
-use borrow.Author.Rules.{rules}
-use Rattle.scope.specs.Rules.{pools_right, pool_right}
-use Rattle.rules.proofs.Laws.{Testing, testing_start, testing_more, testing_done}
+use Rattle.scope.specs.Rules.{pool_right}
+use Rattle.rules.proofs.Laws.{Testing}
 use Rattle.rules.proofs.pools_right.Given as goal
 
 abbrev pub invariant-loop-i : goal.invariant-loop-i

@@ -1,6 +1,5 @@
 -- `rules::queue_right`: a branch for each choice.
 use mathlib.Core.Bool.{and_assoc}
-use borrow.Author.Rules.{rules}
 use Rattle.laws.proofs.Branches.{pick_yes, pick_no}
 use Rattle.rules.proofs.queue_right.Goals as goal
 

@@ -1,9 +1,8 @@
 -- `rules::queues_right`: before each turn the loop holds the test of all slots passed.
 use Prim.Native.Nat.{◌-◌}
-use mathlib.Core.List.{[]}
 use borrow.Author.Rules.{rules}
 use Rattle.scope.specs.Rules.{queues_right, queue_right}
-use Rattle.rules.proofs.Laws.{Testing, testing_start, testing_more, testing_done}
+use Rattle.rules.proofs.Laws.{testing_start, testing_more, testing_done}
 use Rattle.rules.proofs.queues_right.Goals as goal
 
 pub loop-i-init : goal.loop-i-init

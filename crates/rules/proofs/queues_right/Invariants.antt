@@ -1,9 +1,8 @@
 -- `rules::queues_right`: before each turn the loop holds the test of all slots passed.
 use Prim.Native.Nat.{◌-◌}
 use mathlib.Core.List.{[]}
-use borrow.Author.Rules.{rules}
-use Rattle.scope.specs.Rules.{queues_right, queue_right}
-use Rattle.rules.proofs.Laws.{Testing, testing_start, testing_more, testing_done}
+use Rattle.scope.specs.Rules.{queue_right}
+use Rattle.rules.proofs.Laws.{Testing}
 use Rattle.rules.proofs.queues_right.Given as goal
 
 abbrev pub invariant-loop-i : goal.invariant-loop-i

@@ -1,11 +1,8 @@
 -- `rules::queues_sorted`: before each turn the loop holds the test of all slots passed.
 use Prim.Native.Nat.{◌-◌}
-use mathlib.Core.Bool.{false}
 use borrow.Author.Rules.{rules}
-use lib.ListN.{get_or}
-use Rattle.scope.specs.Objects.{of_object}
-use Rattle.scope.specs.Rules.{queues_sorted, joined_right}
-use Rattle.rules.proofs.Laws.{Testing, testing_start, testing_more, testing_done}
+use Rattle.scope.specs.Rules.{queues_sorted}
+use Rattle.rules.proofs.Laws.{testing_start, testing_more, testing_done}
 use Rattle.rules.proofs.queues_sorted.Goals as goal
 
 pub loop-t-init : goal.loop-t-init

@@ -1,6 +1,5 @@
 -- `rules::ready_right`: a branch for each choice; a priority has its seats.
 use mathlib.Core.Path.{refl, sym, ◌∙◌}
-use borrow.Author.Rules.{rules}
 use Rattle.scope.specs.Rules.{ready_right}
 use Rattle.laws.proofs.Branches.{pick_yes, pick_no}
 use Rattle.rules.proofs.ready_right.Goals as goal

@@ -1,6 +1,5 @@
 -- `rules::ready_with`: the tests are those of its definition, in turn.
 use mathlib.Core.Bool.{and_assoc}
-use borrow.Author.Rules.{rules}
 use Rattle.scope.specs.Views.{ready_with}
 use Rattle.rules.proofs.ready_with.Goals as goal
 

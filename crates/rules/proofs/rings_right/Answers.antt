@@ -1,5 +1,4 @@
 -- `rules::rings_right`: the kept mask against that of the seats.
-use borrow.Author.Rules.{rules}
 use Rattle.scope.specs.Rules.{rings_right}
 use Rattle.rules.proofs.rings_right.Goals as goal
 

@@ -1,5 +1,4 @@
 -- `rules::running_right`: the kept task against the one that runs.
-use borrow.Author.Rules.{rules}
 use Rattle.scope.specs.Rules.{running_right}
 use Rattle.rules.proofs.running_right.Goals as goal
 

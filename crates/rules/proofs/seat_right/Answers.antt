@@ -1,6 +1,5 @@
 -- `rules::seat_right`: a branch for each choice.
 use mathlib.Core.Path.{refl}
-use borrow.Author.Rules.{rules}
 use borrow.Author.Tests.{eq-eqb, ne_eqb}
 use Rattle.scope.specs.Rules.{seat_right}
 use Rattle.laws.proofs.Branches.{pick_yes, pick_no}

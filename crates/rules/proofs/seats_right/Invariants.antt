@@ -1,9 +1,8 @@
 -- `rules::seats_right`: before each turn the loop holds the test of all slots passed.
 use Prim.Native.Nat.{◌-◌}
-use borrow.Author.Rules.{rules}
 use lib.ListN.{get_or}
-use Rattle.scope.specs.Rules.{seats_right, seat_right}
-use Rattle.rules.proofs.Laws.{Testing, testing_start, testing_more, testing_done}
+use Rattle.scope.specs.Rules.{seat_right}
+use Rattle.rules.proofs.Laws.{Testing}
 use Rattle.rules.proofs.seats_right.Given as goal
 
 abbrev pub invariant-loop-t : goal.invariant-loop-t

@@ -2,7 +2,7 @@
 use Prim.Native.Nat.{◌-◌}
 use borrow.Author.Rules.{rules}
 use Rattle.scope.specs.Rules.{sems_right, sem_right}
-use Rattle.rules.proofs.Laws.{Testing, testing_start, testing_more, testing_done}
+use Rattle.rules.proofs.Laws.{testing_start, testing_more, testing_done}
 use Rattle.rules.proofs.sems_right.Goals as goal
 
 pub loop-i-init : goal.loop-i-init

@@ -1,8 +1,7 @@
 -- `rules::sems_right`: before each turn the loop holds the test of all slots passed.
 use Prim.Native.Nat.{◌-◌}
-use borrow.Author.Rules.{rules}
-use Rattle.scope.specs.Rules.{sems_right, sem_right}
-use Rattle.rules.proofs.Laws.{Testing, testing_start, testing_more, testing_done}
+use Rattle.scope.specs.Rules.{sem_right}
+use Rattle.rules.proofs.Laws.{Testing}
 use Rattle.rules.proofs.sems_right.Given as goal
 
 abbrev pub invariant-loop-i : goal.invariant-loop-i

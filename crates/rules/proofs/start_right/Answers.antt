@@ -1,6 +1,5 @@
 -- `rules::start_right`: a branch for each choice.
 use mathlib.Core.Path.{refl}
-use borrow.Author.Rules.{rules}
 use Rattle.scope.specs.Rules.{start_right}
 use Rattle.laws.proofs.Branches.{pick_yes, pick_no}
 use Rattle.rules.proofs.start_right.Goals as goal

@@ -1,10 +1,8 @@
 -- `rules::starts_right`: before each turn the loop holds the test of all slots passed.
 use Prim.Native.Nat.{◌-◌}
 use borrow.Author.Rules.{rules}
-use lib.ListN.{get_or}
-use mathlib.Core.Bool.{false}
-use Rattle.scope.specs.Rules.{starts_right, start_right}
-use Rattle.rules.proofs.Laws.{Testing, testing_start, testing_more, testing_done}
+use Rattle.scope.specs.Rules.{starts_right}
+use Rattle.rules.proofs.Laws.{testing_start, testing_more, testing_done}
 use Rattle.rules.proofs.starts_right.Goals as goal
 
 pub loop-t-init : goal.loop-t-init

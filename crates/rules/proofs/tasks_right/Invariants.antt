@@ -1,8 +1,7 @@
 -- `rules::tasks_right`: before each turn the loop holds the test of all slots passed.
 use Prim.Native.Nat.{◌-◌}
-use borrow.Author.Rules.{rules}
-use Rattle.scope.specs.Rules.{tasks_right, task_right}
-use Rattle.rules.proofs.Laws.{Testing, testing_start, testing_more, testing_done}
+use Rattle.scope.specs.Rules.{task_right}
+use Rattle.rules.proofs.Laws.{Testing}
 use Rattle.rules.proofs.tasks_right.Given as goal
 
 abbrev pub invariant-loop-t : goal.invariant-loop-t

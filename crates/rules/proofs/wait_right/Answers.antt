@@ -1,7 +1,6 @@
 -- `rules::wait_right`: a branch for each choice.
 use mathlib.Core.Bool.{and_assoc}
 use mathlib.Core.Path.{refl, sym, ◌∙◌}
-use borrow.Author.Rules.{rules}
 use Rattle.scope.specs.Rules.{wait_right}
 use Rattle.laws.proofs.Branches.{pick_yes, pick_no}
 use Rattle.rules.proofs.wait_right.Goals as goal

@@ -1,11 +1,10 @@
 -- `rules::waits_right`: before each turn the loop holds the test of all slots passed.
 use Prim.Native.Nat.{◌-◌}
 use mathlib.Core.Bool.{false}
-use borrow.Author.Rules.{rules}
 use lib.ListN.{get_or}
 use Rattle.scope.specs.Objects.{of_object}
-use Rattle.scope.specs.Rules.{waits_right, wait_right}
-use Rattle.rules.proofs.Laws.{Testing, testing_start, testing_more, testing_done}
+use Rattle.scope.specs.Rules.{wait_right}
+use Rattle.rules.proofs.Laws.{Testing}
 use Rattle.rules.proofs.waits_right.Given as goal
 
 abbrev pub invariant-loop-t : goal.invariant-loop-t

@@ -1,6 +1,6 @@
 -- `seats::ahead`: the loop leaves the seats of those whose key is great enough and makes the others 0, and the last of those is `ahead_of`.
 use Rattle.std.proofs.Common.{◌+◌, ◌-◌, leb, get_or, rules}
-use Rattle.laws.proofs.Arrays.{Changing, changing_start, changing_more}
+use Rattle.laws.proofs.Arrays.{changing_start, changing_more}
 use Rattle.scope.specs.Choice.{pick}
 use Rattle.seats.proofs.Laws.{ahead_found}
 use Rattle.seats.proofs.ahead.Goals as goal

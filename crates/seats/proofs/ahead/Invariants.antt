@@ -1,8 +1,7 @@
 -- `seats::ahead`: the loop leaves the seats of those whose key is great enough and makes the others 0, and the last of those is `ahead_of`.
-use Rattle.std.proofs.Common.{◌+◌, ◌-◌, leb, get_or, rules}
-use Rattle.laws.proofs.Arrays.{Changing, changing_start, changing_more}
+use Rattle.std.proofs.Common.{◌-◌, leb, get_or}
+use Rattle.laws.proofs.Arrays.{Changing}
 use Rattle.scope.specs.Choice.{pick}
-use Rattle.seats.proofs.Laws.{ahead_found}
 use Rattle.seats.proofs.ahead.Given as goal
 
 abbrev pub invariant-loop-k : goal.invariant-loop-k

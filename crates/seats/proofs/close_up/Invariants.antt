@@ -1,8 +1,8 @@
 -- `seats::close_up`: the loop maps the seats in place by `lower`, and notes whether one of those it has made is the first of the queue.
-use Rattle.std.proofs.Common.{◌≡◌, ◌+◌, ◌-◌, ◌*◌, ◌/◌, map, length, sym, ap, ◌∙◌, arith, rules}
-use Rattle.laws.proofs.Arrays.{Changing, changing_start, changing_more, mapping_done, get_or-map_lt}
+use Rattle.std.proofs.Common.{◌-◌, map}
+use Rattle.laws.proofs.Arrays.{Changing}
 use Rattle.scope.specs.Seats.{lower, seats_end}
-use Rattle.seats.proofs.Laws.{Noted, noted_start, noted_more, noted_done}
+use Rattle.seats.proofs.Laws.{Noted}
 use Rattle.seats.proofs.close_up.Given as goal
 
 abbrev pub invariant-loop-k : goal.invariant-loop-k

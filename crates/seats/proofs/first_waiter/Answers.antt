@@ -1,5 +1,5 @@
 -- `seats::first_waiter`: the seat asked for is the first above `queue_seats`; nobody is on it, or somebody is found there.
-use Rattle.std.proofs.Common.{sym, ap, ◌∙◌, arith, rules}
+use Rattle.std.proofs.Common.{sym, ap, ◌∙◌, arith}
 use Rattle.scope.specs.Seats.{on_seat}
 use Rattle.laws.proofs.Seats.First.{on_seat_none}
 use Rattle.seats.proofs.first_waiter.Goals as goal

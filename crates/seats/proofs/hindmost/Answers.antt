@@ -1,6 +1,6 @@
 -- `seats::hindmost`: the loop holds the least way from a seat to the queue's last.
 use Rattle.std.proofs.Common.{◌≡◌, ◌-◌, ◌≤◌, arith, rules}
-use Rattle.seats.proofs.Laws.{Nearest, nearest_start, nearest_more}
+use Rattle.seats.proofs.Laws.{nearest_start, nearest_more}
 use Rattle.seats.proofs.hindmost.Goals as goal
 
 pub loop-k-init : goal.loop-k-init

@@ -1,6 +1,6 @@
 -- `seats::hindmost`: the loop holds the least way from a seat to the queue's last.
-use Rattle.std.proofs.Common.{◌≡◌, ◌-◌, ◌≤◌, arith, rules}
-use Rattle.seats.proofs.Laws.{Nearest, nearest_start, nearest_more}
+use Rattle.std.proofs.Common.{◌-◌, ◌≤◌}
+use Rattle.seats.proofs.Laws.{Nearest}
 use Rattle.seats.proofs.hindmost.Given as goal
 
 abbrev pub invariant-loop-k : goal.invariant-loop-k

@@ -1,5 +1,5 @@
 -- `seats::is_taken`: as long as nobody was found there, no task below t sits on the seat; and one who was found does.
-use Rattle.std.proofs.Common.{◌≡◌, ℕ, ◌-◌, ◌<◌, ◌≤◌, true, false, refl, arith, rules, below_none}
+use Rattle.std.proofs.Common.{◌≡◌, ◌-◌, refl, arith, rules, below_none}
 use Rattle.laws.proofs.Branches.{true-false}
 use Rattle.laws.proofs.Searches.{none_more, some_more, noted}
 use Rattle.scope.specs.Seats.{is_on, on_seat}

@@ -1,5 +1,5 @@
 -- `seats::join`: the others make room behind `ahead_of`, and the store seats the newcomer there.
-use Rattle.std.proofs.Common.{◌+◌, refl, arith, rules}
+use Rattle.std.proofs.Common.{◌+◌, refl, arith}
 use Rattle.seats.proofs.Laws.{joined, small}
 use Rattle.seats.proofs.join.Goals as goal
 

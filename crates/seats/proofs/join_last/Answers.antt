@@ -1,5 +1,4 @@
 -- `seats::join_last`: the task takes the seat behind all, and no other seat changes.
-use Rattle.std.proofs.Common.{rules}
 use Rattle.seats.proofs.join_last.Goals as goal
 
 pub returns : goal.returns

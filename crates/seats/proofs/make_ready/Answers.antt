@@ -1,5 +1,4 @@
 -- `seats::make_ready`: it joins its ring behind all.
-use Rattle.std.proofs.Common.{rules}
 use Rattle.seats.proofs.make_ready.Goals as goal
 
 pub returns : goal.returns

@@ -1,6 +1,6 @@
 -- `seats::make_room`: the loop maps the seats in place by `raise`.
 use Rattle.std.proofs.Common.{◌+◌, ◌-◌, rules}
-use Rattle.laws.proofs.Arrays.{Changing, changing_start, changing_more, mapping_done}
+use Rattle.laws.proofs.Arrays.{changing_start, changing_more, mapping_done}
 use Rattle.scope.specs.Seats.{raise}
 use Rattle.seats.proofs.make_room.Goals as goal
 

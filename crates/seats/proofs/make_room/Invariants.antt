@@ -1,6 +1,6 @@
 -- `seats::make_room`: the loop maps the seats in place by `raise`.
-use Rattle.std.proofs.Common.{◌+◌, ◌-◌, rules}
-use Rattle.laws.proofs.Arrays.{Changing, changing_start, changing_more, mapping_done}
+use Rattle.std.proofs.Common.{◌+◌, ◌-◌}
+use Rattle.laws.proofs.Arrays.{Changing}
 use Rattle.scope.specs.Seats.{raise}
 use Rattle.seats.proofs.make_room.Given as goal
 

@@ -1,5 +1,5 @@
 -- `seats::mask_left`: each branch is one choice.
-use Rattle.std.proofs.Common.{refl, rules, le-ltb, lt-ltb}
+use Rattle.std.proofs.Common.{refl, le-ltb, lt-ltb}
 use Rattle.laws.proofs.Branches.{pick_yes, pick_no}
 use Rattle.seats.proofs.mask_left.Goals as goal
 

@@ -1,10 +1,10 @@
 -- `seats::move_up`: the loop maps the seats in place by `lower`, and holds the least way to the queue's last of those that it has made.
-use Rattle.std.proofs.Common.{◌≡◌, ◌+◌, ◌-◌, ◌≤◌, map, length, get_or, sym, ap, ◌∙◌, arith, rules}
+use Rattle.std.proofs.Common.{◌≡◌, ◌-◌, ◌≤◌, map, length, get_or, sym, ap, ◌∙◌, arith, rules}
 use lib.ListN.{length-map}
-use Rattle.laws.proofs.Arrays.{Changing, changing_start, changing_more, mapping_done, get_or-map_lt}
+use Rattle.laws.proofs.Arrays.{changing_start, changing_more, mapping_done, get_or-map_lt}
 use Rattle.scope.specs.Seats.{lower, seats_end}
 use Rattle.laws.proofs.Seats.Joining.{joins_end}
-use Rattle.seats.proofs.Laws.{Nearest, nearest_start, nearest_more}
+use Rattle.seats.proofs.Laws.{nearest_start, nearest_more}
 use Rattle.seats.proofs.move_up.Goals as goal
 
 pub overflow_sub-reach : goal.overflow_sub-reach

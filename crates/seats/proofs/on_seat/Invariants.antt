@@ -1,7 +1,6 @@
 -- `seats::on_seat`: no task below t sits on the seat, so the first that does is `on_seat`.
-use Rattle.std.proofs.Common.{◌≡◌, ℕ, ◌-◌, ◌<◌, ◌≤◌, false, rules, below_none, below_more, eq-eqb, ne_eqb}
-use Rattle.laws.proofs.Searches.{least_hit, least_none}
-use Rattle.scope.specs.Seats.{is_on, on_seat}
+use Rattle.std.proofs.Common.{◌≡◌, ℕ, ◌-◌, ◌<◌, ◌≤◌, false}
+use Rattle.scope.specs.Seats.{is_on}
 use Rattle.seats.proofs.on_seat.Given as goal
 
 abbrev pub invariant-loop-t : goal.invariant-loop-t

@@ -1,5 +1,4 @@
 -- `seats::put_in`: the seats by `make_ready`, the one place of the rings by `mask_filled`.
-use Rattle.std.proofs.Common.{rules}
 use Rattle.scope.specs.Seats.{rings_ready}
 use Rattle.seats.proofs.put_in.Goals as goal
 

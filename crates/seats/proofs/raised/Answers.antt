@@ -1,5 +1,5 @@
 -- `seats::raised`: where the seat lies is told by the comparison of the ways.
-use Rattle.std.proofs.Common.{refl, arith, rules}
+use Rattle.std.proofs.Common.{refl, arith}
 use Rattle.seats.proofs.Laws.{nearer, farther, raise_between, raise_apart}
 use Rattle.seats.proofs.raised.Goals as goal
 

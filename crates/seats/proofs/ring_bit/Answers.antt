@@ -1,5 +1,5 @@
 -- `seats::ring_bit`: the seat asked for is the ring's first, and a bit below the sixteenth is there.
-use Rattle.std.proofs.Common.{◌≡◌, ℕ, ◌+◌, ◌*◌, ltb, sym, refl, ap, ◌∙◌, one-mul, arith, rules}
+use Rattle.std.proofs.Common.{◌≡◌, ℕ, ◌+◌, ◌*◌, ltb, sym, refl, ap, ◌∙◌, one-mul, arith}
 use Rattle.laws.proofs.Branches.{pick_yes, pick_no}
 use Rattle.laws.proofs.Bits.{bit_fits}
 use Rattle.scope.specs.Seats.{on_seat, ring_seats, holds_task}

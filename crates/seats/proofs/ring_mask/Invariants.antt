@@ -1,8 +1,7 @@
 -- `seats::ring_mask`: before each turn the loop holds the mask of the rings passed.
-use Rattle.std.proofs.Common.{◌≡◌, ℕ, ◌+◌, ◌-◌, ◌^◌, ◌≤◌, refl, ap, ◌∙◌, add-one, arith, pow_mono, rules}
-use Rattle.laws.proofs.Bits.{bits-lt}
+use Rattle.std.proofs.Common.{◌≡◌, ◌-◌, ◌≤◌}
 use Rattle.scope.specs.Choice.{bits}
-use Rattle.scope.specs.Seats.{holds_task, ring_mask}
+use Rattle.scope.specs.Seats.{holds_task}
 use Rattle.seats.proofs.ring_mask.Given as goal
 
 abbrev pub invariant-loop-p : goal.invariant-loop-p

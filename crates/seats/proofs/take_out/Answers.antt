@@ -1,5 +1,4 @@
 -- `seats::take_out`: the seats by `close_up`, which tells who is first since, and by that the one place of the rings.
-use Rattle.std.proofs.Common.{rules}
 use Rattle.scope.specs.Seats.{leaves, rings_left}
 use Rattle.seats.proofs.Laws.{ring_left}
 use Rattle.seats.proofs.take_out.Goals as goal

@@ -1,8 +1,8 @@
 -- `seats::waiters`: before task t the loop holds how many of the first t stand in the queue.
-use Rattle.std.proofs.Common.{◌≡◌, ◌+◌, ◌-◌, ◌*◌, ◌≤◌, refl, arith, rules}
+use Rattle.std.proofs.Common.{◌≡◌, ◌+◌, ◌-◌, ◌*◌, refl, arith, rules}
 use Rattle.laws.proofs.Searches.{number-le}
 use Rattle.scope.specs.Choice.{number}
-use Rattle.scope.specs.Seats.{stands_in, standing, queue_seats}
+use Rattle.scope.specs.Seats.{stands_in, standing}
 use Rattle.seats.proofs.Laws.{counted}
 use Rattle.seats.proofs.waiters.Goals as goal
 

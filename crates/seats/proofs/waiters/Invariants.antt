@@ -1,9 +1,7 @@
 -- `seats::waiters`: before task t the loop holds how many of the first t stand in the queue.
-use Rattle.std.proofs.Common.{◌≡◌, ◌+◌, ◌-◌, ◌*◌, ◌≤◌, refl, arith, rules}
-use Rattle.laws.proofs.Searches.{number-le}
+use Rattle.std.proofs.Common.{◌≡◌, ◌-◌, ◌≤◌}
 use Rattle.scope.specs.Choice.{number}
-use Rattle.scope.specs.Seats.{stands_in, standing, queue_seats}
-use Rattle.seats.proofs.Laws.{counted}
+use Rattle.scope.specs.Seats.{stands_in, queue_seats}
 use Rattle.seats.proofs.waiters.Given as goal
 
 abbrev pub invariant-loop-t : goal.invariant-loop-t

@@ -5,7 +5,6 @@ use lib.Dec.{eqb}
 use borrow.Author.Tests.{lt-ltb, le-ltb, eq-eqb, ne_eqb, le-leb, lt-leb}
 use Rattle.laws.proofs.Branches.{pick_yes, pick_no, both, first_fails, second_fails, not_of_true, not_of_false}
 use Rattle.semaphores.specs.Deciding.{claim_status}
-use borrow.Author.Rules.{rules}
 use Rattle.semaphores.proofs.claim_status.Goals as goal
 
 pub returns-then-options-gt-LAST_OPTION : goal.returns-then-options-gt-LAST_OPTION

@@ -3,7 +3,6 @@ use native.Mathlib.Omega.{arith}
 use Rattle.answers.specs.Columns.{lent_semaphores}
 use Rattle.answers.proofs.Outcomes.{plain_of, gives_of}
 use Rattle.semaphores.proofs.Laws.{room_refused, room_taken}
-use borrow.Author.Rules.{rules}
 use Rattle.semaphores.proofs.sem_create.Goals as goal
 
 pub returns-then-f-ne-OK : goal.returns-then-f-ne-OK

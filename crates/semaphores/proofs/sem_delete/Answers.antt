@@ -4,7 +4,6 @@ use Rattle.answers.proofs.Outcomes.{plain_of}
 use Rattle.semaphores.proofs.Laws.{all_woken}
 use Rattle.tables.proofs.Slots.{slot_found, slot_refused}
 use Rattle.scope.specs.Semaphores.{sem_delete_at}
-use borrow.Author.Rules.{rules}
 use Rattle.semaphores.proofs.sem_delete.Goals as goal
 
 pub returns-then-f-ne-OK : goal.returns-then-f-ne-OK

@@ -6,7 +6,6 @@ use Rattle.answers.proofs.Outcomes.{plain_of, tells_of}
 use Rattle.semaphores.proofs.Laws.{few, info_below, info_above}
 use Rattle.tables.proofs.Slots.{slot_found, slot_refused}
 use Rattle.scope.specs.Semaphores.{sem_info_at}
-use borrow.Author.Rules.{rules}
 use Rattle.semaphores.proofs.sem_info.Goals as goal
 
 pub returns-then-f-ne-OK : goal.returns-then-f-ne-OK

@@ -4,7 +4,6 @@ use Rattle.answers.proofs.Outcomes.{plain_of}
 use Rattle.semaphores.proofs.Laws.{release_wakes, release_full, release_more}
 use Rattle.tables.proofs.Slots.{slot_found, slot_refused}
 use Rattle.scope.specs.Semaphores.{sem_release_at}
-use borrow.Author.Rules.{rules}
 use Rattle.semaphores.proofs.sem_release.Goals as goal
 
 pub returns-then-f-ne-OK : goal.returns-then-f-ne-OK

@@ -1,11 +1,10 @@
 -- `send_chapter::send_part`: the caller's test first, then each call by its number; the last is what is left when it is none of those before.
 -- the state before, out of the columns lent and a state's
 use native.Mathlib.Omega.{arith}
-use mathlib.Core.Path.{◌≡◌, ◌∙◌}
-use borrow.Author.Rules.{rules}
+use mathlib.Core.Path.{◌≡◌}
 use Rattle.answers.proofs.Outcomes.{plain_of, none_shown}
 use Rattle.answers.specs.Columns.{lent_queues}
-use Rattle.chapters.proofs.Laws.{answered_refused, answered-does, past, only}
+use Rattle.chapters.proofs.Laws.{answered_refused, answered-does}
 use Rattle.scope.specs.declared.State.{State}
 use Rattle.send_chapter.proofs.send_part.Goals as goal
 

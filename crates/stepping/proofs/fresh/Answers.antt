@@ -1,6 +1,5 @@
 -- `stepping::fresh`: 31 where there is no room; else the image of the fresh state, copied over the front of the slice.
 use Rattle.replies.proofs.Laws.{fresh_full, fresh_done}
-use borrow.Author.Rules.{rules}
 use Rattle.stepping.proofs.fresh.Goals as goal
 
 pub returns-then-image-lt-SIZE : goal.returns-then-image-lt-SIZE

@@ -3,7 +3,6 @@ use Prim.Native.Nat.{ℕ}
 use lib.ListN.{length-replicate}
 use Rattle.image.specs.Image.{image_size}
 use Rattle.replies.proofs.Laws.{fronted}
-use borrow.Author.Rules.{rules}
 use Rattle.stepping.proofs.front.Goals as goal
 
 pub returns : goal.returns

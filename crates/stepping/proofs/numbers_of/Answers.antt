@@ -1,5 +1,4 @@
 -- `stepping::numbers_of`: each number is the outcome's.
-use borrow.Author.Rules.{rules}
 use Rattle.stepping.proofs.numbers_of.Goals as goal
 
 pub returns : goal.returns

@@ -1,6 +1,5 @@
 -- `stepping::step`: 32 where the bytes are too few; else the step through the front of them, which is copied back unless it is refused.
 use Rattle.replies.proofs.Laws.{own-length, short_step, kept_step, copied_step}
-use borrow.Author.Rules.{rules}
 use Rattle.stepping.proofs.step.Goals as goal
 
 pub returns-then-image-lt-SIZE : goal.returns-then-image-lt-SIZE

@@ -1,7 +1,5 @@
 -- `stepping::step_own`: the two tests are whether the bytes are an image; then the answer is the step's, and else it is 32.
-use mathlib.Core.Path.{◌≡◌, ◌∙◌}
 use Rattle.replies.proofs.Laws.{tested, step_refused, few_woken, step_done}
-use borrow.Author.Rules.{rules}
 use Rattle.stepping.proofs.step_own.Goals as goal
 
 pub step_image-t-requires : goal.step_image-t-requires

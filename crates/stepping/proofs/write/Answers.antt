@@ -1,6 +1,5 @@
 -- `stepping::write`: 26 for a bad state, then 31 where there is no room, and else the image copied over the front of the slice.
 use Rattle.replies.proofs.Laws.{bad_unwritten, no_room, state_written}
-use borrow.Author.Rules.{rules}
 use Rattle.stepping.proofs.write.Goals as goal
 
 pub image_of-good-requires : goal.image_of-good-requires

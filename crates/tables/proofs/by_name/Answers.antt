@@ -1,11 +1,10 @@
 -- `tables::by_name` meets its contract. The loop's invariant: no slot passed is live and so named.
-use Prim.Native.Nat.{ℕ, ◌≤◌, ◌<◌, ◌-◌}
-use mathlib.Core.Path.{◌≡◌, sym, ◌∙◌}
+use Prim.Native.Nat.{◌-◌}
+use mathlib.Core.Path.{sym, ◌∙◌}
 use mathlib.Core.Bool.{false}
-use lib.ListN.{length}
 use borrow.Author.Rules.{rules}
 use borrow.Author.Count.{below_none, below_more}
-use Rattle.scope.specs.Identifiers.{named, by_name}
+use Rattle.scope.specs.Identifiers.{by_name}
 use Rattle.laws.proofs.Searches.{least_hit, least_none}
 use Rattle.tables.proofs.by_name.Goals as goal
 

@@ -1,12 +1,9 @@
 -- `tables::by_name` meets its contract. The loop's invariant: no slot passed is live and so named.
 use Prim.Native.Nat.{ℕ, ◌≤◌, ◌<◌, ◌-◌}
-use mathlib.Core.Path.{◌≡◌, sym, ◌∙◌}
+use mathlib.Core.Path.{◌≡◌}
 use mathlib.Core.Bool.{false}
 use lib.ListN.{length}
-use borrow.Author.Rules.{rules}
-use borrow.Author.Count.{below_none, below_more}
-use Rattle.scope.specs.Identifiers.{named, by_name}
-use Rattle.laws.proofs.Searches.{least_hit, least_none}
+use Rattle.scope.specs.Identifiers.{named}
 use Rattle.tables.proofs.by_name.Given as goal
 
 abbrev pub invariant-loop-k : goal.invariant-loop-k

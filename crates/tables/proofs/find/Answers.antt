@@ -3,7 +3,6 @@ use mathlib.Core.Path.{sym, ap, ◌∙◌}
 use Rattle.laws.proofs.Tables.{found_outside, found-zero, found_later, found_current, found_earlier, found_gone}
 use Rattle.tables.specs.Slots.{slot_of}
 use Rattle.tables.proofs.Slots.{finds_none, finds}
-use borrow.Author.Rules.{rules}
 use Rattle.tables.proofs.find.Goals as goal
 
 pub returns-then-serial-slot : goal.returns-then-serial-slot

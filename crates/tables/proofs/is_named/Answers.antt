@@ -2,7 +2,6 @@
 use mathlib.Core.Path.{sym, ◌∙◌}
 use Rattle.scope.specs.Identifiers.{named}
 use Rattle.laws.proofs.Branches.{first_fails, second_decides}
-use borrow.Author.Rules.{rules}
 use Rattle.tables.proofs.is_named.Goals as goal
 
 pub returns-then-flag : goal.returns-then-flag

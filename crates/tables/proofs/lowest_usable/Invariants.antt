@@ -1,16 +1,10 @@
 -- `tables::lowest_usable` meets its contract: what the trailing zeros of a look's mask name is the first usable slot there. The
 -- loop's invariant: no slot of an earlier look is usable.
 use Prim.Native.Nat.{ℕ, ◌-◌, ◌≤◌, ◌<◌}
-use native.Mathlib.Omega.{arith}
 use mathlib.Core.Path.{◌≡◌}
 use mathlib.Core.Bool.{false}
 use lib.ListN.{length}
-use lib.Count.{trailing_le}
-use borrow.Author.Rules.{rules}
-use borrow.Author.Count.{below_none}
-use Rattle.scope.specs.Identifiers.{usable, lowest_usable}
-use Rattle.laws.proofs.Searches.{least_none}
-use Rattle.tables.proofs.Masks.{zeros_some, look_hit, look_none}
+use Rattle.scope.specs.Identifiers.{usable}
 use Rattle.tables.proofs.lowest_usable.Given as goal
 
 abbrev pub invariant-loop-base : goal.invariant-loop-base

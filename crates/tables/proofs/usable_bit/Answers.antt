@@ -1,6 +1,5 @@
 -- `tables::usable_bit` meets its contract: a live slot fails the definition's first test, at another the second decides.
 use mathlib.Core.Path.{sym, ◌∙◌}
-use borrow.Author.Rules.{rules}
 use Rattle.tables.proofs.Masks.{bit_live, bit_left, bit_used_up}
 use Rattle.tables.proofs.usable_bit.Goals as goal
 

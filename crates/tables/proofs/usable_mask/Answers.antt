@@ -1,9 +1,8 @@
 -- `tables::usable_mask` meets its contract. The loop's invariant: the mask is that of the slots looked at so far.
-use Prim.Native.Nat.{◌-◌, ◌*◌, ◌≤◌}
+use Prim.Native.Nat.{◌-◌}
 use native.Mathlib.Omega.{arith}
-use mathlib.Core.Path.{◌≡◌, ◌∙◌}
+use mathlib.Core.Path.{◌≡◌}
 use borrow.Author.Rules.{rules}
-use Rattle.scope.specs.Identifiers.{usable}
 use Rattle.tables.specs.Masks.{mask_from}
 use Rattle.tables.proofs.Masks.{mask_or}
 use Rattle.tables.proofs.usable_mask.Goals as goal

@@ -2,7 +2,6 @@
 use mathlib.Core.Bool.{not}
 use mathlib.Core.Path.{ap}
 use Rattle.tasks.proofs.Laws.{ready_unstarted, ready_suspended, ready_unless_waits}
-use borrow.Author.Rules.{rules}
 use Rattle.tasks.proofs.is_ready.Goals as goal
 
 pub returns-then-not-started : goal.returns-then-not-started

@@ -1,7 +1,7 @@
 -- `tasks::task_set_priority`: 19 by the test of the priority; a ready task is taken out and put in again, any other keeps its place.
 -- the state that the call is lent
 use lib.Dec.{lit<}
-use borrow.Author.Rules.{rules, scaled_Fits}
+use borrow.Author.Rules.{scaled_Fits}
 use mathlib.Core.Path.{refl}
 use Rattle.tasks.proofs.Laws.{set_unfit, set_ready, set_other}
 use Rattle.answers.proofs.Outcomes.{plain_of}

@@ -1,7 +1,5 @@
 -- `tick_chapter::tick_part`: the caller's test first, then the call.
 -- the state before, out of the columns lent and a state's
-use mathlib.Core.Path.{◌≡◌, ◌∙◌}
-use borrow.Author.Rules.{rules}
 use Rattle.answers.proofs.Outcomes.{plain_of}
 use Rattle.answers.specs.Columns.{lent_line}
 use Rattle.chapters.proofs.Laws.{answered_refused, answered-does}

@@ -1,6 +1,5 @@
 -- `ticks::is_due`: by its seat, and then by what is left.
 use mathlib.Core.Path.{sym, ◌∙◌}
-use borrow.Author.Rules.{rules}
 use Rattle.laws.proofs.Branches.{first_fails, second_decides}
 use Rattle.ticks.proofs.is_due.Goals as goal
 

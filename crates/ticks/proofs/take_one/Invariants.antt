@@ -1,16 +1,11 @@
 -- `ticks::take_one`: the loop changes the array in place, each place by its task, and counts those passed that had one left.
 use Prim.Native.Nat.{ℕ, ◌-◌, ◌≤◌, ◌<◌}
-use native.Mathlib.Omega.{arith}
 use mathlib.Core.Bool.{false}
-use mathlib.Core.Path.{◌≡◌, ap, ◌∙◌}
-use mathlib.Core.List.{List}
+use mathlib.Core.Path.{◌≡◌}
 use lib.ListN.{get_or}
 use lib.Dec.{eqb}
-use borrow.Author.Rules.{rules}
-use Rattle.scope.specs.Answers.{bit_of}
 use Rattle.scope.specs.Ticks.{time_left}
-use Rattle.laws.proofs.Arrays.{Changing, changing_start, changing_more}
-use Rattle.ticks.proofs.Laws.{times_done, counts_one, none_counted}
+use Rattle.laws.proofs.Arrays.{Changing}
 use Rattle.ticks.proofs.take_one.Given as goal
 
 abbrev pub invariant-loop-k : goal.invariant-loop-k

@@ -1,5 +1,4 @@
 -- `ticks::tick`: one is taken from each; nobody had one left, so nobody was due, or those who were are woken.
-use borrow.Author.Rules.{rules}
 use Rattle.answers.proofs.Outcomes.{woke_moved}
 use Rattle.scope.specs.Ticks.{tick}
 use Rattle.ticks.proofs.Laws.{none_due}

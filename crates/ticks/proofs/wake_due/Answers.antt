@@ -1,12 +1,10 @@
 -- `ticks::wake_due`: each turn looks at one task more, and wakes it where it was due.
-use Prim.Native.Nat.{◌-◌, ◌≤◌}
+use Prim.Native.Nat.{◌-◌}
 use native.Mathlib.Omega.{arith}
 use mathlib.Core.Path.{refl}
 use borrow.Author.Rules.{rules}
-use Rattle.answers.specs.Columns.{line_of, wakers, waking_of}
-use Rattle.scope.specs.declared.Tasks.{Tasks}
 use Rattle.scope.specs.Ticks.{is_due}
-use Rattle.ticks.proofs.Laws.{Looked, due_looked, due_done}
+use Rattle.ticks.proofs.Laws.{due_looked, due_done}
 use Rattle.ticks.proofs.wake_due.Goals as goal
 
 pub loop-t-init : goal.loop-t-init

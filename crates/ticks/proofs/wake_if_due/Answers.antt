@@ -1,7 +1,6 @@
 -- `ticks::wake_if_due`: the next of the wake list where it was due, else nothing changes.
 use native.Mathlib.Omega.{arith}
 use mathlib.Core.Path.{refl}
-use borrow.Author.Rules.{rules}
 use Rattle.laws.proofs.Branches.{pick_yes, pick_no}
 use Rattle.ticks.proofs.wake_if_due.Goals as goal
 

@@ -1,6 +1,5 @@
 -- `times::lacks_time_out`: the time_out is looked at without NOWAIT only.
 use mathlib.Core.Path.{sym, ◌∙◌}
-use borrow.Author.Rules.{rules}
 use borrow.Author.Tests.{eq-eqb, ne_eqb}
 use Rattle.laws.proofs.Branches.{first_fails, second_decides}
 use Rattle.times.proofs.lacks_time_out.Goals as goal

@@ -1,7 +1,6 @@
 -- `times::time_left`: by its tests; 0 less one is 0.
 use native.Mathlib.Omega.{arith}
-use mathlib.Core.Path.{◌≡◌, refl}
-use borrow.Author.Rules.{rules}
+use mathlib.Core.Path.{refl}
 use borrow.Author.Tests.{eq-eqb, ne_eqb}
 use Rattle.scope.specs.Ticks.{time_left}
 use Rattle.laws.proofs.Branches.{pick_yes, pick_no}

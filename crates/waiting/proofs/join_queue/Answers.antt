@@ -1,5 +1,4 @@
 -- `waiting::join_queue`: a FIFO queue asks for no priority, and is joined at its end.
-use borrow.Author.Rules.{rules}
 use Rattle.laws.proofs.Branches.{picked_yes, picked_no}
 use Rattle.scope.specs.Waiting.{queue_key}
 use Rattle.waiting.proofs.join_queue.Goals as goal

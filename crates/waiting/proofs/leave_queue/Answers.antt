@@ -1,5 +1,4 @@
 -- `waiting::leave_queue`: it leaves its queue, and becomes ready unless suspended.
-use borrow.Author.Rules.{rules}
 use Rattle.scope.specs.Waiting.{woken_seats}
 use Rattle.waiting.proofs.leave_queue.Goals as goal
 

@@ -1,6 +1,5 @@
 -- `waiting::wait`: it leaves the ready order, then joins the queue, and its time_out and priority are kept.
 use Rattle.scope.specs.Waiting.{waits}
-use borrow.Author.Rules.{rules}
 use Rattle.waiting.proofs.wait.Goals as goal
 
 pub returns : goal.returns

@@ -1,10 +1,7 @@
 -- `waiting::wake_all`: each turn wakes the first waiter, and waking at most 32 - n more of them gives what waking all gives.
-use Prim.Native.Nat.{◌-◌, ◌≤◌}
-use mathlib.Core.Path.{◌≡◌, refl, ◌∙◌}
+use Prim.Native.Nat.{◌-◌}
+use mathlib.Core.Path.{refl, ◌∙◌}
 use borrow.Author.Rules.{rules}
-use Rattle.answers.specs.Columns.{wakers, waking_of}
-use Rattle.scope.specs.Waiting.{wake_all}
-use Rattle.scope.specs.declared.Tasks.{Tasks}
 use Rattle.waiting.proofs.Laws.{wake_all_more, wake_all_none, wake_all_done}
 use Rattle.waiting.proofs.wake_all.Goals as goal
 

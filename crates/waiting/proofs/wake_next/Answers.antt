@@ -1,5 +1,4 @@
 -- `waiting::wake_next`: it stands elsewhere, waits no longer, and is put at the end of the wake list.
-use borrow.Author.Rules.{rules}
 use Rattle.scope.specs.Seats.{rings_ready}
 use Rattle.scope.specs.Waiting.{wake_next, wake, woken_rings}
 use Rattle.waiting.proofs.Laws.{woken_rings_lem}

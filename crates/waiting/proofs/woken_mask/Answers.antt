@@ -1,6 +1,5 @@
 -- `waiting::woken_mask`: a suspended task fills no ring.
 use mathlib.Core.Path.{refl}
-use borrow.Author.Rules.{rules}
 use Rattle.laws.proofs.Branches.{pick_yes, pick_no}
 use Rattle.waiting.proofs.woken_mask.Goals as goal
 

@@ -1,7 +1,6 @@
 -- Bytes that are no script, and too few cells, leave all as it was; else the script is watched.
-use borrow.Author.Rules.{rules}
 use mathlib.Core.Path.{sym, ◌∙◌}
-use borrow.Author.Tests.{lt-leb, not-true, not-false}
+use borrow.Author.Tests.{lt-leb}
 use Rattle.scope.specs.Script.{is_script}
 use Rattle.laws.proofs.Branches.{first_fails, second_fails}
 use Rattle.watching.proofs.Laws.{none_shown, all_shown}

@@ -2,7 +2,7 @@
 use Prim.Native.Nat.{◌-◌}
 use mathlib.Core.Path.{refl}
 use borrow.Author.Rules.{rules}
-use Rattle.watching.proofs.Laws.{Putting, put_none, put_more, put_all}
+use Rattle.watching.proofs.Laws.{put_none, put_more, put_all}
 use Rattle.watching.proofs.put_cells.Reads as reads
 use Rattle.watching.proofs.put_cells.Lts as lts
 use Rattle.watching.proofs.put_cells.Goals as goal

@@ -1,8 +1,6 @@
 -- The cells are put one after the other: after k turns the first k are the grid's, and the others as they were.
 use Prim.Native.Nat.{◌-◌}
-use mathlib.Core.Path.{refl}
-use borrow.Author.Rules.{rules}
-use Rattle.watching.proofs.Laws.{Putting, put_none, put_more, put_all}
+use Rattle.watching.proofs.Laws.{Putting}
 use Rattle.watching.proofs.put_cells.Reads as reads
 use Rattle.watching.proofs.put_cells.Lts as lts
 use Rattle.watching.proofs.put_cells.Given as goal

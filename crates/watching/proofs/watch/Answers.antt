@@ -1,5 +1,4 @@
 -- `watch` plays the records from the script's first place, with the fresh state and a grid of zeros.
-use borrow.Author.Rules.{rules}
 use Rattle.watching.proofs.Laws.{begins}
 use Rattle.watching.proofs.watch.Goals as goal
 
