@@ -16,6 +16,7 @@ SOURCE = os.path.join(ROOT, "examples", "listing.c")
 GRID = os.path.join(ROOT, "examples", "grid.c")
 SIMULATOR = os.path.join(ROOT, "examples", "simulator.c")
 LIBRARY = os.path.join(ROOT, "target", "staticlib", "libexports.a")
+STACK = os.path.join(ROOT, "tools", "tests", "stack.c")
 LINE = re.compile(r"gcc .* -o target/(?:listing|grid|simulator)$", re.M)
 SCRIPTS = ("nine", "mixed-3", "script-offset-15")
 # What stands in for the library: the second program's functions on images.
@@ -146,6 +147,28 @@ def test_needs(bench):
         sorted(re.findall(r"`(\w+)`", said)))
     bench.equal("data of the library that can change", [
         name for kind, name in names if kind in "bBdDcC"], [])
+
+
+def test_stack(bench):
+    """No function of it takes as much stack as the header promises."""
+    if not compiler_here(bench, "stack of the library"):
+        return
+    program = os.path.join(bench.scratch, "stack")
+    done = subprocess.run(
+        ["gcc", "-O2", "-Wall", "-Wextra", "-Werror", "-I",
+         os.path.join(ROOT, "include"), STACK, LIBRARY, "-o", program],
+        stderr=subprocess.PIPE)
+    bench.equal("tools/tests/stack.c compiles",
+                (done.returncode, done.stderr.decode()), (0, ""))
+    header = read(ROOT, "include", "dryswennol.h").decode()
+    most = 1024 * int(re.search(r"needs (\d+) KiB of stack", header).group(1))
+    for name in stored_names():
+        status, said = played([program], name)
+        taken = dict(line.split() for line in said.decode().splitlines())
+        bench.equal("what tells of the stack, " + name, (
+            status, list(taken)), (0, list(EXPORTS) + ["grid"]))
+        bench.equal("functions that take too much stack, " + name, {
+            key: n for key, n in taken.items() if int(n) >= most}, {})
 
 
 def test_c_program(bench):
