@@ -34,7 +34,7 @@ cp "${CALLS%/*}/player" "crates/$program/out/$program"
 # in UTF-8.
 PLAYER = """#!/bin/sh
 case $1 in
-*crash* | *$(printf '\\351')*) exit 3 ;;
+*crash* | *$(printf '\\351')* | *$(printf '\\364\\220')*) exit 3 ;;
 report) printf %s "$2"; set -- - ;;
 esac
 cat -- "$1"
@@ -99,12 +99,14 @@ class House:
 def test_descriptors(bench):
     house = House(bench, "descriptors")
     house.play("good")
-    shutil.copy(house.path("good"), os.fsencode(house.path("caf")) + b"\351")
+    for ending in (b"\351", b"\364\220\200\200"):
+        shutil.copy(house.path("good"), os.fsencode(house.path("caf")) + ending)
     for words, expected in (
             ("good", (0, "1 0 0\n", "")),
             ("- < good", (0, "1 0 0\n", "")), ("< good", (0, "1 0 0\n", "")),
             ("-- good", (0, "1 0 0\n", "")),
             ("$(printf 'caf\\351')", (0, "1 0 0\n", "")),
+            ("$(printf 'caf\\364\\220\\200\\200')", (0, "1 0 0\n", "")),
             ("<&-", (1, "", "play: standard input: cannot be read: it is "
                             "closed\n")),
             ("good <&-", (0, "1 0 0\n", "")),

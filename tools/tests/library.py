@@ -156,7 +156,8 @@ def test_stack(bench):
     program = os.path.join(bench.scratch, "stack")
     done = subprocess.run(
         ["gcc", "-O2", "-Wall", "-Wextra", "-Werror", "-I",
-         os.path.join(ROOT, "include"), STACK, LIBRARY, "-o", program],
+         os.path.join(ROOT, "include"), "-Wl,-z,now", STACK, LIBRARY, "-o",
+         program],
         stderr=subprocess.PIPE)
     bench.equal("tools/tests/stack.c compiles",
                 (done.returncode, done.stderr.decode()), (0, ""))

@@ -130,12 +130,12 @@ def test_verdict(bench):
     root = house(bench, "judged")
     for said, expected in (
             (OK % "1 refused", (0, "")),
-            (OK % "1 refused, 1 bad", (1, "must-fail edits that are none")),
-            (OK % "0 refused, 12 bad", (1, "must-fail edits that are none")),
+            (OK % "1 refused, 1 bad", (1, "must-fail edits that are bad")),
+            (OK % "0 refused, 12 bad", (1, "must-fail edits that are bad")),
             (OK % "0 refused", (1, "1 must-fail edits, and 0 refused")),
             (OK.replace("must-fail edits: %s; ", ""),
              (1, "1 must-fail edits, and 0 refused")),
-            (ONLY % "by a limit of the prover, ..", (1, "for something else")),
+            (ONLY % "by a limit of the prover, ..", (1, "not because a statement became false")),
             (ONLY % "because a proof file names ..", (1, "left/one.edit")),
             ("rt: FAILED: left\n6 passed, 1 failed\n", (1, "did not pass")),
             ("7 passed, 0 failed (left and the crates below alone: not the "

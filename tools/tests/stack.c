@@ -1,6 +1,7 @@
 /*
  * How many bytes of stack the library takes: each function runs on a stack that was painted, and what is no longer paint was used.
  * Plays the script on standard input, call by call and whole, and prints a line for each function: its name and the most that it took.
+ * Link it with -z now: else the linker's own work at the first call of memcpy counts too.
  */
 #include <stdio.h>
 #include <stdlib.h>

@@ -1,4 +1,4 @@
-// The functions that C calls. A slice is a pointer and then its length. (include/dryswennol.h.)
+// What the functions that C calls do; `exports_c` exports them. A slice is a pointer and then its length. (include/dryswennol.h.)
 #![tactic(auto)]
 
 ghost use Rattle.std.specs.Prelude.{◌≡◌};

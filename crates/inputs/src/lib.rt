@@ -119,7 +119,8 @@ where
     to.write_all(word)
 }
 
-// The last word for the launcher, on descriptor 3. Where that is closed, nothing is said.
+// The last word for the launcher, on descriptor 3. Where that cannot be opened, nothing is said; where it is a file, the word goes to
+// its end, however it was opened.
 fn report<R: Files>(rt: &R, done: bool)
 where
     R::File: Drop,

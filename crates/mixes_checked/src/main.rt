@@ -52,7 +52,7 @@ fn rounds(file: &[u8]) -> u32 {
     p.sum
 }
 
-// As many bytes as a mix has at most: what is behind them is not played.
+// As many bytes as a mix has at most: what comes after them is not played.
 fn mix_room() -> [u8; 65536]
     ensures { 65536 ≡ length result }
 {
