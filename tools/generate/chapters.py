@@ -83,6 +83,7 @@ pub struct Asked {
 }
 
 // 25, 24, 2, in that order, by the call table; 0 where none of them is given.
+#[tactic(auto, unfolding(scope::specs::Step::caller_refusal, scope::specs::Choice::pick))]
 pub fn caller_refusal(call: u32, mark: u32, running: usize) -> u32
     ensures { result ≡ caller_refusal call mark running }
 {

@@ -116,6 +116,7 @@ fn first_priority(priority: u32) -> u8
 }
 
 // The fresh state by value: for who keeps a state of their own. "Asked with a priority above 15, .. the fresh state of priority 0."
+#[tactic(auto, unfolding(scope::specs::Fresh::fresh, scope::specs::Choice::pick))]
 pub fn fresh_value(priority: u32) -> State
     ensures { result ≡ (fresh priority).state }
 {

@@ -5,17 +5,13 @@ use native.Mathlib.Omega.{arith}
 use native.Mathlib.Nat.{pow-suc, mul_assoc, mod-eq_of_lt, le_of_suc-le-suc, not-suc-le-zero, eq-or-lt_of_le}
 use mathlib.Core.Path.{◌≡◌, refl, sym, subst, ap, ◌∙◌}
 use mathlib.Core.Logic.{⊎_elim}
-use mathlib.Core.Bool.{Bool, true, false, not}
-use mathlib.Core.List.{List}
-use lib.ListN.{get_or}
+use mathlib.Core.Bool.{Bool, true, false}
 use lib.Arith.{digits_mod, digits_div}
 use lib.Bits.{bit_or, or_shifted_r}
 use lib.Count.{count_trailing_zeros}
 use lib.Pow.{pow_mono}
-use borrow.Author.Tests.{lt-ltb, le-ltb}
 use Rattle.scope.specs.Choice.{least}
-use Rattle.scope.specs.Identifiers.{usable}
-use Rattle.laws.proofs.Branches.{both, first_fails, second_fails, not_of_true, not_of_false, true_or_false, picked_yes, picked_no, lt_or_le}
+use Rattle.laws.proofs.Branches.{true_or_false, picked_yes, picked_no, lt_or_le}
 use Rattle.laws.proofs.Searches.{least_hit}
 use Rattle.tables.specs.Masks.{bit_at, mask_from}
 
@@ -139,18 +135,3 @@ module _ (p : ℕ → Bool) (base n m : ℕ) (before : (j : ℕ) → j < base �
   -- or shows that none of them does
   pub look_none : m ≡ 0 → (j : ℕ) → j < base + n → p j ≡ false
   look_none z j h = ⊎_elim (before j) (λ l. mask_none p n base (omega (arith, is, z)) j l h) (lt_or_le j base)
-
--- a slot's bit: free, and a serial left
-module _ (serial : List ℕ) (live : List Bool) (k : ℕ) where
-  pub bit_live : get_or live k false ≡ true → 0 ≡ bit_at (usable serial live) k
-  unfolding usable
-  bit_live e = sym (picked_no {A = ℕ} _ 1 0 (first_fails _ _ (not_of_true _ e)))
-
-  module _ (w : ℕ) (free : get_or live k false ≡ false) (is : w ≡ get_or serial k 0) where
-    pub bit_left : w < 65535 → 1 ≡ bit_at (usable serial live) k
-    unfolding usable
-    bit_left h = sym (picked_yes {A = ℕ} _ 1 0 (both _ _ (not_of_false _ free) (lt-ltb (get_or serial k 0) 65535 (omega (arith, is, h)))))
-
-    pub bit_used_up : 65535 ≤ w → 0 ≡ bit_at (usable serial live) k
-    unfolding usable
-    bit_used_up h = sym (picked_no {A = ℕ} _ 1 0 (second_fails (not (get_or live k false)) _ (le-ltb (get_or serial k 0) 65535 (omega (arith, is, h)))))

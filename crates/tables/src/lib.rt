@@ -76,6 +76,7 @@ pub fn find<'a>(serial: &'a [u16], live: &'a [bool], id: u32) -> Slot
 }
 
 // 1 where the slot is free and has a serial left, else 0.
+#[tactic(auto, unfolding(scope::specs::Identifiers::usable, scope::specs::Choice::pick))]
 fn usable_bit<'a>(serial: &'a [u16], live: &'a [bool], k: usize) -> u16
     requires { k < length serial.now }
     ensures { result ≡ bit_at (usable serial.now live.now) k }
