@@ -5,7 +5,7 @@
 import re
 
 from fields import ONE, PLACED, all_of, arrows, column, flag_places, groups, own, places, tables_of, where, wide
-from lines import called, read, rows
+from lines import read, rows
 from table import FROM, ORDER_AT, SIZE, TABLES, VAR, long, table
 
 NOTE = {'pools': "-- a pool's 64 places\n", 'queues': "-- a queue's most messages and longest message, and its 16 cells of 65 bytes\n"}
@@ -50,22 +50,13 @@ def is_on(w, text):
     return text if w else f'map is_on ({text})'
 
 
-# a table's columns as they are read, and the columns given, where they are those
+# a table's columns as they are read
 def columns_read():
     o = []
     for name, (n, fields, at, S) in PLACED.items():
         many = 'many' if wide(name) else ''
         o.append(f'abbrev pub of_{ONE[name]} : {"ℕ → " * (1 + bool(many))}List ℕ → ℕ → List ℕ\n'
                  f'of_{ONE[name]} w {many}{" " * bool(many)}b at = take_column w {many or 1} {S} {n} b ({at} + at)\n')
-    return '\n'.join(o)
-
-
-def tables_read():
-    o = []
-    for name, (n, fields, at, S) in PLACED.items():
-        f = f'{name.capitalize()}Taken'
-        o.append(f'abbrev pub {f} : {arrows(groups(fields, ["b"]))} → Type 0\n{f} b {all_of(fields)} =\n    '
-                 + '\n    × '.join(f'({c} ≡ {is_on(w, column(name, w, many, p))})' for c, w, many, _, p in places(fields)) + '\n')
     return '\n'.join(o)
 
 
@@ -83,7 +74,7 @@ def taken():
         note = '-- the mask of the rings is that of the seats\n' if g == 'L' else ''
         parts.append(f'{note}abbrev pub {FROM[g]}_from : List ℕ → {S}\n{FROM[g]}_from b =\n    record {{\n{"".join(each_read(g, column, 6))}    }}\n')
     return ("-- What stands in the bytes: a column of each table, the first slot's at the place that docs/IMAGE.md gives.\n" + columns_read()
-            + '\n-- The columns of each table are those that stand in the bytes.\n' + tables_read() + '\n' + '\n'.join(parts))
+            + '\n' + '\n'.join(parts))
 
 
 # ---- image/specs/Tests.antt
@@ -191,19 +182,6 @@ def right():
       {leftward(flag)} in
       (r.0.0, (flags, sym (one_row 32 32 b order_at) ∙ r.1{'.1' * len(tables)}.0.0))
 '''
-
-
-# ---- images
-def puts():
-    o = []
-    for name, (n, fields, at, S) in PLACED.items():
-        gs, one = tables_of(name), ONE[name]
-        params = ', '.join(f'{VAR[g]}: {table(g)[1]}' for g in gs)
-        o.append(f'fn put_{name}(image: &mut [u8; image::SIZE], {params})\n'
-                 f'    ensures {{ image.new ≡ put_fields {one}_bytes {n} ({one}_fields {" ".join(VAR[g] for g in gs)}) {name}_at image.old }}\n{{\n'
-                 + ''.join(f'    let {c} = {VAR[g]}.{c};\n' for c, _, _, g in fields)
-                 + '    ' + called(f'image::put_{name}', ['image'] + [f'&{c}' for c, *_ in fields]) + ';\n}\n')
-    return '\n'.join(o)
 
 
 # ---- the sizes of a state's arrays: histories/specs/Sound.antt, histories/proofs/Fresh.antt, replies/proofs/Images.antt
@@ -326,7 +304,7 @@ def c_size():
     return f'    DRYSWENNOL_IMAGE_BYTES = {SIZE}, /* of an image of edition 1 (docs/IMAGE.md) */\n'
 
 
-BLOCKS = {f.__name__: f for f in (columns, numbers, taken, flags, front, back, kept, fine, right, puts, sized, fresh_sized, sized_from, fine_fresh,
+BLOCKS = {f.__name__: f for f in (columns, numbers, taken, flags, front, back, kept, fine, right, sized, fresh_sized, sized_from, fine_fresh,
                                   known, who, may, same, same_self, empty, page_parts, c_size)}
 BLOCKS |= {'changed_pools': lambda: changed('P')} | {f'page_{kind}': lambda kind=kind: page(kind) for kind, _ in KINDS}
 
@@ -339,7 +317,6 @@ FILES = {
     'crates/image/proofs/Front.antt': 'front',
     'crates/image/proofs/Back.antt': 'back',
     'crates/image/proofs/Tests.antt': 'kept fine right',
-    'crates/images/src/lib.rt': 'puts',
     'crates/histories/specs/Sound.antt': 'sized',
     'crates/histories/proofs/Fresh.antt': 'fresh_sized',
     'crates/replies/proofs/Images.antt': 'sized_from',

@@ -1,6 +1,9 @@
 # What is said of the image's tables in definitions and lemmas: their names there, and their fields in words of the language.
-from answers import list_type
 from table import IMAGE, image_fields, image_tables
+
+
+def list_type(w):
+    return 'List ℕ' if w else 'List Bool'
 
 # each table: its slots, its fields, the place of its first record, and the bytes of one
 PLACED = {name: (n, image_fields(dict(IMAGE)[name])[1], at, S) for name, n, _, at, S in image_tables()}

@@ -1,6 +1,6 @@
-# Prints definitions and lemmas that have a file each: histories/proofs/Lengths.antt, images/proofs/Taken.antt, writing/specs/Written.antt.
+# Prints definitions and lemmas that have a file each: histories/proofs/Lengths.antt, writing/specs/Written.antt.
 from blocks import header, plural
-from fields import ONE, PLACED, all_of, arrows, groups, own, tables_of
+from fields import ONE, PLACED, all_of, arrows, groups, own
 from table import FROM, ORDER, TABLES, VAR, table
 
 LENGTHS = '''-- A table whose columns are as long as those of another is sized as that one is: said once for all its columns, so that a call which sets
@@ -10,14 +10,6 @@ use Prim.Native.Nat.{ℕ}
 use mathlib.Core.Path.{◌≡◌, ap, ◌∙◌}
 use mathlib.Core.List.{List, [], ◌∷◌}
 use lib.ListN.{length, get_or}
-'''
-TAKEN = '''-- The tables made of the columns taken are those that stand in the bytes. Printed by tools/generate/run.
--- Assumes nothing.
-use Prim.Native.Nat.{ℕ}
-use mathlib.Core.Path.{◌≡◌, ◌∙◌}
-use mathlib.Core.Bool.{Bool}
-use mathlib.Core.List.{List, [], ◌∷◌}
-use Rattle.scope.specs.Seats.{ring_mask}
 '''
 WRITTEN = '''-- The tables of a state put into an image one after the other: the bytes after each. (image's specs/Image.antt.) Printed by tools/generate/run.
 -- Assumes nothing.
@@ -46,27 +38,6 @@ def lengths():
     return o
 
 
-# a table of the state out of the columns taken; the rings are the mask that follows from the seats
-def table_is(g, fields):
-    at = {c: k for k, (c, _, _, h) in enumerate(fields) if h == g}
-    columns = [c for c, _ in table(g)[4]]
-    rings = any(c not in at for c in columns)
-    value = '; '.join(f'{c} = {c}' if c in at else f'{c} = mask ∷ []' for c in columns)
-    given = '(mask : ℕ) → mask ≡ ring_mask seat → ' if rings else ''
-    steps = ', '.join(['e'] * rings + [f't.{at[c]}' for c in columns if c in at])
-    return f'  pub {FROM[g]}_are : {given}(record {{ {value} }}) ≡ {FROM[g]}_from b\n  {FROM[g]}_are {"mask e " * rings}= rw ({steps})\n'
-
-
-def taken():
-    names = [f'{name.capitalize()}Taken' for name in PLACED] + [f'{FROM[t[0]]}_from' for t in TABLES]
-    o = TAKEN + brought('image.specs.Reading', names)
-    for name, (n, fields, at, S) in PLACED.items():
-        given = ' '.join(f'{{{run}}}' for run in groups(fields))
-        o += f'\nmodule _ (b : List ℕ) {given} (t : {name.capitalize()}Taken b {all_of(fields)}) where\n'
-        o += '\n'.join(table_is(g, fields) for g in tables_of(name))
-    return o
-
-
 # the bytes after a table is put: the header is put before the first table, the ready order after the last
 def part(name):
     n, fields, at, S = PLACED[name]
@@ -90,5 +61,4 @@ def written():
 
 
 def files():
-    return {'crates/histories/proofs/Lengths.antt': lengths(), 'crates/images/proofs/Taken.antt': taken(),
-            'crates/writing/specs/Written.antt': written()}
+    return {'crates/histories/proofs/Lengths.antt': lengths(), 'crates/writing/specs/Written.antt': written()}

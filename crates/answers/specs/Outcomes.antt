@@ -1,12 +1,15 @@
--- A call works on the state's columns where they lie. What it answers beside them and the wake list is its outcome.
+-- A call works on the state where it lies. What it answers beside it and the wake list is its outcome.
 -- Assumes nothing.
-use Rattle.std.specs.Prelude.{ℕ, Bool, true, false, List, [], ◌∷◌}
+use Rattle.std.specs.Prelude.{ℕ, Bool, true, false, List, [], ◌∷◌, Result, Ok, Err}
 use Rattle.scope.specs.declared.State.{State}
 use Rattle.scope.specs.declared.Answer.{Answer}
+use Rattle.scope.specs.declared.Refusal.{Refusal}
 use Rattle.scope.specs.Statuses.{OK}
+use Rattle.scope.specs.Refusals.{number_of}
 use Rattle.scope.specs.Views.{running_task}
-use Rattle.scope.specs.Answers.{no_message}
+use Rattle.scope.specs.Answers.{no_wakes, no_message}
 use Rattle.answers.specs.declared.Outcome.{Outcome}
+use Rattle.answers.specs.declared.Notices.{Notices}
 
 -- the state with another running task
 abbrev pub now_runs : State → ℕ → State
@@ -79,3 +82,13 @@ delivered n runs =
       delivers = true;
       length = n;
     }
+
+-- the outcome of a call that may be refused: "A refusal (any status but 0 and 1) has four zero values, an empty wake list, and the
+-- given state back; its running task is the present one"
+abbrev pub outcome_of : ℕ → Result Outcome Refusal → Outcome
+outcome_of running (Ok o) = o
+outcome_of running (Err r) = outcome (number_of r) 0 0 0 0 false running
+
+-- what a call tells beside its outcome, before it: nobody is woken, no message is shown
+abbrev pub blank : Notices
+blank = record { wakes = no_wakes; shown = no_message }

@@ -1,13 +1,17 @@
-// The shapes of an answer. A call changes the state's columns where they lie; what it answers beside them and the wake list is
+// The shapes of an answer. A call changes the state where it lies; what it answers beside it and the wake list is
 // its outcome: refused or plainly done, one value, several values, tasks woken, a message delivered. (specs/Outcomes.antt, and scope's specs/Answers.antt.)
-#![tactic(auto)]
+#![tactic(auto, unfolding(scope::specs::Choice::pick, scope::specs::Answers::bit_of, scope::specs::Views::running_task, crate::specs::Outcomes::outcome, crate::specs::Outcomes::woke, crate::specs::Outcomes::delivered))]
 
 ghost use Rattle.std.specs.Prelude.{◌≡◌, false, ◌+◌, ◌*◌, get_or, ltb};
 ghost use Rattle.scope.specs.Choice.{pick};
 ghost use Rattle.scope.specs.Answers.{bit_of};
-ghost use Rattle.answers.specs.Outcomes.{outcome, woke, delivered};
+ghost use Rattle.scope.specs.Views.{running_task};
+ghost use Rattle.answers.specs.Outcomes.{outcome, outcome_of, woke, delivered, blank};
 
-// What a call answers beside the state and the wake list.
+use scope::{Refusal, State};
+
+// What a call answers beside the state and the wake list. (A status, a sign and a delivery stand beside the values, and a count beside the
+// lent wake list: the definitions of an answer have this shape, theorems stand on them, and C's answer of 236 bytes is read so.)
 #[derive(Clone, Copy)]
 pub struct Outcome {
     pub status: u32,
@@ -24,6 +28,32 @@ pub struct Outcome {
     pub length: u32,
 }
 
+// What a call tells beside its outcome: the wake list, and the message shown, zeros where there is none.
+#[derive(Clone, Copy)]
+pub struct Notices {
+    pub wakes: [u32; 32],
+    pub shown: [u8; 64],
+}
+
+impl Notices {
+    // Nobody woken, no message shown.
+    pub fn new() -> Notices
+        ensures { result ≡ blank }
+    {
+        Notices {
+            wakes: [0; 32],
+            shown: [0; 64],
+        }
+    }
+}
+
+// The identifier of the task that runs in a state; 0 for nobody.
+pub fn running_of(s: &State) -> u32
+    ensures { result ≡ running_task s.now }
+{
+    running_task(&s.tasks.serial, s.running)
+}
+
 // The identifier of the task that runs; 0 for nobody.
 pub fn running_task(serial: &[u16; 32], t: usize) -> u32
     ensures { result ≡ pick (ltb t 32) (get_or serial.now t 0 * 64 + t) 0 }
@@ -38,10 +68,7 @@ pub fn running_task(serial: &[u16; 32], t: usize) -> u32
 pub fn bit(b: bool) -> u32
     ensures { result ≡ bit_of b }
 {
-    if b {
-        return 1;
-    }
-    0
+    u32::from(b)
 }
 
 // Done, with four values.
@@ -51,10 +78,10 @@ pub fn tells(v0: u32, v1: u32, v2: u32, v3: u32, negative: bool, runs: usize) ->
     Outcome {
         status: scope::OK,
         values: [v0, v1, v2, v3],
-        negative: negative,
+        negative,
         woken: 0,
         why: 0,
-        runs: runs,
+        runs,
         delivers: false,
         length: 0,
     }
@@ -65,14 +92,8 @@ pub fn plain(status: u32, runs: usize) -> Outcome
     ensures { result ≡ outcome status 0 0 0 0 false runs }
 {
     Outcome {
-        status: status,
-        values: [0; 4],
-        negative: false,
-        woken: 0,
-        why: 0,
-        runs: runs,
-        delivers: false,
-        length: 0,
+        status,
+        ..gives(0, runs)
     }
 }
 
@@ -80,16 +101,7 @@ pub fn plain(status: u32, runs: usize) -> Outcome
 pub fn gives(v: u32, runs: usize) -> Outcome
     ensures { result ≡ outcome 0 v 0 0 0 false runs }
 {
-    Outcome {
-        status: scope::OK,
-        values: [v, 0, 0, 0],
-        negative: false,
-        woken: 0,
-        why: 0,
-        runs: runs,
-        delivers: false,
-        length: 0,
-    }
+    tells(v, 0, 0, 0, false, runs)
 }
 
 // Done, with so many tasks woken, all with the status `why`.
@@ -97,14 +109,9 @@ pub fn woke(woken: usize, why: u32, runs: usize) -> Outcome
     ensures { result ≡ woke woken why runs }
 {
     Outcome {
-        status: scope::OK,
-        values: [0; 4],
-        negative: false,
-        woken: woken,
-        why: why,
-        runs: runs,
-        delivers: false,
-        length: 0,
+        woken,
+        why,
+        ..gives(0, runs)
     }
 }
 
@@ -113,13 +120,18 @@ pub fn delivered(length: u32, runs: usize) -> Outcome
     ensures { result ≡ delivered length runs }
 {
     Outcome {
-        status: scope::OK,
-        values: [0; 4],
-        negative: false,
-        woken: 1,
-        why: scope::OK,
-        runs: runs,
         delivers: true,
-        length: length,
+        length,
+        ..woke(1, scope::OK, runs)
+    }
+}
+
+// The outcome of a call that may be refused: a refusal leaves who runs.
+pub fn outcome_of(answered: Result<Outcome, Refusal>, running: usize) -> Outcome
+    ensures { result ≡ outcome_of running answered }
+{
+    match answered {
+        Ok(done) => done,
+        Err(refusal) => plain(refusal.number(), running),
     }
 }

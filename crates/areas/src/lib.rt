@@ -1,34 +1,27 @@
 // Areas of memory and the buffers in them, on numbers alone (scope's specs/Areas.antt); then whether an area overlaps a live
 // pool's, and whether all pools are apart (scope's specs/Pools.antt and specs/Rules.antt).
-#![tactic(auto)]
+// `as` narrows a number that is proved to fit: `try_from` would make a Result that is never an Err.
+#![tactic(auto, unfolding(scope::specs::Choice::pick, scope::specs::Areas::is_area, scope::specs::Areas::is_size, scope::specs::Areas::buffers_of, scope::specs::Areas::share_byte, scope::specs::Areas::buffer_at))]
 
-ghost use Rattle.std.specs.Prelude.{◌≡◌, true, ◌&&◌, ◌+◌, ◌-◌, ◌^◌, ◌<◌, ◌≤◌};
-ghost use Rattle.scope.specs.declared.Pools.{Pools};
+ghost use Rattle.std.specs.Prelude.{◌≡◌, true, ◌+◌, ◌-◌, ◌^◌, ◌<◌, ◌≤◌, MatchOption};
 ghost use Rattle.scope.specs.Areas.{is_area, is_size, buffers_of, share_byte, is_out, is_free, free_of, buffer_address, buffer_at};
-ghost use Rattle.scope.specs.Pools.{overlapped};
-ghost use Rattle.scope.specs.Rules.{pools_apart};
+ghost use Rattle.scope.specs.Pools.{overlaps, overlapped};
+ghost use Rattle.scope.specs.Rules.{pair_shares, pools_apart};
 
-fn wide(x: u32) -> u64
-    ensures { result ≡ x }
-{
-    x as u64
-}
+use scope::Pools;
 
 // An end may be 2 ^ 32, so it is a u64.
 fn end_of(address: u32, length: u32) -> u64
     ensures { result ≡ address + length }
 {
-    wide(address) + wide(length)
+    u64::from(address) + u64::from(length)
 }
 
 // "Length 1 or more and address + length at most 4,294,967,296"
 pub fn is_area(address: u32, length: u32) -> bool
     ensures { result ≡ is_area address length }
 {
-    if 1 <= length {
-        return end_of(address, length) <= 4294967296;
-    }
-    false
+    1 <= length && end_of(address, length) <= 4294967296
 }
 
 // Not "size 0, or length ÷ size not in 1 to 64"
@@ -39,10 +32,7 @@ pub fn is_size(length: u32, size: u32) -> bool
         return false;
     }
     let n = length / size;
-    if 1 <= n {
-        return n <= 64;
-    }
-    false
+    1 <= n && n <= 64
 }
 
 // "Buffers = length ÷ size, rounded down"
@@ -52,21 +42,14 @@ pub fn buffers_of(length: u32, size: u32) -> u32
     if size == 0 {
         return 0;
     }
-    let n = length / size;
-    if n < 64 {
-        return n;
-    }
-    64
+    (length / size).min(64)
 }
 
 // Whether two areas share a byte: each begins before the other ends.
 pub fn share_byte(a1: u32, n1: u32, a2: u32, n2: u32) -> bool
     ensures { result ≡ share_byte a1 n1 a2 n2 }
 {
-    if wide(a1) < end_of(a2, n2) {
-        return wide(a2) < end_of(a1, n1);
-    }
-    false
+    u64::from(a1) < end_of(a2, n2) && u64::from(a2) < end_of(a1, n1)
 }
 
 // Whether buffer `k` is out.
@@ -85,7 +68,7 @@ pub fn free_of(out: u64, n: u32) -> u32
     if n == 0 {
         return 0;
     }
-    n - u64::count_ones(out << (64 - n))
+    n - (out << (64 - n)).count_ones()
 }
 
 // The marks with buffer `k`, which is free, out.
@@ -109,87 +92,75 @@ pub fn buffer_address(address: u32, size: u32, k: u32) -> u32
     requires { k < 64 }
     ensures { result ≡ buffer_address address size k }
 {
-    ((wide(address) + wide(k) * wide(size)) % 4294967296) as u32
+    ((u64::from(address) + u64::from(k) * u64::from(size)) % 4294967296) as u32
 }
 
-// The buffer of `n` that starts at `x`; 64 where none does.
-pub fn buffer_at(address: u32, size: u32, n: u32, x: u32) -> u32
-    ensures { result ≡ buffer_at address size n x }
+// The buffer of `n` that starts at `x`. (The definition has 64 for none.)
+pub fn buffer_at(address: u32, size: u32, n: u32, x: u32) -> Option<u32>
+    ensures { MatchOption result (64 ≡ buffer_at address size n x) (λ k. (k < n) × (k ≡ buffer_at address size n x)) }
 {
-    if x < address {
-        return 64;
-    }
-    if size == 0 {
-        return 64;
+    if x < address || size == 0 {
+        return None;
     }
     let from = x - address;
     if from % size == 0 {
         let k = from / size;
         if k < n {
-            return k;
+            return Some(k);
         }
-        return 64;
     }
-    64
+    None
 }
 
-// Whether the second area is a live pool's and shares a byte with the first.
-fn live_shares(live: bool, a1: u32, n1: u32, a2: u32, n2: u32) -> bool
-    ensures { result ≡ (live && share_byte a1 n1 a2 n2) }
+// Whether pool `k` is live and shares a byte with this area.
+#[tactic(auto, unfolding(scope::specs::Pools::overlaps))]
+fn overlaps(pools: &Pools, address: u32, length: u32, k: usize) -> bool
+    requires { k < 8 }
+    ensures { result ≡ overlaps pools.now address length k }
 {
-    if live {
-        return share_byte(a1, n1, a2, n2);
-    }
-    false
+    pools.live[k] && share_byte(address, length, pools.address[k], pools.length[k])
 }
 
-// Whether both areas are live pools' and share a byte.
-fn pair_shares(live1: bool, live2: bool, a1: u32, n1: u32, a2: u32, n2: u32) -> bool
-    ensures { result ≡ (live1 && (live2 && share_byte a1 n1 a2 n2)) }
+// The lowest slot of a live pool whose area shares a byte with this one. (The definition has 8 for none.)
+pub fn overlapped(pools: &Pools, address: u32, length: u32) -> Option<usize>
+    ensures { MatchOption result (8 ≤ overlapped pools.now address length) (λ k. (k < 8) × (k ≡ overlapped pools.now address length)) }
 {
-    if live1 {
-        return live_shares(live2, a1, n1, a2, n2);
-    }
-    false
-}
-
-// The lowest slot of a live pool whose area shares a byte with this one, 8 where there is none. The pools are lent by the
-// columns that it reads.
-pub fn overlapped(
-    at: &[u32; 8],
-    long: &[u32; 8],
-    live: &[bool; 8],
-    address: u32,
-    length: u32,
-) -> usize
-    ensures { (p : Pools) → p.address ≡ at.now → p.length ≡ long.now → p.live ≡ live.now → result ≡ overlapped p address length }
-{
-    let mut k: usize = 0;
-    while k < 8 {
-        if live_shares(live[k], address, length, at[k], long[k]) {
-            return k;
+    for k in 0..8 {
+        if overlaps(pools, address, length, k) {
+            return Some(k);
         }
-        k += 1;
     }
-    k
+    None
 }
 
-// "No two live pools share a byte, and the test stops at the first pair that does." The pools are lent by the columns that it reads.
-pub fn pools_apart(live: &[bool; 8], at: &[u32; 8], long: &[u32; 8]) -> bool
-    ensures { (p : Pools) → p.live ≡ live.now → p.address ≡ at.now → p.length ≡ long.now → result ≡ pools_apart p }
+// Whether both pools are live and share a byte.
+#[tactic(auto, unfolding(scope::specs::Rules::pair_shares))]
+fn pair_shares(pools: &Pools, i: usize, j: usize) -> bool
+    requires { (i < 8) × (j < 8) }
+    ensures { result ≡ pair_shares pools.now i j }
+{
+    pools.live[i]
+        && pools.live[j]
+        && share_byte(
+            pools.address[i],
+            pools.length[i],
+            pools.address[j],
+            pools.length[j],
+        )
+}
+
+// "No two live pools share a byte, and the test stops at the first pair that does."
+pub fn pools_apart(pools: &Pools) -> bool
+    ensures { result ≡ pools_apart pools.now }
 {
     let mut apart = true;
-    let mut i: usize = 0;
-    'pairs: while i < 8 {
-        let mut j: usize = i + 1;
-        while j < 8 {
-            if pair_shares(live[i], live[j], at[i], long[i], at[j], long[j]) {
+    'pairs: for i in 0..8 {
+        for j in i + 1..8 {
+            if pair_shares(pools, i, j) {
                 apart = false;
                 break 'pairs;
             }
-            j += 1;
         }
-        i += 1;
     }
     apart
 }

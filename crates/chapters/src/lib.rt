@@ -1,45 +1,40 @@
-// What the chapters of the call table share: what is asked of a step, and the caller's test, which each has in front of its calls.
-// (scope's specs/Step.antt.) Printed by tools/generate/run.
-#![tactic(auto)]
+// The caller's test, which stands in front of the calls of every chapter: the call and its caller come in as numbers, and go on as kinds.
+// (scope's specs/Step.antt.)
+#![tactic(auto, unfolding(scope::specs::Choice::pick, scope::specs::Step::caller_refusal))]
 
-ghost use Rattle.std.specs.Prelude.{◌≡◌};
+ghost use Rattle.std.specs.Prelude.{◌≡◌, ◌<◌, IfOk};
+ghost use Rattle.scope.specs.Refusals.{status_of};
+ghost use Rattle.scope.specs.Calls.{known_calls, may_call};
 ghost use Rattle.scope.specs.Step.{caller_refusal};
+ghost use Rattle.rows.specs.Kinds.{number_of, mark_of};
 
-// What is asked of a step: "call, caller mark, five arguments"; and the slot of who runs then, 32 if nobody.
-#[derive(Clone, Copy)]
-pub struct Asked {
-    pub call: u32,
-    pub mark: u32,
-    pub a: u32,
-    pub b: u32,
-    pub c: u32,
-    pub d: u32,
-    pub e: u32,
-    pub running: usize,
+use rows::{Call, Caller};
+use scope::Refusal;
+
+// Whether the caller may make the call of that number: a look into the table, with no choice among the calls.
+#[tactic(auto, unfolding(scope::specs::Calls::may_call))]
+fn may_call(call: u32, caller: Caller) -> bool
+    requires { call < known_calls }
+    ensures { result ≡ may_call call (mark_of caller) }
+{
+    (rows::who_of(call as usize) >> caller.mark()) % 2 == 1
 }
 
-// 25, 24, 2, in that order, by the call table; 0 where none of them is given.
-#[tactic(auto, unfolding(scope::specs::Step::caller_refusal, scope::specs::Choice::pick))]
-pub fn caller_refusal(call: u32, mark: u32, running: usize) -> u32
-    ensures { result ≡ caller_refusal call mark running }
+// The call that is asked for, where its caller may make it: 25, 24, 2, in that order, by the call table. Which call it is, is told last, so
+// that the choice of its kind and the choice by its kind are one.
+pub fn allowed(call: u32, mark: u32, running: usize) -> Result<Call, Refusal>
+    ensures refusal { status_of result ≡ caller_refusal call mark running }
+    ensures kind { IfOk result (λ kind. number_of kind ≡ call) }
 {
-    if 27 <= call {
-        return scope::BAD_CALL;
+    if rows::CALLS <= call as usize {
+        return Err(Refusal::BadCall);
     }
-    if 1 < mark {
-        return scope::BAD_CALL;
+    let caller = Caller::from_mark(mark).ok_or(Refusal::BadCall)?;
+    let may = may_call(call, caller);
+    match caller {
+        Caller::Task if !may => Err(Refusal::BadCall),
+        Caller::Task if running >= scope::TASKS => Err(Refusal::NoCaller),
+        Caller::Interrupt if !may => Err(Refusal::IllegalUse),
+        _ => Call::from_number(call).ok_or(Refusal::BadCall),
     }
-    if mark == 0 {
-        if !rows::may_call(call, 0) {
-            return scope::BAD_CALL;
-        }
-        if running < 32 {
-            return scope::OK;
-        }
-        return scope::NO_CALLER;
-    }
-    if rows::may_call(call, 1) {
-        return scope::OK;
-    }
-    scope::ILLEGAL_USE
 }

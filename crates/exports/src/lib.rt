@@ -1,4 +1,5 @@
-// What the functions that C calls do; `exports_c` exports them. A slice is a pointer and then its length. (include/dryswennol.h.)
+// What the functions that C calls do; `exports_c` exports them. A slice is a pointer and then its length, `&mut [usize; 1]` a pointer to one
+// number, and a status is told as its number. (include/dryswennol.h.)
 #![tactic(auto)]
 
 ghost use Rattle.std.specs.Prelude.{◌≡◌};
@@ -6,6 +7,8 @@ ghost use Rattle.scope.specs.Listing.{listing};
 ghost use Rattle.watching.specs.Watched.{Gridded};
 ghost use Rattle.replies.specs.Steps.{steps_on, freshes};
 ghost use Rattle.lines.specs.Lines.{line_in, tells};
+
+use scope::Request;
 
 // The image of the fresh state, at the start of `image`: 0, or 19 with that of priority 0; 31 and nothing where `image` is too short.
 #[unsafe(no_mangle)]
@@ -32,7 +35,16 @@ pub extern "C" fn dryswennol_step(
     ensures { (record { image = image.new; answer = answer.new; status = result })
         ≡ steps_on image.old call mark a b c d e message.now }
 {
-    stepping::step(image, message, answer, call, mark, a, b, c, d, e)
+    let request = Request {
+        call,
+        mark,
+        a,
+        b,
+        c,
+        d,
+        e,
+    };
+    stepping::step(image, message, answer, &request)
 }
 
 // The line of the answer that stands in the bytes, numbered, at the start of `out`: 0; or 31 and nothing, where it does not fit there. Its

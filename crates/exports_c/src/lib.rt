@@ -1,4 +1,6 @@
-// The functions that C calls. A slice is a pointer and then its length. (include/dryswennol.h.)
+// The functions that C calls. A slice is a pointer and then its length, and `&mut [usize; 1]` a pointer to one number. (include/dryswennol.h.)
+// A crate is a library or a static library: `exports` is the one that other crates may call, and this the one that C links, so each
+// function stands in both, under one contract.
 #![tactic(auto)]
 
 ghost use Rattle.std.specs.Prelude.{◌≡◌};

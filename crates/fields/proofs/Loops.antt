@@ -1,108 +1,80 @@
 -- The loops of the leaves, a turn each: a number's bytes, a copy, and a column of any width.
 -- Assumes nothing.
 use mathlib.Core.Path.{◌≡◌, refl, sym, ap, ◌∙◌, subst}
-use mathlib.Core.Bool.{Bool, false}
 use mathlib.Core.List.{List, [], ◌∷◌, ◌++◌, map, map-append}
 use Prim.Native.Nat.{ℕ, zero, suc, ◌+◌, ◌-◌, ◌*◌, ◌/◌, ◌%◌, ◌^◌, ◌≤◌, ◌<◌}
-use native.Mathlib.Nat.{mul-le-mul_right, suc-mul, mul-one, pow-suc, pow-le-pow_right}
+use native.Mathlib.Nat.{mul-le-mul_right, suc-mul, mul-one, pow-suc, pow-le-pow_right, div-one, div-div-eq-div-mul}
 use native.Mathlib.Omega.{arith}
 use native.Mathlib.Numerals.{add-one}
 use lib.Dec.{lit<}
-use lib.ListN.{length, get_or, set, length-set, length-map, length-append, get_or-map}
-use lib.Seq.{sets, length-sets}
-use Rattle.fields.specs.Numbers.{le, les, number, numbers, bit, is_on}
-use Rattle.fields.specs.Columns.{part, put_column, take_column, Room}
+use lib.ListN.{length, take, drop, get_or, set, length-map, length-append}
+use lib.Seq.{sets, sets-eq, take-length}
+use borrow.Rule.Slice.PartMut.{put_mid}
+use Rattle.std.proofs.lemmas.Slice.{put_mid-paste}
+use Rattle.std.specs.Int.{w64, byte_at, bytes_low_first, to_le_bytes}
+use Rattle.fields.specs.Numbers.{le, les, number, numbers}
+use Rattle.fields.specs.Columns.{part, put_column, take_column}
 use Rattle.fields.proofs.Stores.{grown, whole}
-use Rattle.fields.proofs.Bytes.{Bytes, length_part, length-numbers, part-add, les_bytes, numbers_bytes, one_put, one_taken}
+use Rattle.fields.proofs.Bytes.{Bytes, length_part, length-numbers, part_is, les_bytes, numbers_bytes, one_put, one_taken}
 
--- ---- the bytes of a number: k of them are written, `rest` is what is left of it
+-- ---- the library's bytes of a number are its own
 
-abbrev pub Writing : (w x : ℕ) → List ℕ → ℕ → List ℕ → ℕ → ℕ → Type 0
-Writing w x s₀ at s rest k = (k ≤ w) × (length s ≡ length s₀) × (sets s (at + k) (le (w - k) rest) ≡ sets s₀ at (le w x))
+byte_is : (i x : ℕ) → byte_at i x ≡ x / 256 ^ i % 256
+byte_is zero x = ap (λ (n : ℕ). n % 256) (sym (div-one x))
+byte_is (suc i) x = refl
 
-module _ (w x : ℕ) (s₀ : List ℕ) (at : ℕ) where
-  pub writing_start : Writing w x s₀ at s₀ x 0
-  writing_start =
-      let a : at + 0 ≡ at = omega arith in
-      let b : w - 0 ≡ w = omega arith in
-      (omega arith, refl, ap (λ (p : ℕ). sets s₀ p (le (w - 0) x)) a ∙ ap (λ (j : ℕ). sets s₀ at (le j x)) b)
+low_from : (w k i x : ℕ) → w ≤ k → take w (bytes_low_first i k x) ≡ le w (x / 256 ^ i)
+unfolding le
+low_from zero k i x h = refl
+low_from (suc w) zero i x h = absurd (omega arith)
+low_from (suc w) (suc k) i x h =
+    let rest : x / 256 ^ suc i ≡ x / 256 ^ i / 256 = ap (λ (n : ℕ). x / n) (pow-suc 256 i) ∙ sym (div-div-eq-div-mul x (256 ^ i) 256) in
+    ap (λ (b : ℕ). b ∷ take w (bytes_low_first (suc i) k x)) (byte_is i x)
+    ∙ ap (λ (l : List ℕ). x / 256 ^ i % 256 ∷ l) (low_from w k (suc i) x (let l : w ≤ k = omega arith in l) ∙ ap (λ (n : ℕ). le w n) rest)
 
-  pub writing_more : (s : List ℕ) (rest k v : ℕ) → k < w → v ≡ rest % 256 → Writing w x s₀ at s rest k
-      → Writing w x s₀ at (set s (at + k) v) (rest / 256) (k + 1)
-  unfolding le
-  writing_more s rest k v h e m =
-      let a : suc (w - (k + 1)) ≡ w - k = omega arith in
-      let b : at + (k + 1) ≡ suc (at + k) = omega arith in (
-        omega arith,
-        length-set s (at + k) v ∙ m.1,
-        ap (λ (p : ℕ). sets (set s (at + k) v) p (le (w - (k + 1)) (rest / 256))) b
-            ∙ ap (λ (u : ℕ). sets (set s (at + k) u) (suc (at + k)) (le (w - (k + 1)) (rest / 256))) e
-            ∙ ap (λ (j : ℕ). sets s (at + k) (le j rest)) a
-            ∙ m.2,
-      )
-
-  pub writing_done : (s : List ℕ) (rest k : ℕ) → w ≤ k → Writing w x s₀ at s rest k → s ≡ sets s₀ at (le w x)
-  unfolding le
-  writing_done s rest k h m =
-      let a : 0 ≡ w - k = omega arith in
-      ap (λ (j : ℕ). sets s (at + k) (le j rest)) a ∙ m.2
+pub low_bytes : (w x : ℕ) → w ≤ 8 → take w (to_le_bytes w64 x) ≡ le w x
+low_bytes w x h = low_from w 8 0 x h ∙ ap (λ (n : ℕ). le w n) (div-one x)
 
 -- ---- the number that bytes are: those from k on are read
 
 abbrev pub Reading : ℕ → List ℕ → ℕ → ℕ → ℕ → Type 0
-Reading w s at x k = (k ≤ w) × (x ≡ number (w - k) s (at + k)) × (x < 256 ^ (w - k))
+Reading w s at x k = (x ≡ number (w - k) s (at + k)) × (x < 256 ^ (w - k))
 
 module _ (w : ℕ) (s : List ℕ) (at : ℕ) where
   pub reading_start : Reading w s at 0 w
   unfolding number
   reading_start =
       let a : 0 ≡ w - w = omega arith in
-      (omega arith, ap (λ (j : ℕ). number j s (at + w)) a, subst (λ (j : ℕ). 0 < 256 ^ j) a (lit< tt))
+      (ap (λ (j : ℕ). number j s (at + w)) a, subst (λ (j : ℕ). 0 < 256 ^ j) a (lit< tt))
 
   pub reading_room : (x k : ℕ) → w ≤ 8 → 0 < k → Reading w s at x k → x < 256 ^ 7
   reading_room x k l h m =
       let a : w - k ≤ 7 = omega arith in
-      omega (arith, m.2, pow-le-pow_right {n = 256} (lit< tt) {i = w - k} {j = 7} a)
+      omega (arith, m.1, pow-le-pow_right {n = 256} (lit< tt) {i = w - k} {j = 7} a)
 
-  pub reading_more : (x k b : ℕ) → 0 < k → b ≡ get_or s (at + (k - 1)) 0 → b < 256 → Reading w s at x k → Reading w s at (x * 256 + b) (k - 1)
+  pub reading_more : (x k b : ℕ) → 0 < k → k ≤ w → b ≡ get_or s (at + (k - 1)) 0 → b < 256 → Reading w s at x k → Reading w s at (x * 256 + b) (k - 1)
   unfolding number
-  reading_more x k b h e l m =
+  reading_more x k b h i e l m =
       let a : suc (w - k) ≡ w - (k - 1) = omega arith in
       let p : at + k ≡ suc (at + (k - 1)) = omega arith in
-      let y : x ≡ number (w - k) s (suc (at + (k - 1))) = m.1 ∙ ap (λ (q : ℕ). number (w - k) s q) p in
+      let y : x ≡ number (w - k) s (suc (at + (k - 1))) = m.0 ∙ ap (λ (q : ℕ). number (w - k) s q) p in
       let z : x * 256 + b ≡ get_or s (at + (k - 1)) 0 + 256 * number (w - k) s (suc (at + (k - 1))) = omega (arith, y, e) in
-      let u : x * 256 + b < 256 ^ suc (w - k) = omega (arith, m.2, l, pow-suc 256 (w - k)) in
-      (omega arith, z ∙ ap (λ (j : ℕ). number j s (at + (k - 1))) a, subst (λ (j : ℕ). x * 256 + b < 256 ^ j) a u)
+      let u : x * 256 + b < 256 ^ suc (w - k) = omega (arith, m.1, l, pow-suc 256 (w - k)) in
+      (z ∙ ap (λ (j : ℕ). number j s (at + (k - 1))) a, subst (λ (j : ℕ). x * 256 + b < 256 ^ j) a u)
 
-  pub reading_done : (x k : ℕ) → k ≤ 0 → Reading w s at x k → (x ≡ number w s at) × (x < 256 ^ w)
-  reading_done x k h m =
-      let a : w - k ≡ w = omega arith in
-      let p : at + k ≡ at = omega arith in
-      (m.1 ∙ ap (λ (j : ℕ). number j s (at + k)) a ∙ ap (λ (q : ℕ). number w s q) p, subst (λ (j : ℕ). x < 256 ^ j) a m.2)
+-- ---- a copy, as the library writes it: `new` stands where m bytes were
 
--- ---- a copy: k bytes are there
+pub stored : (s new ys : List ℕ) (at m : ℕ) → at + length new ≤ length s → m ≡ length new → ys ≡ new → put_mid at m s ys ≡ sets s at new
+stored s new ys at m h q e =
+    put_mid-paste at m s ys new (length new) e (sym q) refl
+    ∙ ap (λ (r : List ℕ). take at s ++ r ++ drop (at + length new) s) (take-length new)
+    ∙ sym (sets-eq new s at h)
 
-abbrev pub Copying : List ℕ → (start : ℕ) → List ℕ → (at n : ℕ) → List ℕ → ℕ → Type 0
-Copying xs start s₀ at n s k = (k ≤ n) × (length s ≡ length s₀) × (s ≡ sets s₀ at (part k start xs))
-
-module _ (xs : List ℕ) (start : ℕ) (s₀ : List ℕ) (at n : ℕ) where
-  pub copying_start : Copying xs start s₀ at n s₀ 0
-  unfolding part
-  copying_start = (omega arith, refl, refl)
-
-  pub copying_more : (s : List ℕ) (k v : ℕ) → k < n → v ≡ get_or xs (start + k) 0 → Copying xs start s₀ at n s k
-      → Copying xs start s₀ at n (set s (at + k) v) (k + 1)
-  unfolding part
-  copying_more s k v h e m =
-      let place : at + k ≡ at + length (part k start xs) = ap (λ (j : ℕ). at + j) (sym (length_part k start xs)) in (
-        omega arith,
-        length-set s (at + k) v ∙ m.1,
-        grown s₀ s (set s (at + k) v) (part k start xs) (get_or xs (start + k) 0 ∷ []) at (at + k) m.2 place (ap (λ (u : ℕ). set s (at + k) u) e)
-            ∙ ap (λ (r : List ℕ). sets s₀ at r) (sym (part-add k 1 start xs)),
-      )
-
-  pub copying_done : (s : List ℕ) (k : ℕ) → n ≤ k → Copying xs start s₀ at n s k → s ≡ sets s₀ at (part n start xs)
-  copying_done s k h m = let e : k ≡ n = omega arith in m.2 ∙ ap (λ (j : ℕ). sets s₀ at (part j start xs)) e
+pub copied : (xs s ys : List ℕ) (start at m n : ℕ) → at + n ≤ length s → start + n ≤ length xs → m ≡ n → ys ≡ take n (drop start xs)
+    → put_mid at m s ys ≡ sets s at (part n start xs)
+copied xs s ys start at m n l h q e =
+    let long : length (part n start xs) ≡ n = length_part n start xs in
+    stored s (part n start xs) ys at m (let r : at + length (part n start xs) ≤ length s = omega arith in r) (q ∙ sym long) (e ∙ sym (part_is n start xs h))
 
 -- ---- the place of slot i, within the image
 
@@ -111,75 +83,37 @@ below {i} {n} S h =
     let l : suc i ≤ n = omega arith in
     omega (arith, mul-le-mul_right S l, suc-mul i S)
 
-pub room : (w S n at size i : ℕ) → Room w S n at size → i < n → at + i * S + w ≤ size
-room w S n at size i r h = omega (arith, below S h, r)
+-- ---- a column put: slot i too
 
--- ---- a column put: i slots of n are
+pub put_more : (w many S : ℕ) (xs : List ℕ) (at : ℕ) (s₀ s s' : List ℕ) (i : ℕ) → s ≡ put_column w many S i xs at s₀
+    → s' ≡ sets s (at + i * S) (les w (part many (i * many) xs)) → s' ≡ put_column w many S (i + 1) xs at s₀
+unfolding put_column
+put_more w many S xs at s₀ s s' i m e =
+    e
+    ∙ ap (λ (r : List ℕ). sets r (at + i * S) (les w (part many (i * many) xs))) m
+    ∙ ap (λ (j : ℕ). put_column w many S j xs at s₀) (sym (add-one i))
 
-abbrev pub Putting : (w many S : ℕ) → List ℕ → (n at : ℕ) → List ℕ → List ℕ → ℕ → Type 0
-Putting w many S xs n at s₀ s i = (i ≤ n) × (length s ≡ length s₀) × (s ≡ put_column w many S i xs at s₀)
+-- a value of any kind a slot, as its number
+pub get_each : {A : Type 0} (f : A → ℕ) (xs : List A) (i : ℕ) (x : A) → i < length xs → x ≡ get_or xs i x → f x ≡ get_or (map f xs) i 0
+get_each f [] i x h e = absurd (omega arith)
+get_each f (y ∷ ys) zero x h e = ap f e
+get_each f (y ∷ ys) (suc i) x h e = get_each f ys i x (let l : i < length ys = omega arith in l) e
 
-module _ (w many S : ℕ) (xs : List ℕ) (n at : ℕ) (s₀ : List ℕ) where
-  pub putting_start : Putting w many S xs n at s₀ s₀ 0
-  unfolding put_column
-  putting_start = (omega arith, refl, refl)
-
-  pub putting_more : (s s' : List ℕ) (i : ℕ) → i < n → s' ≡ sets s (at + i * S) (les w (part many (i * many) xs)) → Putting w many S xs n at s₀ s i
-      → Putting w many S xs n at s₀ s' (i + 1)
-  unfolding put_column
-  putting_more s s' i h e m =
-      let row = les w (part many (i * many) xs) in (
-        omega arith,
-        ap length e ∙ length-sets s (at + i * S) row ∙ m.1,
-        e ∙ ap (λ (r : List ℕ). sets r (at + i * S) row) m.2 ∙ ap (λ (j : ℕ). put_column w many S j xs at s₀) (sym (add-one i)),
-      )
-
-  pub putting_done : (s : List ℕ) (i : ℕ) → n ≤ i → Putting w many S xs n at s₀ s i → s ≡ put_column w many S n xs at s₀
-  putting_done s i h m = let e : i ≡ n = omega arith in m.2 ∙ ap (λ (j : ℕ). put_column w many S j xs at s₀) e
-
--- one number a slot
-pub putting_one : (w S : ℕ) (xs : List ℕ) (n at : ℕ) (s₀ s s' : List ℕ) (i v : ℕ) → i < n → v ≡ get_or xs i 0 → s' ≡ sets s (at + i * S) (le w v)
-    → Putting w 1 S xs n at s₀ s i → Putting w 1 S xs n at s₀ s' (i + 1)
-putting_one w S xs n at s₀ s s' i v h e f m =
-    putting_more w 1 S xs n at s₀ s s' i h
-    (f ∙ ap (λ (u : ℕ). sets s (at + i * S) (le w u)) e ∙ ap (λ (r : List ℕ). sets s (at + i * S) r) (one_put w i xs)) m
-
--- a yes or no a slot
-pub putting_flag : (S : ℕ) (xs : List Bool) (n at : ℕ) (s₀ s s' : List ℕ) (i v : ℕ) → i < n → v ≡ bit (get_or xs i false)
-    → s' ≡ sets s (at + i * S) (le 1 v) → Putting 1 1 S (map bit xs) n at s₀ s i → Putting 1 1 S (map bit xs) n at s₀ s' (i + 1)
-putting_flag S xs n at s₀ s s' i v h e f m =
-    putting_one 1 S (map bit xs) n at s₀ s s' i v h (e ∙ sym (get_or-map bit xs i false)) f m
+pub value_put : {A : Type 0} (f : A → ℕ) (w S : ℕ) (xs : List A) (at : ℕ) (s₀ s s' : List ℕ) (i v : ℕ) (x : A) → i < length xs → x ≡ get_or xs i x
+    → v ≡ f x → s ≡ put_column w 1 S i (map f xs) at s₀ → s' ≡ sets s (at + i * S) (le w v) → s' ≡ put_column w 1 S (i + 1) (map f xs) at s₀
+value_put f w S xs at s₀ s s' i v x h e n m k =
+    put_more w 1 S (map f xs) at s₀ s s' i m
+    (k
+    ∙ ap (λ (u : ℕ). sets s (at + i * S) (le w u)) (n ∙ get_each f xs i x h e)
+    ∙ ap (λ (r : List ℕ). sets s (at + i * S) r) (one_put w i (map f xs)))
 
 -- a row of bytes a slot
-pub putting_row : (many S : ℕ) (xs : List ℕ) (n at : ℕ) (s₀ s s' : List ℕ) (i : ℕ) → Bytes xs → i < n
-    → s' ≡ sets s (at + i * S) (part many (i * many) xs) → Putting 1 many S xs n at s₀ s i → Putting 1 many S xs n at s₀ s' (i + 1)
-putting_row many S xs n at s₀ s s' i b h f m =
-    putting_more 1 many S xs n at s₀ s s' i h (f ∙ ap (λ (r : List ℕ). sets s (at + i * S) r) (sym (les_bytes many (i * many) xs b))) m
+pub row_put : (many S : ℕ) (xs : List ℕ) (at : ℕ) (s₀ s s' : List ℕ) (i : ℕ) → Bytes xs → s ≡ put_column 1 many S i xs at s₀
+    → s' ≡ sets s (at + i * S) (part many (i * many) xs) → s' ≡ put_column 1 many S (i + 1) xs at s₀
+row_put many S xs at s₀ s s' i b m e =
+    put_more 1 many S xs at s₀ s s' i m (e ∙ ap (λ (r : List ℕ). sets s (at + i * S) r) (sym (les_bytes many (i * many) xs b)))
 
--- ---- a column taken: what was read of i slots (`got i`) stands at the front of the list
-
-abbrev pub Taking : {A : Type 0} → (ℕ → List A) → ℕ → List A → List A → ℕ → Type 0
-Taking got n xs₀ xs i = (i ≤ n) × (length xs ≡ length xs₀) × (xs ≡ sets xs₀ 0 (got i))
-
-module _ {A : Type 0} (got : ℕ → List A) (n : ℕ) (xs₀ : List A) where
-  pub taking_start : got 0 ≡ [] → Taking got n xs₀ xs₀ 0
-  taking_start e = (omega arith, refl, ap (λ (r : List A). sets xs₀ 0 r) (sym e))
-
-  pub taking_more : (xs xs' row : List A) (i p : ℕ) → i < n → got (suc i) ≡ got i ++ row → p ≡ length (got i) → xs' ≡ sets xs p row
-      → Taking got n xs₀ xs i → Taking got n xs₀ xs' (i + 1)
-  taking_more xs xs' row i p h e place f m =
-      let q : p ≡ 0 + length (got i) = omega (arith, place) in (
-        omega arith,
-        ap length f ∙ length-sets xs p row ∙ m.1,
-        grown xs₀ xs xs' (got i) row 0 p m.2 q f
-            ∙ ap (λ (r : List A). sets xs₀ 0 r) (sym e)
-            ∙ ap (λ (j : ℕ). sets xs₀ 0 (got j)) (sym (add-one i)),
-      )
-
-  pub taking_done : (xs : List A) (i : ℕ) → n ≤ i → length (got n) ≡ length xs₀ → Taking got n xs₀ xs i → xs ≡ got n
-  taking_done xs i h l m =
-      let e : i ≡ n = omega arith in
-      m.2 ∙ ap (λ (j : ℕ). sets xs₀ 0 (got j)) e ∙ whole (got n) xs₀ l
+-- ---- a column taken: what was read of i slots stands at the front of the list
 
 pub length_column : (w many S n : ℕ) (s : List ℕ) (at : ℕ) → length (take_column w many S n s at) ≡ n * many
 unfolding take_column
@@ -196,53 +130,35 @@ pub one_more : (w S i : ℕ) (s : List ℕ) (at : ℕ) → take_column w 1 S (su
 unfolding take_column
 one_more w S i s at = ap (λ (r : List ℕ). take_column w 1 S i s at ++ r) (one_taken w s (at + i * S))
 
-module _ (w S : ℕ) (s : List ℕ) (at n : ℕ) (xs₀ : List ℕ) where
-  pub taking_none : Taking (λ i. take_column w 1 S i s at) n xs₀ xs₀ 0
-  unfolding take_column
-  taking_none = taking_start (λ i. take_column w 1 S i s at) n xs₀ refl
+-- as a value of any kind
+module _ {A : Type 0} (f : ℕ → A) (w S : ℕ) (s : List ℕ) (at : ℕ) (xs₀ : List A) where
+  length_values : (n : ℕ) → length (map f (take_column w 1 S n s at)) ≡ n
+  length_values n = length-map (take_column w 1 S n s at) f ∙ length_ones w S n s at
 
-  pub taking_one : (xs : List ℕ) (i v : ℕ) → i < n → v ≡ number w s (at + i * S) → Taking (λ i. take_column w 1 S i s at) n xs₀ xs i
-      → Taking (λ i. take_column w 1 S i s at) n xs₀ (set xs i v) (i + 1)
-  taking_one xs i v h e m =
-      taking_more (λ i. take_column w 1 S i s at) n xs₀ xs (set xs i v) (number w s (at + i * S) ∷ []) i i h (one_more w S i s at)
-      (sym (length_ones w S i s at)) (ap (λ (u : ℕ). set xs i u) e) m
+  pub value_taken : (xs : List A) (i : ℕ) (v : A) → v ≡ f (number w s (at + i * S)) → xs ≡ sets xs₀ 0 (map f (take_column w 1 S i s at))
+      → set xs i v ≡ sets xs₀ 0 (map f (take_column w 1 S (i + 1) s at))
+  value_taken xs i v e m =
+      let done = map f (take_column w 1 S i s at) in
+      let here : i ≡ 0 + length done = omega (arith, length_values i) in
+      grown xs₀ xs (set xs i v) done (f (number w s (at + i * S)) ∷ []) 0 i m here (ap (λ (u : A). set xs i u) e)
+      ∙ ap (λ (r : List A). sets xs₀ 0 r)
+      (sym (ap (λ (r : List ℕ). map f r) (one_more w S i s at) ∙ map-append f (take_column w 1 S i s at) (number w s (at + i * S) ∷ [])))
+      ∙ ap (λ (j : ℕ). sets xs₀ 0 (map f (take_column w 1 S j s at))) (sym (add-one i))
 
-  pub taken_ones : (xs : List ℕ) (i : ℕ) → n ≡ length xs₀ → n ≤ i → Taking (λ i. take_column w 1 S i s at) n xs₀ xs i → xs ≡ take_column w 1 S n s at
-  taken_ones xs i l h m = taking_done (λ i. take_column w 1 S i s at) n xs₀ xs i h (length_ones w S n s at ∙ l) m
-
--- a yes or no a slot
-module _ (S : ℕ) (s : List ℕ) (at n : ℕ) (xs₀ : List Bool) where
-  pub flags_none : Taking (λ i. map is_on (take_column 1 1 S i s at)) n xs₀ xs₀ 0
-  unfolding take_column
-  flags_none = taking_start (λ i. map is_on (take_column 1 1 S i s at)) n xs₀ refl
-
-  pub taking_flag : (xs : List Bool) (i : ℕ) (v : Bool) → i < n → v ≡ is_on (number 1 s (at + i * S))
-      → Taking (λ i. map is_on (take_column 1 1 S i s at)) n xs₀ xs i
-      → Taking (λ i. map is_on (take_column 1 1 S i s at)) n xs₀ (set xs i v) (i + 1)
-  taking_flag xs i v h e m =
-      taking_more (λ i. map is_on (take_column 1 1 S i s at)) n xs₀ xs (set xs i v) (is_on (number 1 s (at + i * S)) ∷ []) i i h
-      (ap (λ (r : List ℕ). map is_on r) (one_more 1 S i s at) ∙ map-append is_on (take_column 1 1 S i s at) (number 1 s (at + i * S) ∷ []))
-      (sym (length-map (take_column 1 1 S i s at) is_on ∙ length_ones 1 S i s at)) (ap (λ (u : Bool). set xs i u) e) m
-
-  pub taken_flags : (xs : List Bool) (i : ℕ) → n ≡ length xs₀ → n ≤ i → Taking (λ i. map is_on (take_column 1 1 S i s at)) n xs₀ xs i
-      → xs ≡ map is_on (take_column 1 1 S n s at)
-  taken_flags xs i l h m =
-      taking_done (λ i. map is_on (take_column 1 1 S i s at)) n xs₀ xs i h
-      (length-map (take_column 1 1 S n s at) is_on ∙ length_ones 1 S n s at ∙ l) m
+  pub values_taken : (xs : List A) (n : ℕ) → n ≡ length xs₀ → xs ≡ sets xs₀ 0 (map f (take_column w 1 S n s at)) → xs ≡ map f (take_column w 1 S n s at)
+  values_taken xs n l m = m ∙ whole (map f (take_column w 1 S n s at)) xs₀ (length_values n ∙ l)
 
 -- a row of bytes a slot
-module _ (many S : ℕ) (s : List ℕ) (at n : ℕ) (xs₀ : List ℕ) where
-  pub rows_none : Taking (λ i. take_column 1 many S i s at) n xs₀ xs₀ 0
+module _ (many S : ℕ) (s : List ℕ) (at : ℕ) (xs₀ : List ℕ) where
+  pub row_taken : (xs xs' : List ℕ) (i : ℕ) → xs' ≡ sets xs (i * many) (part many (at + i * S) s) → xs ≡ sets xs₀ 0 (take_column 1 many S i s at)
+      → xs' ≡ sets xs₀ 0 (take_column 1 many S (i + 1) s at)
   unfolding take_column
-  rows_none = taking_start (λ i. take_column 1 many S i s at) n xs₀ refl
+  row_taken xs xs' i e m =
+      let done = take_column 1 many S i s at in
+      let here : i * many ≡ 0 + length done = omega (arith, length_column 1 many S i s at) in
+      grown xs₀ xs xs' done (part many (at + i * S) s) 0 (i * many) m here e
+      ∙ ap (λ (r : List ℕ). sets xs₀ 0 (done ++ r)) (sym (numbers_bytes many s (at + i * S)))
+      ∙ ap (λ (j : ℕ). sets xs₀ 0 (take_column 1 many S j s at)) (sym (add-one i))
 
-  pub taking_row : (xs xs' : List ℕ) (i : ℕ) → i < n → xs' ≡ sets xs (i * many) (part many (at + i * S) s)
-      → Taking (λ i. take_column 1 many S i s at) n xs₀ xs i → Taking (λ i. take_column 1 many S i s at) n xs₀ xs' (i + 1)
-  unfolding take_column
-  taking_row xs xs' i h f m =
-      taking_more (λ i. take_column 1 many S i s at) n xs₀ xs xs' (part many (at + i * S) s) i (i * many) h
-      (ap (λ (r : List ℕ). take_column 1 many S i s at ++ r) (numbers_bytes many s (at + i * S))) (sym (length_column 1 many S i s at)) f m
-
-  pub taken_rows : (xs : List ℕ) (i : ℕ) → length xs₀ ≡ n * many → n ≤ i → Taking (λ i. take_column 1 many S i s at) n xs₀ xs i
-      → xs ≡ take_column 1 many S n s at
-  taken_rows xs i l h m = taking_done (λ i. take_column 1 many S i s at) n xs₀ xs i h (length_column 1 many S n s at ∙ sym l) m
+  pub rows_taken : (xs : List ℕ) (n : ℕ) → length xs₀ ≡ n * many → xs ≡ sets xs₀ 0 (take_column 1 many S n s at) → xs ≡ take_column 1 many S n s at
+  rows_taken xs n l m = m ∙ whole (take_column 1 many S n s at) xs₀ (length_column 1 many S n s at ∙ sym l)

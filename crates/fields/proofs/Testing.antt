@@ -7,14 +7,14 @@ use Prim.Native.Nat.{ℕ, zero, suc, ◌+◌, ◌*◌, ◌≤◌, ◌<◌}
 use native.Mathlib.Omega.{arith}
 use native.Mathlib.Numerals.{add-one}
 use lib.Dec.{eqb}
-use lib.ListN.{length, take, get_or}
+use lib.ListN.{length, take, get_or, length-map}
 use lib.Seq.{take-suc, take-length, take_at, get_or_at, length-take-le}
 use borrow.Author.Tests.{eq-eqb, eqb-true, leb-true}
 use Rattle.fields.specs.Numbers.{number, numbers, bit, is_on}
 use Rattle.fields.specs.Columns.{part, take_column}
 use Rattle.fields.specs.Tests.{is_flag, only_flags, Tells}
 use Rattle.fields.proofs.Bytes.{part-add, numbers_bytes}
-use Rattle.fields.proofs.Loops.{one_more, length_ones}
+use Rattle.fields.proofs.Loops.{get_each, one_more, length_ones}
 
 -- ---- tests joined, and two tests of one thing
 
@@ -44,30 +44,18 @@ only_one : (x : ℕ) → is_flag x ≡ only_flags (x ∷ [])
 unfolding only_flags
 only_one x = sym (and-true (is_flag x))
 
-abbrev pub Looking : (S : ℕ) → List ℕ → (at n : ℕ) → Bool → ℕ → Type 0
-Looking S s at n ok i = (i ≤ n) × (ok ≡ only_flags (take_column 1 1 S i s at))
-
-module _ (S : ℕ) (s : List ℕ) (at n : ℕ) where
-  pub looking_start : Looking S s at n true 0
-  unfolding take_column only_flags
-  looking_start = (omega arith, refl)
-
-  pub looking_more : (ok r : Bool) (i : ℕ) → i < n → r ≡ is_flag (get_or s (at + i * S) 0) → Looking S s at n ok i → Looking S s at n (ok && r) (i + 1)
-  unfolding number
-  looking_more ok r i h e m =
-      let x = number 1 s (at + i * S) in
-      let z : get_or s (at + i * S) 0 ≡ x = omega arith in
-      let so : r ≡ only_flags (x ∷ []) = e ∙ ap (λ (k : ℕ). is_flag k) z ∙ only_one x in (
-        omega arith,
-        ap (λ (b : Bool). b && r) m.1
-            ∙ ap (λ (b : Bool). only_flags (take_column 1 1 S i s at) && b) so
-            ∙ sym (only_append (take_column 1 1 S i s at) (x ∷ []))
-            ∙ ap only_flags (sym (one_more 1 S i s at))
-            ∙ ap (λ (j : ℕ). only_flags (take_column 1 1 S j s at)) (sym (add-one i)),
-      )
-
-  pub looking_done : (ok : Bool) (i : ℕ) → n ≤ i → Looking S s at n ok i → ok ≡ only_flags (take_column 1 1 S n s at)
-  looking_done ok i h m = let e : i ≡ n = omega arith in m.1 ∙ ap (λ (j : ℕ). only_flags (take_column 1 1 S j s at)) e
+pub looking_more : (S : ℕ) (s : List ℕ) (at : ℕ) (ok r : Bool) (i : ℕ) → r ≡ is_flag (get_or s (at + i * S) 0) → ok ≡ only_flags (take_column 1 1 S i s at)
+    → (ok && r) ≡ only_flags (take_column 1 1 S (i + 1) s at)
+unfolding number
+looking_more S s at ok r i e m =
+    let x = number 1 s (at + i * S) in
+    let z : get_or s (at + i * S) 0 ≡ x = omega arith in
+    let so : r ≡ only_flags (x ∷ []) = e ∙ ap (λ (k : ℕ). is_flag k) z ∙ only_one x in
+    ap (λ (b : Bool). b && r) m
+    ∙ ap (λ (b : Bool). only_flags (take_column 1 1 S i s at) && b) so
+    ∙ sym (only_append (take_column 1 1 S i s at) (x ∷ []))
+    ∙ ap only_flags (sym (one_more 1 S i s at))
+    ∙ ap (λ (j : ℕ). only_flags (take_column 1 1 S j s at)) (sym (add-one i))
 
 -- they are what stands for a yes or no
 only_bits : (xs : List ℕ) → only_flags xs ≡ true → xs ≡ map bit (map is_on xs)
@@ -93,9 +81,6 @@ flags_tell xs = (only_bits xs, λ e. ap only_flags e ∙ bits_only (map is_on xs
 
 -- ---- a column and numbers: i slots are compared
 
-abbrev pub Comparing : (w S : ℕ) → List ℕ → ℕ → List ℕ → Bool → ℕ → Type 0
-Comparing w S s at xs ok i = (i ≤ length xs) × Tells ok (take_column w 1 S i s at ≡ take i xs)
-
 tells_more : (ps qs : List ℕ) (n : ℕ) (v x : ℕ) (ok : Bool) → length ps ≡ n → length qs ≡ n → Tells ok (ps ≡ qs)
     → Tells (ok && eqb v x) (ps ++ (v ∷ []) ≡ qs ++ (x ∷ []))
 tells_more ps qs n v x ok p q t = (
@@ -111,30 +96,28 @@ tells_more ps qs n v x ok p q t = (
 tells_like : {ps qs ps' qs' : List ℕ} (ok : Bool) → ps ≡ ps' → qs ≡ qs' → Tells ok (ps' ≡ qs') → Tells ok (ps ≡ qs)
 tells_like ok p q t = (λ e. p ∙ t.0 e ∙ sym q, λ e. t.1 (sym p ∙ e ∙ q))
 
-module _ (w S : ℕ) (s : List ℕ) (at : ℕ) (xs : List ℕ) where
-  pub comparing_start : Comparing w S s at xs true 0
-  unfolding take_column
-  comparing_start = (omega arith, (λ e. refl, λ e. refl))
-
-  pub comparing_more : (ok : Bool) (i v x : ℕ) → i < length xs → v ≡ number w s (at + i * S) → x ≡ get_or xs i 0 → Comparing w S s at xs ok i
-      → Comparing w S s at xs (ok && eqb v x) (i + 1)
-  comparing_more ok i v x h e f m =
-      let l : i ≤ length xs = omega arith in
+module _ {A : Type 0} (f : A → ℕ) (w S : ℕ) (s : List ℕ) (at : ℕ) (xs : List A) where
+  pub comparing_more : (ok : Bool) (i v n : ℕ) (x : A) → i < length xs → x ≡ get_or xs i x → n ≡ f x → v ≡ number w s (at + i * S)
+      → Tells ok (take_column w 1 S i s at ≡ take i (map f xs)) → Tells (ok && eqb v n) (take_column w 1 S (i + 1) s at ≡ take (i + 1) (map f xs))
+  comparing_more ok i v n x h e g k t =
+      let same : n ≡ get_or (map f xs) i 0 = g ∙ get_each f xs i x h e in
+      let l : i < length (map f xs) = omega (arith, length-map xs f) in
+      let q : i ≤ length (map f xs) = omega arith in
       let column : take_column w 1 S (i + 1) s at ≡ take_column w 1 S i s at ++ (v ∷ []) =
       ap (λ (j : ℕ). take_column w 1 S j s at) (add-one i)
       ∙ one_more w S i s at
-      ∙ ap (λ (k : ℕ). take_column w 1 S i s at ++ (k ∷ [])) (sym e) in
-      let numbers : take (i + 1) xs ≡ take i xs ++ (x ∷ []) =
-      ap (λ (j : ℕ). take j xs) (add-one i) ∙ take-suc xs i 0 h ∙ ap (λ (k : ℕ). take i xs ++ (k ∷ [])) (sym f) in (
-        omega arith,
-        tells_like (ok && eqb v x) column numbers
-            (tells_more (take_column w 1 S i s at) (take i xs) i v x ok (length_ones w S i s at) (length-take-le i xs l) m.1),
-      )
+      ∙ ap (λ (u : ℕ). take_column w 1 S i s at ++ (u ∷ [])) (sym k) in
+      let numbers : take (i + 1) (map f xs) ≡ take i (map f xs) ++ (n ∷ []) =
+      ap (λ (j : ℕ). take j (map f xs)) (add-one i)
+      ∙ take-suc (map f xs) i 0 l
+      ∙ ap (λ (u : ℕ). take i (map f xs) ++ (u ∷ [])) (sym same) in
+      tells_like (ok && eqb v n) column numbers
+      (tells_more (take_column w 1 S i s at) (take i (map f xs)) i v n ok (length_ones w S i s at) (length-take-le i (map f xs) q) t)
 
-  pub comparing_done : (ok : Bool) (i : ℕ) → length xs ≤ i → Comparing w S s at xs ok i → Tells ok (take_column w 1 S (length xs) s at ≡ xs)
-  comparing_done ok i h m =
-      let e : length xs ≡ i = omega arith in
-      tells_like ok (ap (λ (j : ℕ). take_column w 1 S j s at) e) (sym (take-length xs) ∙ ap (λ (j : ℕ). take j xs) e) m.1
+  pub compared : (ok : Bool) (n : ℕ) → n ≡ length xs → Tells ok (take_column w 1 S n s at ≡ take n (map f xs)) → Tells ok (take_column w 1 S n s at ≡ map f xs)
+  compared ok n e t =
+      let l : n ≡ length (map f xs) = e ∙ sym (length-map xs f) in
+      tells_like ok refl (sym (ap (λ (j : ℕ). take j (map f xs)) l ∙ take-length (map f xs))) t
 
 -- ---- bytes side by side, as a column
 

@@ -1,10 +1,11 @@
 // "A fresh state holds one started task, identifier 64, name 0, of a given priority 0 to 15, and nothing else." (scope's specs/Fresh.antt.)
+// (A cast by `as` stands where Rust has no `From`; each is proved to lose nothing.)
 #![tactic(auto)]
 
 ghost use Rattle.std.specs.Prelude.{◌≡◌, ◌<◌, ◌≤◌};
 ghost use Rattle.scope.specs.Fresh.{fresh_tasks, fresh_line, no_semaphores, no_pools, no_queues, fresh_state, fresh};
 
-use scope::{Line, Pools, Queues, Semaphores, State, Tasks};
+use scope::{Line, Pools, Queues, Refusal, Semaphores, State, Tasks};
 
 fn fresh_tasks(priority: u8) -> Tasks
     ensures { result ≡ fresh_tasks priority }
@@ -24,12 +25,6 @@ fn fresh_tasks(priority: u8) -> Tasks
     k
 }
 
-fn wide(p: u8) -> u16
-    ensures { result ≡ p }
-{
-    p as u16
-}
-
 fn fresh_line(priority: u8) -> Line
     requires { priority < 16 }
     ensures { result ≡ fresh_line priority }
@@ -40,8 +35,8 @@ fn fresh_line(priority: u8) -> Line
         joined: [0; 32],
         rings: [0; 1],
     };
-    l.seat[0] = wide(priority) * 64 + 2048 + 1;
-    l.rings[0] = 1u16 << (priority as u32);
+    l.seat[0] = u16::from(priority) * 64 + 2048 + 1;
+    l.rings[0] = 1u16 << u32::from(priority);
     l
 }
 
@@ -124,17 +119,19 @@ pub fn fresh_value(priority: u32) -> State
     fresh_state(first)
 }
 
-// "Asked with a priority above 15, the answer is 19".
-fn fresh_status(priority: u32) -> u32
+// The status of a fresh state: "Asked with a priority above 15, the answer is 19".
+#[tactic(auto, unfolding(scope::specs::Fresh::fresh, scope::specs::Choice::pick))]
+pub fn fresh_status(priority: u32) -> u32
     ensures { result ≡ (fresh priority).status }
 {
     if 15 < priority {
-        return scope::INVALID_PRIORITY;
+        return Refusal::InvalidPriority.number();
     }
     scope::OK
 }
 
-// The fresh state, written where the lent one lies, whatever that was; answers the status.
+// The fresh state, written where the lent one lies, whatever that was; answers the status. No Result: there is a state beside the refusal
+// too, and the definition `fresh`, on which the theorems over scripts stand, gives both.
 pub fn fresh(s: &mut State, priority: u32) -> u32
     ensures { (s.new ≡ (fresh priority).state) × (result ≡ (fresh priority).status) }
 {

@@ -1,4 +1,4 @@
--- Either side of the edges of M-105, each computed: the last slots of both tables and those behind them, a good record before a bad one, and
+-- Either side of the grid's edges, each computed: the last slots of both tables and those behind them, a good record before a bad one, and
 -- the cell that stops.
 -- Assumes nothing.
 use mathlib.Core.Path.{◌≡◌, refl}

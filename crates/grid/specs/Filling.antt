@@ -1,9 +1,11 @@
 -- "A cleared grid can also be filled from a lent list of grant records, one task slot and one semaphore slot each".
 -- Assumes nothing.
-use Rattle.std.specs.Prelude.{ℕ, ◌+◌, Bool, ◌&&◌, List, [], ◌∷◌, eqb}
+use Rattle.std.specs.Prelude.{ℕ, ◌+◌, Bool, ◌&&◌, List, [], ◌∷◌, eqb, Result, Ok, Err}
 use Rattle.scope.specs.Choice.{pick}
 use Rattle.scope.specs.Statuses.{OK}
 use Rattle.grid.specs.declared.Grant.{Grant}
+use Rattle.grid.specs.declared.Refusal.{Refusal}
+use Rattle.grid.specs.declared.Refusal.TheVariants.{BadRecord}
 use Rattle.grid.specs.Grid.{Grid, inside, granted}
 
 abbrev pub BAD_RECORD : ℕ
@@ -18,9 +20,10 @@ abbrev pub fill_status : List Grant → ℕ
 fill_status [] = OK
 fill_status (r ∷ rs) = pick (within r) (fill_status rs) BAD_RECORD
 
--- the same, of one record after others that had this status
-unfoldable pub tested : ℕ → Grant → ℕ
-tested status r = pick (within r) status BAD_RECORD
+-- the status that an answer of the test tells
+abbrev pub status_of : Result Unit Refusal → ℕ
+status_of (Ok _) = OK
+status_of (Err BadRecord) = BAD_RECORD
 
 -- each record is a grant
 abbrev pub counted_one : Grid → Grant → Grid

@@ -1,4 +1,4 @@
--- M-105, "Keep, beside the state, a grid of 32 rows and 16 columns: grants to task slot from semaphore slot since clearing, stopping
+-- "Keep, beside the state, a grid of 32 rows and 16 columns: grants to task slot from semaphore slot since clearing, stopping
 -- at 65,535." The grid is a list of rows, one for each task slot; a row has a cell for each semaphore slot.
 -- Assumes nothing.
 use Rattle.std.specs.Prelude.{ℕ, ◌+◌, Bool, ◌&&◌, List, [], map, get_or, set, replicate, ltb}

@@ -1,4 +1,4 @@
--- M-105: the grant grid, how it is kept beside the state, and how it is filled from a list.
+-- The grant grid, how it is kept beside the state, and how it is filled from a list.
 pub mod Grid
 pub mod Keeping
 pub mod Filling

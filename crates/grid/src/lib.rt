@@ -1,69 +1,56 @@
-// The grant grid (M-105), 32 rows of 16 columns, passed and returned by value: who was granted what, kept beside the state. The kernel
-// never sees it. (specs/Grid.antt, Keeping.antt and Filling.antt.)
-#![tactic(auto)]
+// The grant grid, 32 rows of 16 columns: who was granted what, kept beside the state. The kernel never sees it. By the project's rule it
+// is a `[[u16; 16]; 32]` that is passed and returned by value, with one cell, row or column changed, and it is filled from a lent slice of
+// grant records, each handed by value to the change of one cell. (specs/Grid.antt, Keeping.antt and Filling.antt.)
+// (A cast by `as` stands where Rust has no `From`; each is proved to lose nothing.)
+#![tactic(auto, unfolding(scope::specs::Choice::pick, crate::specs::Grid::inside, crate::specs::Grid::granted, crate::specs::Grid::row_cleared, crate::specs::Grid::column_cleared, crate::specs::Keeping::released, crate::specs::Keeping::kept, crate::specs::Filling::filled))]
 
 ghost use Rattle.std.specs.Prelude.{◌≡◌, ◌%◌, get_or};
 ghost use Rattle.scope.specs.Replies.{wakes_from};
 ghost use Rattle.grid.specs.Grid.{cleared, granted, row_cleared, column_cleared};
 ghost use Rattle.grid.specs.Keeping.{released, kept};
-ghost use Rattle.grid.specs.Filling.{fill_status, tested, counted_one, counted, filled};
+ghost use Rattle.grid.specs.Filling.{BAD_RECORD, within, status_of, fill_status, counted_one, filled};
 
 use answers::Outcome;
-
-// "33 BAD_RECORD": no call of the kernel gives it, so it stands here.
-pub const BAD_RECORD: u32 = 33;
+use rows::{Call, SemaphoreCall, TaskCall};
 
 // A grid of zeros.
 pub fn clear() -> [[u16; 16]; 32]
     ensures { result ≡ cleared }
 {
-    let row = [0u16; 16];
-    [row; 32]
+    [[0; 16]; 32]
 }
 
 // One grant more to the task's slot from the semaphore's, stopping at 65,535.
-pub fn grant_cell(g: [[u16; 16]; 32], task: usize, semaphore: usize) -> [[u16; 16]; 32]
+pub fn grant_cell(mut g: [[u16; 16]; 32], task: usize, semaphore: usize) -> [[u16; 16]; 32]
     ensures { result ≡ granted g task semaphore }
 {
-    if 32 <= task {
-        return g;
+    if task < 32 && semaphore < 16 {
+        g[task][semaphore] = g[task][semaphore].saturating_add(1);
     }
-    if 16 <= semaphore {
-        return g;
-    }
-    let mut h = g;
-    let n = h[task][semaphore];
-    if n < 65535 {
-        h[task][semaphore] = n + 1;
-    }
-    h
+    g
 }
 
-pub fn clear_row(g: [[u16; 16]; 32], task: usize) -> [[u16; 16]; 32]
+// The grid with a task slot's row emptied.
+pub fn clear_row(mut g: [[u16; 16]; 32], task: usize) -> [[u16; 16]; 32]
     ensures { result ≡ row_cleared g task }
 {
-    if 32 <= task {
-        return g;
+    if task < 32 {
+        g[task] = [0; 16];
     }
-    let mut h = g;
-    let row = [0u16; 16];
-    h[task] = row;
-    h
+    g
 }
 
-pub fn clear_column(g: [[u16; 16]; 32], semaphore: usize) -> [[u16; 16]; 32]
+// The grid with a semaphore slot's column emptied.
+pub fn clear_column(mut g: [[u16; 16]; 32], semaphore: usize) -> [[u16; 16]; 32]
     ensures { result ≡ column_cleared g semaphore }
 {
     if 16 <= semaphore {
         return g;
     }
-    let mut h = g;
-    let mut i: usize = 0;
-    while i < 32 {
-        h[i][semaphore] = 0;
-        i += 1;
+    for row in g.iter_mut() {
+        row[semaphore] = 0;
     }
-    h
+    g
 }
 
 // "An identifier is serial × 64 + slot."
@@ -73,20 +60,11 @@ fn slot(id: u32) -> usize
     (id % 64) as usize
 }
 
-// A release from the semaphore's slot, which woke so many, all with the status `why`. It wakes one task at most.
-fn release(
-    g: [[u16; 16]; 32],
-    semaphore: usize,
-    woken: usize,
-    why: u32,
-    wakes: &[u32; 32],
-) -> [[u16; 16]; 32]
-    ensures { result ≡ released g semaphore (wakes_from woken 0 wakes.now why) }
+// A release from the semaphore's slot, by its outcome and its wake list: it wakes one task at most, and only with OK is that a grant.
+fn release(g: [[u16; 16]; 32], semaphore: usize, o: Outcome, wakes: &[u32; 32]) -> [[u16; 16]; 32]
+    ensures { result ≡ released g semaphore (wakes_from o.woken 0 wakes.now o.why) }
 {
-    if woken == 0 {
-        return g;
-    }
-    if why != scope::OK {
+    if o.woken == 0 || o.why != scope::OK {
         return g;
     }
     grant_cell(g, slot(wakes[0]), semaphore)
@@ -106,80 +84,77 @@ pub fn keep(
     if o.status != scope::OK {
         return g;
     }
-    if call == 1 {
-        return clear_row(g, slot(o.values[0]));
+    match Call::from_number(call) {
+        Some(Call::Task(TaskCall::Create)) => clear_row(g, slot(o.values[0])),
+        Some(Call::Semaphore(SemaphoreCall::Create)) => clear_column(g, slot(o.values[0])),
+        Some(Call::Semaphore(SemaphoreCall::Claim)) => grant_cell(g, slot(caller), slot(a)),
+        Some(Call::Semaphore(SemaphoreCall::Release)) => release(g, slot(a), o, wakes),
+        _ => g,
     }
-    if call == 8 {
-        return clear_column(g, slot(o.values[0]));
-    }
-    if call == 11 {
-        return grant_cell(g, slot(caller), slot(a));
-    }
-    if call == 12 {
-        return release(g, slot(a), o.woken, o.why, wakes);
-    }
-    g
 }
 
 // A grant record: "one task slot and one semaphore slot".
-#[derive(Clone, Copy)]
+#[derive(Clone, Copy, PartialEq, Eq, Debug, Drop)]
 pub struct Grant {
     pub task: u32,
     pub semaphore: u32,
 }
 
-// The status of the records before, or 33 where this one names a slot outside its table.
-fn test_one(status: u32, r: Grant) -> u32
-    ensures { result ≡ tested status r }
-{
-    if 32 <= r.task {
-        return BAD_RECORD;
+impl Grant {
+    // Whether both slots are in their tables.
+    fn is_within(self) -> bool
+        ensures { result ≡ within self }
+    {
+        self.task < 32 && self.semaphore < 16
     }
-    if 16 <= r.semaphore {
-        return BAD_RECORD;
+}
+
+// Why a list of grant records is refused. No call of the kernel gives this status, so it stands here.
+#[derive(Clone, Copy, PartialEq, Eq, Debug, Drop)]
+pub enum Refusal {
+    // "33 BAD_RECORD": a record names a slot outside its table.
+    BadRecord = 33,
+}
+
+impl Refusal {
+    // The status that tells it.
+    pub fn number(self) -> u32
+        ensures { result ≡ BAD_RECORD }
+    {
+        self as u32
     }
-    status
 }
 
 // "33 BAD_RECORD if any slot is outside its table", else OK.
-pub fn fill_status(list: &[Grant]) -> u32
-    ensures { result ≡ fill_status list.now }
+pub fn fill_status(list: &[Grant]) -> Result<(), Refusal>
+    ensures { status_of result ≡ fill_status list.now }
 {
-    let mut status = scope::OK;
-    let mut i = 0;
-    while i < list.len() {
-        status = test_one(status, list[i]);
-        i += 1;
+    for grant in list {
+        if !grant.is_within() {
+            return Err(Refusal::BadRecord);
+        }
     }
-    status
+    Ok(())
 }
 
-fn count_one(g: [[u16; 16]; 32], r: Grant) -> [[u16; 16]; 32]
-    ensures { result ≡ counted_one g r }
+fn count_one(g: [[u16; 16]; 32], grant: Grant) -> [[u16; 16]; 32]
+    ensures { result ≡ counted_one g grant }
 {
-    grant_cell(g, r.task as usize, r.semaphore as usize)
-}
-
-// Each record counts once. (Walked once; each record goes by value to the update of one cell.)
-fn count_all(list: &[Grant], g: [[u16; 16]; 32]) -> [[u16; 16]; 32]
-    ensures { result ≡ counted list.now g }
-{
-    let mut h = g;
-    let mut i = 0;
-    while i < list.len() {
-        let next = count_one(h, list[i]);
-        h = next;
-        i += 1;
-    }
-    h
+    grant_cell(g, grant.task as usize, grant.semaphore as usize)
 }
 
 // The grid with the records' grants added, or as given where a record is refused: all are tested before any counts.
 pub fn fill(list: &[Grant], g: [[u16; 16]; 32]) -> [[u16; 16]; 32]
     ensures { result ≡ filled list.now g }
 {
-    if fill_status(list) != scope::OK {
+    if fill_status(list).is_err() {
         return g;
     }
-    count_all(list, g)
+    let mut filled = g;
+    for grant in list {
+        // (The kit proves no call that is assigned right to an array.)
+        let more = count_one(filled, *grant);
+        filled = more;
+    }
+    filled
 }

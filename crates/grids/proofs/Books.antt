@@ -1,4 +1,4 @@
--- The grants that the grid counts are those of demand 3's books: from each semaphore as many as its books have, in every history. Turn by
+-- The grants that the grid counts are those of the books: from each semaphore as many as its books have, in every history. Turn by
 -- turn: a claim answered OK is one of both; only a release wakes with 0, and whom it wakes had claimed that semaphore; a delivery, which
 -- wakes with 0 too, is none of either.
 -- Assumes nothing.

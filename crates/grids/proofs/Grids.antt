@@ -1,4 +1,4 @@
--- M-105, "Each cell equals the smaller of 65,535 and the grants in the history, since clearing, between the latest objects of the two
+-- "Each cell equals the smaller of 65,535 and the grants in the history, since clearing, between the latest objects of the two
 -- slots", for every history from a fresh state and wherever it was cleared; told by the answers alone. By what each turn means for the
 -- grid, turn after turn. And the grid that is kept by the call, its answer and the state before is that grid.
 -- Assumes nothing.

@@ -251,7 +251,7 @@ module _ (s : State) (x : Event) where
   pool_noted (buffer_got at i e f) = other _ (refl, refl) 17 at refl refl refl refl
   pool_noted (buffer_returned at i e f) = other _ (refl, refl) 18 at refl refl refl refl
 
-  -- a queue's calls are none of the grid's: a delivery is no grant (M-100)
+  -- a queue's calls are none of the grid's: a delivery is no grant
   queue_noted : {u : Queues} {v : ℕ} {shown : List ℕ} → QueueChange s x u v shown → Noted s x (shows (with_queues s u) v shown)
   unfolding shows
   queue_noted (queue_created at e f g) = other _ (refl, refl) 20 at refl refl refl refl

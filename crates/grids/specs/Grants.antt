@@ -18,7 +18,7 @@ abbrev pub woken_by : ℕ → List Wake → List Given
 woken_by id [] = []
 woken_by id (w ∷ ws) = pick (eqb w.status OK) (record { task = w.task; semaphore = id } ∷ woken_by id ws) (woken_by id ws)
 
--- the grants of a turn: a claim answered OK, to the task that ran; a release's wakes with 0 (a delivery's, M-100, are none)
+-- the grants of a turn: a claim answered OK, to the task that ran; a release's wakes with 0 (a delivery's are none)
 unfoldable pub grants_at : List Turn → Turn → List Given
 grants_at past x =
     pick (is_answer 11 OK x) (record { task = running_in past; semaphore = x.event.a } ∷ [])

@@ -1,3 +1,3 @@
--- M-105 over histories: the grid that is kept, and the grants that the answers tell.
+-- Over histories: the grid that is kept, and the grants that the answers tell.
 pub mod Grants
 pub mod Kept

@@ -1,3 +1,3 @@
 #![tactic(auto)]
 
-// No code: M-105's claims over histories, told by the answers alone; tied to the code by what `grid` promises.
+// No code: the grid's claims over histories, told by the answers alone; tied to the code by what `grid` promises.

@@ -1,4 +1,4 @@
--- M-104, "State image": the bytes of a state, in edition 1. "a header (edition 1, total length, then count and offset for tasks,
+-- The image: the bytes of a state, in edition 1. "a header (edition 1, total length, then count and offset for tasks,
 -- semaphores, pools, queues), records by slot, the ready order, no gaps; docs/ fixes and numbers the fields": docs/IMAGE.md does.
 -- Assumes nothing.
 use Rattle.std.specs.Prelude.{ℕ, ◌+◌, ◌*◌, Bool, ◌≡◌, List, [], ◌∷◌, ◌++◌, map, length}

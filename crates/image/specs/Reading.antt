@@ -1,6 +1,6 @@
--- M-104: an image is written and read. "One state has one image and reading returns the state."
+-- An image is written and read. "One state has one image and reading returns the state."
 -- Assumes nothing.
-use Rattle.std.specs.Prelude.{ℕ, ◌+◌, Bool, true, false, ◌&&◌, List, [], ◌∷◌, ◌++◌, map, ◌≡◌, length, take, drop, ltb, leb, eqb}
+use Rattle.std.specs.Prelude.{ℕ, ◌+◌, Bool, true, false, ◌&&◌, List, [], ◌∷◌, ◌++◌, map, length, take, drop, ltb, leb, eqb}
 use Rattle.scope.specs.declared.State.{State}
 use Rattle.scope.specs.declared.Line.{Line}
 use Rattle.scope.specs.declared.Tasks.{Tasks}
@@ -31,49 +31,6 @@ of_pool w many b at = take_column w many 92 8 b (744 + at)
 
 abbrev pub of_queue : ℕ → ℕ → List ℕ → ℕ → List ℕ
 of_queue w many b at = take_column w many 1051 8 b (1480 + at)
-
--- The columns of each table are those that stand in the bytes.
-abbrev pub TasksTaken : (b name serial : List ℕ) → (live started suspended : List Bool) → (priority left seat joined : List ℕ) → Type 0
-TasksTaken b name serial live started suspended priority left seat joined =
-    (name ≡ of_task 4 b 0)
-    × (serial ≡ of_task 2 b 4)
-    × (live ≡ map is_on (of_task 1 b 6))
-    × (started ≡ map is_on (of_task 1 b 7))
-    × (suspended ≡ map is_on (of_task 1 b 8))
-    × (priority ≡ of_task 1 b 9)
-    × (left ≡ of_task 4 b 10)
-    × (seat ≡ of_task 2 b 14)
-    × (joined ≡ of_task 1 b 16)
-
-abbrev pub SemaphoresTaken : (b name serial units : List ℕ) → (live fifo : List Bool) → Type 0
-SemaphoresTaken b name serial units live fifo =
-    (name ≡ of_sem 4 b 0)
-    × (serial ≡ of_sem 2 b 4)
-    × (units ≡ of_sem 2 b 6)
-    × (live ≡ map is_on (of_sem 1 b 8))
-    × (fifo ≡ map is_on (of_sem 1 b 9))
-
-abbrev pub PoolsTaken : (b out name address length size serial : List ℕ) → (live forced : List Bool) → (place : List ℕ) → Type 0
-PoolsTaken b out name address length size serial live forced place =
-    (out ≡ of_pool 8 1 b 0)
-    × (name ≡ of_pool 4 1 b 8)
-    × (address ≡ of_pool 4 1 b 12)
-    × (length ≡ of_pool 4 1 b 16)
-    × (size ≡ of_pool 4 1 b 20)
-    × (serial ≡ of_pool 2 1 b 24)
-    × (live ≡ map is_on (of_pool 1 1 b 26))
-    × (forced ≡ map is_on (of_pool 1 1 b 27))
-    × (place ≡ of_pool 1 64 b 28)
-
-abbrev pub QueuesTaken : (b name serial : List ℕ) → (live fifo : List Bool) → (limits held cells : List ℕ) → Type 0
-QueuesTaken b name serial live fifo limits held cells =
-    (name ≡ of_queue 4 1 b 0)
-    × (serial ≡ of_queue 2 1 b 4)
-    × (live ≡ map is_on (of_queue 1 1 b 6))
-    × (fifo ≡ map is_on (of_queue 1 1 b 7))
-    × (limits ≡ of_queue 1 2 b 8)
-    × (held ≡ of_queue 1 1 b 10)
-    × (cells ≡ of_queue 1 1040 b 11)
 
 -- the mask of the rings is that of the seats
 abbrev pub line_from : List ℕ → Line

@@ -1,4 +1,4 @@
--- M-104: what tells the bytes that a state writes from others: the header, what stands for a yes or no, and the ready order. Every other
+-- What tells the bytes that a state writes from others: the header, what stands for a yes or no, and the ready order. Every other
 -- byte is part of a number, or a byte of its own, and comes back as it was.
 -- Assumes nothing.
 use Rattle.std.specs.Prelude.{ℕ, Bool, ◌&&◌, List}

@@ -6,7 +6,6 @@ use mathlib.Core.Path.{◌≡◌, refl, sym, ap, ◌∙◌, subst}
 use mathlib.Core.List.{List, [], ◌∷◌, ◌++◌}
 use lib.Dec.{ltb, lit≤}
 use lib.ListN.{length, take, drop, get_or, length-take}
-use lib.Seq.{sets}
 use borrow.Author.Tests.{lt-ltb, le-ltb}
 use Rattle.scope.specs.Statuses.{OK}
 use Rattle.scope.specs.Listing.{line_of}
@@ -14,9 +13,6 @@ use Rattle.laws.proofs.Branches.{pick_yes, pick_no, lt_or_le}
 use mathlib.Core.Logic.{⊎_elim}
 use Rattle.answers.specs.declared.Outcome.{Outcome}
 use Rattle.text.specs.Lines.{reply_by}
-use Rattle.fields.specs.Columns.{part}
-use Rattle.fields.proofs.Bytes.{part_is}
-use Rattle.fields.proofs.Stores.{front}
 use Rattle.image.specs.Reading.{NO_ROOM}
 use Rattle.lines.specs.Lines.{numbers_in, wakes_in, shown_in, at_most32, outcome_in, reply_in, line_in, Told, tells}
 
@@ -34,14 +30,6 @@ module _ (text out : List ℕ) {n : ℕ} (e : n ≡ length text) where
   tells_yes h f =
       pick_no (ltb (length out) (length text)) _ _ (le-ltb (length out) (length text) (subst (λ (k : ℕ). k ≤ length out) e h))
       (λ i. told ((f ∙ ap (λ (k : ℕ). text ++ drop k out) e) i) (e i) OK)
-
--- the first n bytes of a line, copied
-pub line_copied : (text out line : List ℕ) {out' : List ℕ} {n : ℕ} → take n line ≡ text → n ≡ length text → n ≤ length out → n ≤ length line
-    → out' ≡ sets out 0 (part n 0 line) → out' ≡ text ++ drop n out
-line_copied text out line {out'} {n} e f h l g =
-    let m : length text ≤ length out = omega arith in
-    let k : 0 + n ≤ length line = omega arith in
-    g ∙ ap (λ (r : List ℕ). sets out 0 r) (part_is n 0 line k ∙ e) ∙ front text out m ∙ ap (λ (k : ℕ). text ++ drop k out) (sym f)
 
 pub at_most : (n : ℕ) → at_most32 n ≤ 32
 unfolding at_most32

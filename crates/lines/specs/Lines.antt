@@ -1,4 +1,4 @@
--- M-104: the line of a listing that tells the answer in an answer's bytes; and a text put into a lent slice: "31 NO_ROOM exactly if a slice
+-- The line of a listing that tells the answer in an answer's bytes; and a text put into a lent slice: "31 NO_ROOM exactly if a slice
 -- lent for .. listing is shorter than needed, nothing written".
 -- Assumes nothing.
 use Rattle.std.specs.Prelude.{ℕ, List, [], ◌∷◌, ◌++◌, ltb, length, get_or, drop}

@@ -1,48 +1,27 @@
 // The line of an answer that stands in bytes, into a lent slice. (specs/Lines.antt.)
-#![tactic(auto)]
+// (A cast by `as` stands where Rust has no `From`; each is proved to lose nothing.)
+#![tactic(auto, unfolding(scope::specs::Choice::pick, crate::specs::Lines::at_most32, crate::specs::Lines::outcome_in))]
 
 ghost use Rattle.std.specs.Prelude.{◌≡◌, ◌≤◌, length, take};
-ghost use Rattle.std.proofs.lemmas.List.Edits.{sets};
-ghost use Rattle.fields.specs.Numbers.{is_on};
-ghost use Rattle.fields.specs.Columns.{part};
-ghost use Rattle.lines.specs.Lines.{at_most32, outcome_in, line_in, tells};
+ghost use Rattle.lines.specs.Lines.{outcome_in, line_in, tells};
 
 use answers::Outcome;
 
+// C reads it as the status of a call (`exports_c`), so it is a number.
 pub const NO_ROOM: u32 = 31;
 
-// No more are woken than there are places.
-fn at_most_32(n: u32) -> usize
-    ensures { result ≡ at_most32 n }
-{
-    if 32 < n {
-        return 32;
-    }
-    n as usize
-}
-
-fn is_on(n: u32) -> bool
-    ensures { result ≡ is_on n }
-{
-    n != 0
-}
-
-// What stands in an answer's numbers. (A line tells nobody's slot.)
+// What stands in an answer's numbers: any number but 0 is a yes, and no more are woken than there are places. (A line tells nobody's slot.)
 fn outcome_in(numbers: &[u32; 11]) -> Outcome
     ensures { result ≡ outcome_in numbers.now }
 {
-    let values = [numbers[1], numbers[2], numbers[3], numbers[4]];
-    let negative = is_on(numbers[5]);
-    let woken = at_most_32(numbers[7]);
-    let delivers = is_on(numbers[9]);
     Outcome {
         status: numbers[0],
-        values,
-        negative,
-        woken,
+        values: [numbers[1], numbers[2], numbers[3], numbers[4]],
+        negative: numbers[5] != 0,
+        woken: numbers[7].min(32) as usize,
         why: numbers[8],
         runs: 32,
-        delivers,
+        delivers: numbers[9] != 0,
         length: numbers[10],
     }
 }
@@ -54,17 +33,10 @@ fn put_line(number: u32, answer: &[u8; 236], line: &mut [u8; 793]) -> usize
 {
     let mut numbers = [0u32; 11];
     let mut wakes = [0u32; 32];
-    columns::take_u32s(answer, 0, 4, &mut numbers);
-    columns::take_u32s(answer, 44, 4, &mut wakes);
+    columns::take_column(answer, 0, 4, &mut numbers);
+    columns::take_column(answer, 44, 4, &mut wakes);
     let o = outcome_in(&numbers);
     text::put_line(line, 0, number, o, &wakes, numbers[6])
-}
-
-fn copy_line(out: &mut [u8], line: &[u8; 793], n: usize)
-    requires { (n ≤ length out.old) × (n ≤ length line.now) }
-    ensures { out.new ≡ sets out.old 0 (part n 0 line.now) }
-{
-    columns::copy(out, 0, line, 0, n);
 }
 
 // The line of the answer that stands in the bytes, at the start of `out`, and 0; or 31 and nothing, where it does not fit there. Its length
@@ -78,6 +50,6 @@ pub fn line(number: u32, answer: &[u8; 236], out: &mut [u8], length: &mut [usize
     if out.len() < n {
         return NO_ROOM;
     }
-    copy_line(out, &line, n);
+    out[..n].copy_from_slice(&line[..n]);
     scope::OK
 }

@@ -1,10 +1,9 @@
 -- What is read of a message lent and of a queue's first cell, and what the verbs of the store do to the list of all cells.
 -- Assumes nothing.
-use Prim.Native.Nat.{ℕ, suc, ◌+◌, ◌-◌, ◌*◌, ◌≤◌, ◌<◌}
+use Prim.Native.Nat.{ℕ, ◌+◌, ◌-◌, ◌*◌, ◌≤◌, ◌<◌}
 use native.Mathlib.Omega.{arith}
-use native.Mathlib.Nat.{zero-add}
 use mathlib.Core.Path.{◌≡◌, refl, sym, ap, ◌∙◌}
-use mathlib.Core.List.{List, ◌∷◌, ◌++◌, append-nil}
+use mathlib.Core.List.{List, ◌∷◌, ◌++◌}
 use lib.ListN.{length, get_or, set, take, drop, replicate, length-replicate}
 use lib.Seq.{paste, take-take, drop-drop, get_or-take, get_or-drop}
 use lib.Dec.{ltb, leb}
@@ -13,21 +12,15 @@ use Rattle.laws.proofs.Branches.{pick_yes, pick_no, both, first_fails, second_fa
 use Rattle.scope.specs.Messages.{shown_of, cell_of, cells_of, with_cells, at_end, in_front, first_gone, first_shown, store, with_queue, appended, pushed, taken}
 use Rattle.laws.proofs.Messages.Parts.{drop-take, drop_zeros, pasted, in_middle, moved_up, moved_down}
 
--- a message lent, put into zeros
-pub shown_is : (m : List ℕ) (n : ℕ) → n ≤ 64 → paste (replicate 64 0) 0 m n ≡ shown_of m n
+-- a message lent, copied into zeros
+pub shown_is : (m x : List ℕ) (n k : ℕ) → n ≤ 64 → k ≡ n → x ≡ take n m → x ++ drop k (replicate 64 0) ≡ shown_of m n
 unfolding shown_of
-shown_is m n h = ap (λ (l : List ℕ). take n m ++ l) (ap (λ (k : ℕ). drop {A = ℕ} k (replicate 64 0)) (zero-add n) ∙ drop_zeros n 64 h)
+shown_is m x n k h d e = rw (e, d) (ap (λ (l : List ℕ). take n m ++ l) (drop_zeros n 64 h))
 
 -- and into zeros behind its length
-pub cell_is : (m : List ℕ) (n : ℕ) → n ≤ 64 → paste (set (replicate 65 0) 0 n) 1 m n ≡ cell_of m n
-unfolding cell_of shown_of
-cell_is m n h =
-    let e : 1 + n ≡ suc n = omega arith in
-    ap (λ (l : List ℕ). n ∷ (take n m ++ l)) (ap (λ (k : ℕ). drop k (n ∷ replicate 64 0)) e ∙ drop_zeros n 64 h)
-
--- bytes put into zeros that they fill
-pub filled : (x : List ℕ) → paste (replicate 64 0) 0 x 64 ≡ take 64 x
-filled x = append-nil (take 64 x)
+pub cell_is : (m x : List ℕ) (n k : ℕ) → n ≤ 64 → k ≡ n → x ≡ take n m → n ∷ (x ++ drop k (replicate 64 0)) ≡ cell_of m n
+unfolding cell_of
+cell_is m x n k h d e = ap (λ (l : List ℕ). n ∷ l) (shown_is m x n k h d e)
 
 -- a row's first cell, where it lies
 pub first_shown_lem : (cells : List ℕ) (i : ℕ) → take 64 (drop (i * 1040 + 1) cells) ≡ first_shown (cells_of cells i)

@@ -1,2 +1,1 @@
-pub mod Pasting
 pub mod Cells

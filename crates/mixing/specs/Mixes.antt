@@ -4,7 +4,7 @@ use Rattle.std.specs.Prelude.{ℕ, ◌+◌, ◌*◌, ◌%◌, List, length, get_
 use Rattle.scope.specs.Choice.{pick}
 use Rattle.scope.specs.Script.{number32}
 use Rattle.answers.specs.declared.Outcome.{Outcome}
-use Rattle.text.specs.declared.Record.{Record}
+use Rattle.scope.specs.declared.Request.{Request}
 use Rattle.text.specs.Records.{record_at}
 use Rattle.mixing.specs.declared.Head.{Head}
 
@@ -15,11 +15,11 @@ head_of file =
     (record { count = 0; first = 0; rounds = 0 })
     (record { count = number32 file 0; first = number32 file 4; rounds = number32 file 8 })
 
-abbrev pub nobody_ticks : Record
+abbrev pub nobody_ticks : Request
 nobody_ticks = record { call = 0; mark = 0; a = 0; b = 0; c = 0; d = 0; e = 0 }
 
 -- record k, as in a script; a tick by nobody past the end
-unfoldable pub mix_record : List ℕ → ℕ → Record
+unfoldable pub mix_record : List ℕ → ℕ → Request
 mix_record file k = pick (ltb k 2340) (pick (leb (16 + 28 * k + 28) (length file)) (record_at file (16 + 28 * k)) nobody_ticks) nobody_ticks
 
 -- a checksum that depends on the order

@@ -1,4 +1,4 @@
--- M-104, "the ready order" as bytes: 32 places, slot + 1 of each ready task in order, and zeros past them.
+-- "the ready order" as bytes: 32 places, slot + 1 of each ready task in order, and zeros past them.
 -- Assumes nothing.
 use Rattle.std.specs.Prelude.{ℕ, suc, ◌+◌, ◌-◌, ◌≤◌, ◌<◌, ◌≡◌, List, ◌++◌, map, length, get_or, set, take, replicate, ltb}
 use Rattle.scope.specs.Choice.{pick}

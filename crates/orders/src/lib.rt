@@ -5,28 +5,32 @@
 ghost use Rattle.std.specs.Prelude.{◌≡◌, List, [], ◌∷◌, ◌++◌, ℕ, suc, ◌<◌};
 ghost use Rattle.orders.specs.Places.{order_places, Told, ring_tasks, marked_at, Placed};
 
-fn wide(x: u16) -> usize
-    ensures { result ≡ x }
-{
-    x as usize
+// The places given so far, and how many they are.
+#[derive(Drop)]
+struct Order {
+    places: [u8; 32],
+    given: usize,
 }
 
-fn narrow(x: usize) -> u8
-    requires { x < 256 }
-    ensures { result ≡ x }
-{
-    x as u8
-}
-
-fn mark(table: &mut [u8; 1024], x: usize, v: u8)
-    ensures { table.new ≡ marked_at table.old x v }
-{
-    if x < 2048 {
-        return;
+impl Order {
+    // The next place; past the last there is none.
+    fn push(&mut self, task: u8)
+        ensures { (ts : List ℕ) (t : ℕ) → task ≡ suc t → Placed ts self.old.places self.old.given → Placed (ts ++ (t ∷ [])) self.new.places self.new.given }
+    {
+        if self.given < 32 {
+            self.places[self.given] = task;
+            self.given += 1;
+        }
     }
-    let j = x - 2048;
-    if j < 1024 {
-        table[j] = v;
+}
+
+// Notes a task on its seat, if that is a ready one.
+#[tactic(auto, unfolding(crate::specs::Places::marked_at, scope::specs::Choice::pick))]
+fn mark(table: &mut [u8; 1024], seat: usize, task: u8)
+    ensures { table.new ≡ marked_at table.old seat task }
+{
+    if seat >= 2048 && seat < 3072 {
+        table[seat - 2048] = task;
     }
 }
 
@@ -34,54 +38,38 @@ fn mark(table: &mut [u8; 1024], x: usize, v: u8)
 fn ready_seats(seat: &[u16; 32]) -> [u8; 1024]
     ensures { Told seat.now result }
 {
-    let mut table = [0u8; 1024];
-    let mut t: usize = 32;
-    while 0 < t {
-        t -= 1;
-        mark(&mut table, wide(seat[t]), narrow(t + 1));
+    let mut table = [0; 1024];
+    for t in (0..32u8).rev() {
+        mark(&mut table, usize::from(seat[usize::from(t)]), t + 1);
     }
     table
 }
 
-fn append(places: &mut [u8; 32], n: usize, v: u8) -> usize
-    ensures { (ts : List ℕ) (t : ℕ) → v ≡ suc t → Placed ts places.old n → Placed (ts ++ (t ∷ [])) places.new result }
-{
-    if n < 32 {
-        places[n] = v;
-        return n + 1;
-    }
-    n
-}
-
 // The tasks of ring p, behind those that have places.
-fn put_ring(table: &[u8; 1024], p: usize, places: &mut [u8; 32], n: usize) -> usize
+fn put_ring(table: &[u8; 1024], p: usize, order: &mut Order)
     requires { p < 16 }
-    ensures { (q ts : List ℕ) → Told q table.now → Placed ts places.old n
-        → Placed (ts ++ ring_tasks q p) places.new result }
+    ensures { (q ts : List ℕ) → Told q table.now → Placed ts order.old.places order.old.given
+        → Placed (ts ++ ring_tasks q p) order.new.places order.new.given }
 {
-    let mut m = n;
-    let mut k: usize = 1;
-    while k < 33 {
-        let v = table[p * 64 + k];
-        if v == 0 {
-            return m;
+    for k in 1..33 {
+        let task = table[p * 64 + k];
+        if task == 0 {
+            return;
         }
-        m = append(places, m, v);
-        k += 1;
+        order.push(task);
     }
-    m
 }
 
 pub fn ready_places(seat: &[u16; 32]) -> [u8; 32]
     ensures { result ≡ order_places seat.now }
 {
     let table = ready_seats(seat);
-    let mut places = [0u8; 32];
-    let mut n: usize = 0;
-    let mut p: usize = 16;
-    while 0 < p {
-        p -= 1;
-        n = put_ring(&table, p, &mut places, n);
+    let mut order = Order {
+        places: [0; 32],
+        given: 0,
+    };
+    for p in (0..16).rev() {
+        put_ring(&table, p, &mut order);
     }
-    places
+    order.places
 }

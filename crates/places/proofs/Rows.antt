@@ -1,7 +1,8 @@
 -- What the loops over a row lean on: a row as a part of the places of all pools, and a search that takes the least of what it marks.
 -- Assumes nothing.
-use Prim.Native.Nat.{ℕ, ◌+◌, ◌*◌, ◌≤◌, ◌<◌}
+use Prim.Native.Nat.{ℕ, ◌+◌, ◌-◌, ◌*◌, ◌≤◌, ◌<◌}
 use native.Mathlib.Omega.{arith}
+use Rattle.std.proofs.Common.{min}
 use mathlib.Core.Path.{◌≡◌, refl, sym, subst, ap, ◌∙◌}
 use mathlib.Core.Logic.{⊎_elim}
 use mathlib.Core.Bool.{Bool, true, false}
@@ -16,15 +17,19 @@ use Rattle.scope.specs.Places.{row_of, with_row}
 use Rattle.laws.proofs.Branches.{eq_or_not, true_or_false, picked_yes, picked_no}
 use Rattle.laws.proofs.Searches.{least_is}
 
+-- the places lent as a slice are the row
+pub row_lent : (places : List ℕ) (i : ℕ) → take (i * 64 + 64 - i * 64) (drop (i * 64) places) ≡ row_of places i
+unfolding row_of
+row_lent places i =
+    let e : i * 64 + 64 - i * 64 ≡ 64 = omega arith in
+    ap (λ (n : ℕ). take n (drop (i * 64) places)) e
+
 -- a row whose 64 places are all put in
-pub pasted : (places row : List ℕ) (i k : ℕ) → length row ≡ 64 → k ≤ 64 → 64 ≤ k → paste places (i * 64) row k ≡ with_row places i row
+pub pasted : (places row : List ℕ) (i : ℕ) → length row ≡ 64 → paste places (i * 64) row 64 ≡ with_row places i row
 unfolding with_row
-pasted places row i k e h l =
-    let d : k ≡ 64 = omega arith in
+pasted places row i e =
     let a : take 64 row ≡ row = take_all 64 row (omega arith) in
-    ap (paste places (i * 64) row) d
-    ∙ ap (λ (r : List ℕ). take (i * 64) places ++ r ++ drop (i * 64 + 64) places) a
-    ∙ append_assoc (take (i * 64) places) row (drop (i * 64 + 64) places)
+    ap (λ (r : List ℕ). take (i * 64) places ++ r ++ drop (i * 64 + 64) places) a ∙ append_assoc (take (i * 64) places) row (drop (i * 64 + 64) places)
 
 -- one place of a row
 pub set_row : (places : List ℕ) (i k x : ℕ) → i * 64 + 64 ≤ length places → k < 64 → set places (i * 64 + k) x ≡ with_row places i (set (row_of places i) k x)
@@ -39,6 +44,15 @@ set_row places i k x room h =
     ∙ ap (λ (l : List ℕ). take b places ++ set l k x) (sym (take-append-drop 64 d))
     ∙ ap (λ (l : List ℕ). take b places ++ l) (set-append_left (take 64 d) (drop 64 d) k x few)
     ∙ ap (λ (l : List ℕ). take b places ++ (set (take 64 d) k x ++ l)) (drop-drop 64 b places)
+
+-- the lesser by a test
+lesser : (x y : ℕ) → min x y ≡ pick (ltb x y) x y
+unfolding pick
+lesser x y = go (ltb x y) refl
+  where
+    go : (b : Bool) → ltb x y ≡ b → min x y ≡ pick b x y
+    go true e = omega (arith, ltb-true x y e)
+    go false e = omega (arith, ltb-false x y e)
 
 -- a search over the numbers below n that does not stop: what it holds after t of them is the least that passed, n where none did
 pub record Finding (n : ℕ) (p : ℕ → Bool) (found t : ℕ) : Type 0 where
@@ -80,13 +94,13 @@ module _ {n : ℕ} {p : ℕ → Bool} {found t : ℕ} (m : Finding n p found t) 
       before j l k =
           ⊎_elim (λ q. subst (λ (x : ℕ). p x ≡ false) (sym q) e) (λ q. m.none j (omega arith) (omega (arith, ltb-false found n d))) (eq_or_not j t)
 
-  pub finding_more : {mark next : ℕ} → t < n → mark ≡ pick (p t) t n → next ≡ pick (ltb found mark) found mark → Finding n p next (t + 1)
+  pub finding_more : {mark next : ℕ} → t < n → mark ≡ pick (p t) t n → next ≡ min found mark → Finding n p next (t + 1)
   finding_more {mark} {next} h e d =
       ⊎_elim
       (λ q. let f : mark ≡ t = e ∙ picked_yes (p t) t n q in
-      subst (λ (x : ℕ). Finding n p x (t + 1)) (sym (d ∙ ap (λ (x : ℕ). pick (ltb found x) found x) f)) (passed h q _ refl))
+      subst (λ (x : ℕ). Finding n p x (t + 1)) (sym (d ∙ ap (λ (x : ℕ). min found x) f ∙ lesser found t)) (passed h q _ refl))
       (λ q. let f : mark ≡ n = e ∙ picked_no (p t) t n q in
-      subst (λ (x : ℕ). Finding n p x (t + 1)) (sym (d ∙ ap (λ (x : ℕ). pick (ltb found x) found x) f)) (failed h q _ refl))
+      subst (λ (x : ℕ). Finding n p x (t + 1)) (sym (d ∙ ap (λ (x : ℕ). min found x) f ∙ lesser found n)) (failed h q _ refl))
       (true_or_false (p t))
 
   pub finding_done : n ≤ t → found ≡ least p n

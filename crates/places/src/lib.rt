@@ -1,8 +1,9 @@
 // The order of a pool's free buffers: its row of 64 places, by buffer, out of the places of all pools. (scope's specs/Places.antt.)
 // A row is copied out and in, and the loops over it have no way out in their middle: the compiler takes sixteen places at a time.
-#![tactic(auto)]
+// `as` narrows a number that is proved to fit: `try_from` would make a Result that is never an Err.
+#![tactic(auto, unfolding(scope::specs::Choice::pick))]
 
-ghost use Rattle.std.specs.Prelude.{◌≡◌, ◌+◌, ◌-◌, ◌*◌, ◌%◌, ◌^◌, ◌<◌, ◌≤◌, length, get_or, eqb, ltb, leb};
+ghost use Rattle.std.specs.Prelude.{◌≡◌, ◌+◌, ◌-◌, ◌*◌, ◌%◌, ◌^◌, ◌<◌, ◌≤◌, length, get_or, eqb, ltb, leb, MatchOption};
 ghost use Rattle.scope.specs.Choice.{pick, every, bits};
 ghost use Rattle.scope.specs.Areas.{is_free};
 ghost use Rattle.scope.specs.Places.{row_of, with_row, longest_free, first_leaves, joins_last, new_row};
@@ -13,13 +14,8 @@ pub fn row_of(places: &[u8], i: usize) -> [u8; 64]
     requires { i * 64 + 64 ≤ length places.now }
     ensures { result ≡ row_of places.now i }
 {
-    let base = i * 64;
-    let mut row = [0u8; 64];
-    let mut k: usize = 0;
-    while k < 64 {
-        row[k] = places[base + k];
-        k += 1;
-    }
+    let mut row = [0; 64];
+    row.copy_from_slice(&places[i * 64..i * 64 + 64]);
     row
 }
 
@@ -28,12 +24,7 @@ pub fn put_row(places: &mut [u8], i: usize, row: [u8; 64])
     requires { i * 64 + 64 ≤ length places.old }
     ensures { places.new ≡ with_row places.old i row }
 {
-    let base = i * 64;
-    let mut k: usize = 0;
-    while k < 64 {
-        places[base + k] = row[k];
-        k += 1;
-    }
+    places[i * 64..i * 64 + 64].copy_from_slice(&row);
 }
 
 // `k` where place `x` is the first, else 64.
@@ -47,55 +38,30 @@ fn if_first(x: u8, k: usize) -> u8
     64
 }
 
-fn lesser(x: u8, y: u8) -> u8
-    ensures { result ≡ pick (ltb x y) x y }
-{
-    if x < y {
-        return x;
-    }
-    y
-}
-
-fn number(x: u8) -> u32
-    ensures { result ≡ x }
-{
-    x as u32
-}
-
-// "the buffer that has been free longest"; 64 where none is free.
-pub fn longest_free(row: [u8; 64]) -> u32
-    ensures { result ≡ longest_free row }
+// "the buffer that has been free longest", if one is free. (The definition has 64 for none, as the loop does: one least number is taken
+// of sixteen places at a time.)
+pub fn longest_free(row: [u8; 64]) -> Option<u32>
+    ensures { MatchOption result (64 ≡ longest_free row) (λ k. (k < 64) × (k ≡ longest_free row)) }
 {
     let mut found: u8 = 64;
-    let mut k: usize = 0;
-    while k < 64 {
-        found = lesser(found, if_first(row[k], k));
-        k += 1;
+    for k in 0..64 {
+        found = found.min(if_first(row[k], k));
     }
-    number(found)
-}
-
-fn forward(x: u8) -> u8
-    ensures { result ≡ x - 1 }
-{
-    if 0 < x {
-        return x - 1;
+    if found < 64 {
+        return Some(u32::from(found));
     }
-    0
+    None
 }
 
 // The first leaves, and those behind it come forward.
 pub fn first_leaves(row: [u8; 64]) -> [u8; 64]
     ensures { result ≡ first_leaves row }
 {
-    let mut r = row;
-    let mut k: usize = 0;
-    while k < 64 {
-        let x = forward(r[k]);
-        r[k] = x;
-        k += 1;
+    let mut places = row;
+    for x in places.iter_mut() {
+        *x = x.saturating_sub(1);
     }
-    r
+    places
 }
 
 // Buffer `k` of pool `i` joins at the end, behind the `free` ones. One place is written, and none is read.
@@ -121,13 +87,11 @@ fn new_place(k: usize, n: usize) -> u8
 pub fn new_row(n: usize) -> [u8; 64]
     ensures { result ≡ new_row n }
 {
-    let mut r = [0u8; 64];
-    let mut k: usize = 0;
-    while k < 64 {
-        r[k] = new_place(k, n);
-        k += 1;
+    let mut row = [0; 64];
+    for k in 0..64 {
+        row[k] = new_place(k, n);
     }
-    r
+    row
 }
 
 // Whether no place of pool `i`'s row is above `most`. The row is read where it lies.
@@ -135,13 +99,9 @@ fn none_above(places: &[u8], i: usize, most: u8) -> bool
     requires { i * 64 + 64 ≤ length places.now }
     ensures { result ≡ every (λ k. leb (get_or (row_of places.now i) k 0) most) 64 }
 {
-    let base = i * 64;
     let mut ok = true;
-    let mut k: usize = 0;
-    while k < 64 {
-        let right = places[base + k] <= most;
-        ok = right & ok;
-        k += 1;
+    for x in &places[i * 64..i * 64 + 64] {
+        ok = (*x <= most) & ok;
     }
     ok
 }
@@ -150,17 +110,14 @@ fn none_above(places: &[u8], i: usize, most: u8) -> bool
 fn has_place(x: u8) -> u64
     ensures { result ≡ pick (ltb 0 x) 1 0 }
 {
-    if 0 < x {
-        return 1;
-    }
-    0
+    u64::from(0 < x)
 }
 
 // The bit of place `x` in a word: that of place 64 is the one of 0, which a buffer without a place has.
 fn place_bit(x: u8) -> u64
     ensures { result ≡ 2 ^ (x % 64) }
 {
-    1u64 << (number(x) % 64)
+    1u64 << (u32::from(x) % 64)
 }
 
 // The word whose lowest `w` bits are set.
@@ -168,7 +125,7 @@ fn lowest(w: u32) -> u64
     requires { (1 ≤ w) × (w ≤ 64) }
     ensures { result ≡ 2 ^ w - 1 }
 {
-    18446744073709551615 >> (64 - w)
+    u64::MAX >> (64 - w)
 }
 
 // The word of the free buffers, of `n`.
@@ -203,9 +160,7 @@ pub fn order_right(places: &[u8], i: usize, out: u64, n: u32) -> bool
     let base = i * 64;
     let mut taken: u64 = 0;
     let mut seen: u64 = 0;
-    let mut k: usize = 64;
-    while 0 < k {
-        k -= 1;
+    for k in (0..64).rev() {
         let x = places[base + k];
         taken = taken * 2 + has_place(x);
         seen = seen | place_bit(x);

@@ -1,103 +1,36 @@
-// The pool calls, a chapter of the call table. `pool_part` is lent the columns that they read or change; it tests the caller and chooses by number.
-// `pool` lends the columns of the state, all at once, and what is left in them is the state's.
-// (scope's specs/Step.antt and Calls.antt.) Printed by tools/generate/run: what a call takes is read from its own source.
+// The pool calls, a chapter of the call table: `pool` makes the call of a kind. Who may make it is tested before.
+// (scope's specs/Calls.antt.)
 #![tactic(auto)]
 
-ghost use Rattle.std.specs.Prelude.{◌≡◌, ℕ, ◌<◌, ◌≤◌, List};
-ghost use Rattle.scope.specs.Step.{answered};
-ghost use Rattle.scope.specs.declared.State.{State};
-ghost use Rattle.answers.specs.Outcomes.{answer_of};
-ghost use Rattle.answers.specs.Columns.{lent_pools};
+ghost use Rattle.std.specs.Prelude.{◌≡◌, ℕ, List};
+ghost use Rattle.scope.specs.Calls.{call_at};
+ghost use Rattle.rows.specs.Kinds.{pool_number};
+ghost use Rattle.answers.specs.Outcomes.{answer_of, outcome_of};
 
 use answers::Outcome;
-use chapters::Asked;
-use scope::State;
+use rows::PoolCall;
+use scope::{Refusal, Request, State};
 
-// A pool call.
-fn pool_part(
-    out: &mut [u64; 8],
-    name: &mut [u32; 8],
-    address: &mut [u32; 8],
-    length: &mut [u32; 8],
-    size: &mut [u32; 8],
-    serial: &mut [u16; 8],
-    live: &mut [bool; 8],
-    forced: &mut [bool; 8],
-    place: &mut [u8; 512],
-    wakes: &mut [u32; 32],
-    x: Asked,
-) -> Outcome
-    requires { (14 ≤ x.call) × (x.call < 20) }
-    ensures { (s : State) (m : List ℕ) → answer_of (lent_pools s out.new name.new address.new length.new
-        size.new serial.new live.new forced.new place.new x.running) wakes.new result
-        ≡ answered (lent_pools s out.old name.old address.old length.old size.old
-        serial.old live.old forced.old place.old x.running) x.call x.mark x.a x.b x.c
-        x.d x.e m }
-{
-    *wakes = [0; 32];
-    let refusal = chapters::caller_refusal(x.call, x.mark, x.running);
-    if refusal != scope::OK {
-        return answers::plain(refusal, x.running);
-    }
-    let call = x.call;
-    match call {
-        14 => pools::pool_create(
-            out, name, address, length, size, serial, live, forced, place, x.running, x.a, x.b,
-            x.c, x.d, x.e,
-        ),
-        15 => pools::pool_delete(
-            out, name, address, length, size, serial, live, forced, place, x.running, x.a,
-        ),
-        16 => pools::pool_ident(name, serial, live, x.running, x.a),
-        17 => pools::pool_get_buff(
-            out, address, length, size, serial, live, place, x.running, x.a,
-        ),
-        18 => pools::pool_ret_buff(
-            out, address, length, size, serial, live, place, x.running, x.a, x.b,
-        ),
-        _ => pools::pool_info(out, length, size, serial, live, forced, x.running, x.a),
-    }
-}
-
-// A pool call, on a state lent as one thing.
+// A pool call, on a state lent as one thing: chosen by its kind. It wakes nobody.
 pub fn pool(
     s: &mut State,
     wakes: &mut [u32; 32],
-    call: u32,
-    mark: u32,
-    a: u32,
-    b: u32,
-    c: u32,
-    d: u32,
-    e: u32,
-) -> Outcome
-    requires { (14 ≤ call) × (call < 20) }
-    ensures { ((m : List ℕ) → answer_of s.new wakes.new result ≡ answered s.old call mark a b c d e m) × (s.new.running ≡ result.runs) }
+    call: PoolCall,
+    request: &Request,
+) -> Result<Outcome, Refusal>
+    ensures answer { (m : List ℕ) → answer_of s.new wakes.new (outcome_of s.old.running result)
+        ≡ (call_at (pool_number call)).does s.old request.now.a request.now.b request.now.c request.now.d request.now.e m }
+    ensures running { s.new.running ≡ s.old.running }
 {
-    let running = s.running;
-    let x = Asked {
-        call: call,
-        mark: mark,
-        a: a,
-        b: b,
-        c: c,
-        d: d,
-        e: e,
-        running: running,
-    };
-    let o = pool_part(
-        &mut s.pools.out,
-        &mut s.pools.name,
-        &mut s.pools.address,
-        &mut s.pools.length,
-        &mut s.pools.size,
-        &mut s.pools.serial,
-        &mut s.pools.live,
-        &mut s.pools.forced,
-        &mut s.pools.place,
-        wakes,
-        x,
-    );
-    s.running = o.runs;
-    o
+    *wakes = [0; 32];
+    match call {
+        PoolCall::Create => pools::pool_create(
+            s, request.a, request.b, request.c, request.d, request.e,
+        ),
+        PoolCall::Delete => pools::pool_delete(s, request.a),
+        PoolCall::Ident => pools::pool_ident(&*s, request.a),
+        PoolCall::GetBuff => pools::pool_get_buff(s, request.a),
+        PoolCall::RetBuff => pools::pool_ret_buff(s, request.a, request.b),
+        PoolCall::Info => pools::pool_info(&*s, request.a),
+    }
 }

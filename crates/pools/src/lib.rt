@@ -1,297 +1,179 @@
-// The pool calls: chapter 6, as document 01 fixes it. Each is lent the pools' columns that it reads or changes, and changes them
-// where they lie. (scope's specs/Pools.antt.) Where an argument has a column's name, the column's is in the plural.
-#![tactic(auto)]
+// The pool calls. Each is lent the state and changes it where it lies; a refused call leaves it as it was.
+// (scope's specs/Pools.antt.)
+// (A cast by `as` stands where Rust has no `From`; each is proved to lose nothing.)
+#![tactic(auto, unfolding(scope::specs::Choice::pick, tables::specs::Slots::slot_of, scope::specs::Answers::on_found, scope::specs::Answers::plain, scope::specs::Answers::gives, scope::specs::Answers::answer, answers::specs::Outcomes::outcome, answers::specs::Outcomes::answer_of, scope::specs::Areas::is_free, scope::specs::Pools::pool_create, scope::specs::Pools::pool_create_at, scope::specs::Pools::pool_delete_at, scope::specs::Pools::pool_ident, scope::specs::Pools::pool_ident_at, scope::specs::Pools::pool_get_buff_at, scope::specs::Pools::pool_get_buffer, scope::specs::Pools::pool_ret_buff_at, scope::specs::Pools::pool_ret_buffer, scope::specs::Pools::pool_info_at), using(scope::proofs::Buffers::buffers_few, crate::proofs::Laws::free_few))]
 
-ghost use Rattle.std.specs.Prelude.{◌≡◌, not, ◌&&◌, ℕ, ◌+◌, ◌≤◌, ◌<◌, get_or, ltb, eqb};
-ghost use Rattle.scope.specs.declared.State.{State};
-ghost use Rattle.scope.specs.Choice.{pick};
-ghost use Rattle.scope.specs.Statuses.{OK, INVALID_PARAMETER, INVALID_OPTIONS, INVALID_BUFF_SIZE};
-ghost use Rattle.scope.specs.Identifiers.{identifier, found};
-ghost use Rattle.scope.specs.Areas.{is_area, is_size, is_out, is_free};
-ghost use Rattle.scope.specs.Options.{FORCED_DELETE, last_option};
-ghost use Rattle.scope.specs.Views.{with_pools};
-ghost use Rattle.scope.specs.Answers.{no_wakes, plain, gives};
-ghost use Rattle.scope.specs.Pools.{pool_born, pool_create, pool_delete, pool_ident, pool_get_buff, pool_ret_buff, pool_info};
-ghost use Rattle.answers.specs.Outcomes.{answer_of};
-ghost use Rattle.answers.specs.Columns.{lent_pools};
-ghost use Rattle.tables.specs.Slots.{slot_of};
+ghost use Rattle.std.specs.Prelude.{◌≡◌, ◌<◌, ◌≤◌, set};
+ghost use Rattle.scope.specs.Places.{with_row};
+ghost use Rattle.scope.specs.Answers.{no_wakes};
+ghost use Rattle.scope.specs.Pools.{pool_buffers, pool_create, pool_delete, pool_ident, pool_get_buff, pool_ret_buff, pool_info};
+ghost use Rattle.answers.specs.Outcomes.{answer_of, outcome_of};
 
 use answers::Outcome;
-use tables::Slot;
+use scope::{Pools, Refusal, State};
 
-// "pool_create: 3, 14, 6, 7, 15": the first three, which look at the arguments alone; 0 where they are admitted.
-fn refusal(address: u32, length: u32, size: u32, options: u32) -> u32
-    ensures { result
-        ≡ pick (not (is_area address length)) INVALID_PARAMETER (pick (not (is_size length size)) INVALID_BUFF_SIZE (pick (ltb last_option options) INVALID_OPTIONS OK)) }
+// What a slot of the table holds beside its serial, no buffer being out.
+#[derive(Drop)]
+struct Pool {
+    name: u32,
+    address: u32,
+    length: u32,
+    size: u32,
+    live: bool,
+    forced: bool,
+    places: [u8; 64],
+}
+
+// Slot i holds that pool. Its serial stays.
+fn put_pool(pools: &mut Pools, i: usize, pool: Pool)
+    requires { i < 8 }
+    ensures { pools.new ≡ record pools.old {
+      out = set pools.old.out i 0;
+      name = set pools.old.name i pool.name;
+      address = set pools.old.address i pool.address;
+      length = set pools.old.length i pool.length;
+      size = set pools.old.size i pool.size;
+      live = set pools.old.live i pool.live;
+      forced = set pools.old.forced i pool.forced;
+      place = with_row pools.old.place i pool.places;
+    } }
+{
+    pools.out[i] = 0;
+    pools.name[i] = pool.name;
+    pools.address[i] = pool.address;
+    pools.length[i] = pool.length;
+    pools.size[i] = pool.size;
+    pools.live[i] = pool.live;
+    pools.forced[i] = pool.forced;
+    places::put_row(&mut pools.place, i, pool.places);
+}
+
+// "pool_create: 3, 14, 6, 7, 15": a full table is told before an overlap is looked for. The new pool takes the lowest slot.
+pub fn pool_create(
+    s: &mut State,
+    name: u32,
+    address: u32,
+    length: u32,
+    size: u32,
+    options: u32,
+) -> Result<Outcome, Refusal>
+    ensures answer { answer_of s.new no_wakes (outcome_of s.old.running result)
+        ≡ pool_create s.old name address length size options }
+    ensures running { s.new.running ≡ s.old.running }
 {
     if !areas::is_area(address, length) {
-        return scope::INVALID_PARAMETER;
+        return Err(Refusal::InvalidParameter);
     }
     if !areas::is_size(length, size) {
-        return scope::INVALID_BUFF_SIZE;
+        return Err(Refusal::InvalidBuffSize);
     }
     if scope::LAST_OPTION < options {
-        return scope::INVALID_OPTIONS;
+        return Err(Refusal::InvalidOptions);
     }
-    scope::OK
+    let i = tables::lowest_usable(&s.pools).ok_or(Refusal::TooManyObjects)?;
+    if areas::overlapped(&s.pools, address, length).is_some() {
+        return Err(Refusal::PoolOverlap);
+    }
+    let next = s.pools.serial[i] + 1;
+    s.pools.serial[i] = next;
+    let pool = Pool {
+        name,
+        address,
+        length,
+        size,
+        live: true,
+        forced: options == scope::FORCED_DELETE,
+        places: places::new_row(areas::buffers_of(length, size) as usize),
+    };
+    put_pool(&mut s.pools, i, pool);
+    Ok(answers::gives(tables::identifier(next, i), s.running))
 }
 
-// The other two. The lowest slot, which the new pool takes, or the refusal. A full table is told before an overlap is looked for.
-fn room<'a>(
-    addresses: &[u32; 8],
-    lengths: &[u32; 8],
-    serial: &'a [u16; 8],
-    live: &'a [bool; 8],
-    address: u32,
-    length: u32,
-    size: u32,
-    options: u32,
-) -> Slot
-    ensures tells { (s : State) (name : ℕ) → s.pools.address ≡ addresses.now → s.pools.length ≡ lengths.now
-        → s.pools.serial ≡ serial.now → s.pools.live ≡ live.now → pool_create s name address length size options
-        ≡ pick (eqb result.status OK) (gives (with_pools s (pool_born s.pools result.at name address length size (eqb options FORCED_DELETE)))
-        (identifier (get_or s.pools.serial result.at 0 + 1) result.at)) (plain s result.status) }
-    ensures left { (result.at < 8) × (result.status ≡ OK → get_or serial.now result.at 0 < 65535) }
+// How many buffers the pool has, free or out: at most 64, as many as have marks and places.
+fn buffers(pools: &Pools, i: usize) -> u32
+    requires { i < 8 }
+    ensures value { result ≡ pool_buffers pools.now i }
+    ensures few { result ≤ 64 }
 {
-    let status = refusal(address, length, size, options);
-    if status != scope::OK {
-        return tables::refused(status);
-    }
-    let i = tables::lowest_usable(serial, live);
-    if 8 <= i {
-        return tables::refused(scope::TOO_MANY_OBJECTS);
-    }
-    if areas::overlapped(addresses, lengths, live, address, length) < 8 {
-        return tables::refused(scope::POOL_OVERLAP);
-    }
-    tables::taken(i)
+    areas::buffers_of(pools.length[i], pools.size[i])
 }
 
-pub fn pool_create(
-    out: &mut [u64; 8],
-    names: &mut [u32; 8],
-    addresses: &mut [u32; 8],
-    lengths: &mut [u32; 8],
-    sizes: &mut [u32; 8],
-    serial: &mut [u16; 8],
-    live: &mut [bool; 8],
-    forced: &mut [bool; 8],
-    place: &mut [u8; 512],
-    running: usize,
-    name: u32,
-    address: u32,
-    length: u32,
-    size: u32,
-    options: u32,
-) -> Outcome
-    ensures { (s : State) → answer_of (lent_pools s out.new names.new addresses.new
-        lengths.new sizes.new serial.new live.new forced.new place.new running) no_wakes result
-        ≡ pool_create (lent_pools s out.old names.old addresses.old lengths.old
-        sizes.old serial.old live.old forced.old place.old running) name address length size options }
+// "buffers out, not FORCED_DELETE" is refused.
+pub fn pool_delete(s: &mut State, id: u32) -> Result<Outcome, Refusal>
+    ensures answer { answer_of s.new no_wakes (outcome_of s.old.running result) ≡ pool_delete s.old id }
+    ensures running { s.new.running ≡ s.old.running }
 {
-    let f = room(
-        addresses, lengths, serial, live, address, length, size, options,
-    );
-    if f.status != scope::OK {
-        return answers::plain(f.status, running);
+    let i = tables::find(&s.pools, id)?;
+    if !s.pools.forced[i] && 0 < s.pools.out[i] {
+        return Err(Refusal::PoolInUse);
     }
-    let i = f.at;
-    let next = serial[i] + 1;
-    out[i] = 0;
-    names[i] = name;
-    addresses[i] = address;
-    lengths[i] = length;
-    sizes[i] = size;
-    serial[i] = next;
-    live[i] = true;
-    forced[i] = options == scope::FORCED_DELETE;
-    let row = places::new_row(areas::buffers_of(length, size) as usize);
-    places::put_row(place, i, row);
-    answers::gives(tables::identifier(next, i), running)
+    let none = Pool {
+        name: 0,
+        address: 0,
+        length: 0,
+        size: 0,
+        live: false,
+        forced: false,
+        places: [0; 64],
+    };
+    put_pool(&mut s.pools, i, none);
+    Ok(answers::plain(scope::OK, s.running))
 }
 
-// The pool an identifier names.
-fn named<'a>(serial: &'a [u16; 8], live: &'a [bool; 8], id: u32) -> Slot
-    ensures value { result ≡ slot_of (found serial.now live.now id) }
-    ensures at_bound { result.at < 8 }
+// The live pool of that name in the lowest slot.
+pub fn pool_ident(s: &State, name: u32) -> Result<Outcome, Refusal>
+    ensures { answer_of s.now no_wakes (outcome_of s.now.running result) ≡ pool_ident s.now name }
 {
-    tables::find(serial, live, id)
+    let id = tables::ident(&s.pools, name)?;
+    Ok(answers::gives(id, s.running))
 }
 
-pub fn pool_delete(
-    out: &mut [u64; 8],
-    name: &mut [u32; 8],
-    address: &mut [u32; 8],
-    length: &mut [u32; 8],
-    size: &mut [u32; 8],
-    serial: &[u16; 8],
-    live: &mut [bool; 8],
-    forced: &mut [bool; 8],
-    place: &mut [u8; 512],
-    running: usize,
-    id: u32,
-) -> Outcome
-    ensures { (s : State) → answer_of (lent_pools s out.new name.new address.new length.new
-        size.new serial.now live.new forced.new place.new running) no_wakes result
-        ≡ pool_delete (lent_pools s out.old name.old address.old length.old size.old
-        serial.now live.old forced.old place.old running) id }
+// "pool_get_buff now gives the buffer that has been free longest". A buffer on the first place that is out is given in no state
+// that keeps the rules.
+pub fn pool_get_buff(s: &mut State, id: u32) -> Result<Outcome, Refusal>
+    ensures answer { answer_of s.new no_wakes (outcome_of s.old.running result) ≡ pool_get_buff s.old id }
+    ensures running { s.new.running ≡ s.old.running }
 {
-    let f = named(serial, live, id);
-    if f.status != scope::OK {
-        return answers::plain(f.status, running);
+    let i = tables::find(&s.pools, id)?;
+    let n = buffers(&s.pools, i);
+    let marks = s.pools.out[i];
+    let row = places::row_of(&s.pools.place, i);
+    let k = places::longest_free(row).ok_or(Refusal::NoMoreMemory)?;
+    if n <= k || areas::is_out(marks, k) {
+        return Err(Refusal::NoMoreMemory);
     }
-    let i = f.at;
-    if !forced[i] {
-        if 0 < out[i] {
-            return answers::plain(scope::POOL_IN_USE, running);
-        }
-    }
-    out[i] = 0;
-    name[i] = 0;
-    address[i] = 0;
-    length[i] = 0;
-    size[i] = 0;
-    live[i] = false;
-    forced[i] = false;
-    let row = [0u8; 64];
-    places::put_row(place, i, row);
-    answers::plain(scope::OK, running)
-}
-
-pub fn pool_ident<'a>(
-    names: &'a [u32; 8],
-    serial: &[u16; 8],
-    live: &'a [bool; 8],
-    running: usize,
-    name: u32,
-) -> Outcome
-    ensures { (s : State) → answer_of (lent_pools s s.pools.out
-        names.now s.pools.address s.pools.length s.pools.size serial.now
-        live.now s.pools.forced s.pools.place running) no_wakes result
-        ≡ pool_ident (lent_pools s s.pools.out names.now s.pools.address s.pools.length s.pools.size
-        serial.now live.now s.pools.forced s.pools.place running) name }
-{
-    let i = tables::by_name(live, names, name);
-    if 8 <= i {
-        return answers::plain(scope::NAME_NOT_FOUND, running);
-    }
-    answers::gives(tables::identifier(serial[i], i), running)
-}
-
-// Buffer k of n is one that is free.
-fn is_free(marks: u64, n: u32, k: u32) -> bool
-    requires { n ≤ 64 }
-    ensures { result ≡ (ltb k n && is_free marks k) }
-{
-    if n <= k {
-        return false;
-    }
-    !areas::is_out(marks, k)
-}
-
-// "pool_get_buff now gives the buffer that has been free longest" (M-103). A buffer on the first place that is out is given in no
-// state that keeps the rules.
-pub fn pool_get_buff<'a>(
-    out: &mut [u64; 8],
-    address: &[u32; 8],
-    length: &[u32; 8],
-    size: &[u32; 8],
-    serial: &'a [u16; 8],
-    live: &'a [bool; 8],
-    place: &mut [u8; 512],
-    running: usize,
-    id: u32,
-) -> Outcome
-    ensures { (s : State) → answer_of (lent_pools s out.new s.pools.name address.now length.now
-        size.now serial.now live.now s.pools.forced place.new running) no_wakes result
-        ≡ pool_get_buff (lent_pools s out.old s.pools.name address.now length.now size.now
-        serial.now live.now s.pools.forced place.old running) id }
-{
-    let f = named(serial, live, id);
-    if f.status != scope::OK {
-        return answers::plain(f.status, running);
-    }
-    let i = f.at;
-    let n = areas::buffers_of(length[i], size[i]);
-    let marks = out[i];
-    let row = places::row_of(&*place, i);
-    let k = places::longest_free(row);
-    if !is_free(marks, n, k) {
-        return answers::plain(scope::NO_MORE_MEMORY, running);
-    }
-    let at = areas::buffer_address(address[i], size[i], k);
-    out[i] = areas::take(marks, k);
-    places::put_row(place, i, places::first_leaves(row));
-    answers::gives(at, running)
-}
-
-// Buffer k is one that is out.
-fn is_out(marks: u64, k: u32) -> bool
-    ensures { result ≡ (ltb k 64 && is_out marks k) }
-{
-    if 64 <= k {
-        return false;
-    }
-    areas::is_out(marks, k)
+    let at = areas::buffer_address(s.pools.address[i], s.pools.size[i], k);
+    s.pools.out[i] = areas::take(marks, k);
+    places::put_row(&mut s.pools.place, i, places::first_leaves(row));
+    Ok(answers::gives(at, s.running))
 }
 
 // "Any task may return a buffer." It joins the free ones at the end of their order.
-pub fn pool_ret_buff<'a>(
-    out: &mut [u64; 8],
-    address: &[u32; 8],
-    length: &[u32; 8],
-    size: &[u32; 8],
-    serial: &'a [u16; 8],
-    live: &'a [bool; 8],
-    place: &mut [u8; 512],
-    running: usize,
-    id: u32,
-    x: u32,
-) -> Outcome
-    ensures { (s : State) → answer_of (lent_pools s out.new s.pools.name address.now length.now
-        size.now serial.now live.now s.pools.forced place.new running) no_wakes result
-        ≡ pool_ret_buff (lent_pools s out.old s.pools.name address.now length.now size.now
-        serial.now live.now s.pools.forced place.old running) id x }
+pub fn pool_ret_buff(s: &mut State, id: u32, x: u32) -> Result<Outcome, Refusal>
+    ensures answer { answer_of s.new no_wakes (outcome_of s.old.running result) ≡ pool_ret_buff s.old id x }
+    ensures running { s.new.running ≡ s.old.running }
 {
-    let f = named(serial, live, id);
-    if f.status != scope::OK {
-        return answers::plain(f.status, running);
-    }
-    let i = f.at;
-    let n = areas::buffers_of(length[i], size[i]);
-    let marks = out[i];
-    let k = areas::buffer_at(address[i], size[i], n, x);
-    if !is_out(marks, k) {
-        return answers::plain(scope::INVALID_BUFF, running);
+    let i = tables::find(&s.pools, id)?;
+    let n = buffers(&s.pools, i);
+    let marks = s.pools.out[i];
+    let starts = areas::buffer_at(s.pools.address[i], s.pools.size[i], n, x);
+    let k = starts.ok_or(Refusal::InvalidBuff)?;
+    if !areas::is_out(marks, k) {
+        return Err(Refusal::InvalidBuff);
     }
     let free = areas::free_of(marks, n);
-    out[i] = areas::give_back(marks, k);
-    places::join_last(place, i, free, k as usize);
-    answers::plain(scope::OK, running)
+    s.pools.out[i] = areas::give_back(marks, k);
+    places::join_last(&mut s.pools.place, i, free, k as usize);
+    Ok(answers::plain(scope::OK, s.running))
 }
 
 // "pool_info gives buffers, free, size, options"
-pub fn pool_info<'a>(
-    out: &[u64; 8],
-    length: &[u32; 8],
-    size: &[u32; 8],
-    serial: &'a [u16; 8],
-    live: &'a [bool; 8],
-    forced: &[bool; 8],
-    running: usize,
-    id: u32,
-) -> Outcome
-    ensures { (s : State) → answer_of (lent_pools s out.now s.pools.name s.pools.address length.now
-        size.now serial.now live.now forced.now s.pools.place running) no_wakes result
-        ≡ pool_info (lent_pools s out.now s.pools.name s.pools.address length.now size.now
-        serial.now live.now forced.now s.pools.place running) id }
+pub fn pool_info(s: &State, id: u32) -> Result<Outcome, Refusal>
+    ensures { answer_of s.now no_wakes (outcome_of s.now.running result) ≡ pool_info s.now id }
 {
-    let f = named(serial, live, id);
-    if f.status != scope::OK {
-        return answers::plain(f.status, running);
-    }
-    let i = f.at;
-    let n = areas::buffers_of(length[i], size[i]);
-    let free = areas::free_of(out[i], n);
-    answers::tells(n, free, size[i], answers::bit(forced[i]), false, running)
+    let i = tables::find(&s.pools, id)?;
+    let n = buffers(&s.pools, i);
+    let free = areas::free_of(s.pools.out[i], n);
+    let forced = answers::bit(s.pools.forced[i]);
+    Ok(answers::tells(n, free, s.pools.size[i], forced, false, s.running))
 }

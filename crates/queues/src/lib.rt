@@ -1,449 +1,207 @@
-// The queue calls: chapter 8, as document 02 fixes it (M-100). Only what a queue holds is moved among its cells; a message handed to a
+// The queue calls. Only what a queue holds is moved among its cells; a message handed to a
 // waiter is written once, into what is shown. queue_send and queue_jump may come from an interrupt.
-// Each call is lent the columns it reads or changes, and changes them where they lie. (scope's specs/Queues.antt.)
-#![tactic(auto)]
+// Each call is lent the state and changes it where it lies; who runs then, its outcome says. A refusal changes nothing.
+// (scope's specs/Queues.antt.)
+// (A cast by `as` stands where Rust has no `From`; each is proved to lose nothing.)
+// (Queue i is object 16 + i, as the definitions have it. A message is lent whole, with how many of its bytes count: so the definitions
+// `shown_of` and `cell_of` take it.)
+#![tactic(auto, unfolding(scope::specs::Choice::pick, tables::specs::Slots::slot_of, scope::specs::Answers::on_found, scope::specs::Answers::plain, scope::specs::Answers::gives, scope::specs::Answers::shows, scope::specs::Answers::answer, scope::specs::Answers::wakes_with, scope::specs::Answers::delivers_to, scope::specs::Answers::bit_of, answers::specs::Outcomes::outcome, answers::specs::Outcomes::woke, answers::specs::Outcomes::delivered, answers::specs::Outcomes::answer_of, answers::specs::Outcomes::answer_shown, waiting::specs::Calls::time_out, waiting::specs::Calls::wait_for, scope::specs::Queues::are_limits, scope::specs::Queues::fits_queue, scope::specs::Queues::queue_create, scope::specs::Queues::queue_create_at, scope::specs::Queues::queue_delete_at, scope::specs::Queues::queue_ident, scope::specs::Queues::queue_ident_at, scope::specs::Queues::queue_put_at, scope::specs::Queues::queue_wait_at, scope::specs::Queues::queue_receive_at, scope::specs::Queues::queue_info_at), using(seats::proofs::Laws::few))]
 
-ghost use Rattle.std.specs.Prelude.{◌≡◌, Bool, ℕ, ◌<◌, ◌≤◌, List, get_or, length};
-ghost use Rattle.scope.specs.declared.State.{State};
-ghost use Rattle.scope.specs.Answers.{no_wakes};
-ghost use Rattle.scope.specs.Identifiers.{found};
-ghost use Rattle.scope.specs.Queues.{queue_create, queue_delete, queue_ident, fits_queue, queue_send, queue_jump, queue_receive, queue_info};
-ghost use Rattle.answers.specs.Outcomes.{answer_shown, answer_of};
-ghost use Rattle.answers.specs.Columns.{lent_queues};
-ghost use Rattle.tables.specs.Slots.{slot_of};
-ghost use Rattle.queues.specs.Handing.{handed, room_of, way, way_of, receive_status};
+ghost use Rattle.std.specs.Prelude.{◌≡◌, true, ◌<◌, ◌≤◌, length};
+ghost use Rattle.scope.specs.Answers.{no_wakes, on_found};
+ghost use Rattle.scope.specs.Queues.{queue_create, queue_delete, queue_ident, queue_found, fits_queue, store_of, with_store, queue_put_at, queue_send, queue_jump, queue_receive, queue_info};
+ghost use Rattle.answers.specs.Outcomes.{answer_shown, answer_of, outcome_of};
+ghost use Rattle.queues.specs.Handing.{handed, put_of};
 
-use answers::Outcome;
-use chapters::Asked;
-use tables::Slot;
+use answers::{Notices, Outcome};
+use rows::SendCall;
+use scope::{Queues, Refusal, State};
 
-// The queue an identifier names.
-fn named<'a>(serial: &'a [u16; 8], live: &'a [bool; 8], id: u32) -> Slot
-    ensures value { result ≡ slot_of (found serial.now live.now id) }
-    ensures at_bound { result.at < 8 }
-{
-    tables::find(serial, live, id)
-}
+// The longest message that any queue holds.
+const LAST_LENGTH: u32 = 64;
 
-// The slot a new queue takes.
-fn room<'a>(
-    serial: &'a [u16; 8],
-    live: &'a [bool; 8],
-    most: u32,
-    longest: u32,
-    options: u32,
-) -> Slot
-    ensures value { result ≡ room_of serial.now live.now most longest options }
-    ensures at_bound { (result.at < 8) × (result.status ≡ 0 → (get_or serial.now result.at 0 < 65535) × (most ≤ 16) × (longest ≤ 64)) }
-{
-    if !messages::are_limits(most, longest) {
-        return tables::refused(scope::INVALID_PARAMETER);
-    }
-    if scope::LAST_OPTION < options {
-        return tables::refused(scope::INVALID_OPTIONS);
-    }
-    let i = tables::lowest_usable(serial, live);
-    if 8 <= i {
-        return tables::refused(scope::TOO_MANY_OBJECTS);
-    }
-    tables::taken(i)
-}
-
+// A new queue in the lowest slot that is free.
 pub fn queue_create(
-    name: &mut [u32; 8],
-    serial: &mut [u16; 8],
-    live: &mut [bool; 8],
-    fifo: &mut [bool; 8],
-    limits: &mut [u8; 16],
-    running: usize,
+    s: &mut State,
     what: u32,
     most: u32,
     longest: u32,
     options: u32,
-) -> Outcome
-    ensures { (s : State) → answer_of (lent_queues s s.line.left s.line.seat s.line.joined s.line.rings
-        s.tasks.serial s.tasks.suspended s.tasks.priority name.new serial.new live.new
-        fifo.new limits.new s.queues.held s.queues.cells running) no_wakes result
-        ≡ queue_create (lent_queues s s.line.left s.line.seat s.line.joined s.line.rings s.tasks.serial
-        s.tasks.suspended s.tasks.priority name.old serial.old live.old fifo.old
-        limits.old s.queues.held s.queues.cells running) what most longest options }
+) -> Result<Outcome, Refusal>
+    ensures answer { answer_of s.new no_wakes (outcome_of s.old.running result) ≡ queue_create s.old what most longest options }
+    ensures running { s.new.running ≡ s.old.running }
 {
-    let f = room(&*serial, &*live, most, longest, options);
-    if f.status != scope::OK {
-        return answers::plain(f.status, running);
+    if !messages::are_limits(most, longest) {
+        return Err(Refusal::InvalidParameter);
     }
-    let i = f.at;
-    let next = serial[i] + 1;
-    name[i] = what;
-    serial[i] = next;
-    live[i] = true;
-    fifo[i] = options == scope::FIFO;
-    limits[2 * i] = most as u8;
-    limits[2 * i + 1] = longest as u8;
-    answers::gives(tables::identifier(next, i), running)
+    if scope::LAST_OPTION < options {
+        return Err(Refusal::InvalidOptions);
+    }
+    let u = &mut s.queues;
+    let i = tables::lowest_usable(&*u).ok_or(Refusal::TooManyObjects)?;
+    let next = u.serial[i] + 1;
+    u.name[i] = what;
+    u.serial[i] = next;
+    u.live[i] = true;
+    u.fifo[i] = options == scope::FIFO;
+    u.limits[2 * i] = most as u8;
+    u.limits[2 * i + 1] = longest as u8;
+    Ok(answers::gives(tables::identifier(next, i), s.running))
 }
 
 // "Delete drops what is held and wakes waiters in order."
-pub fn queue_delete(
-    left: &mut [u32; 32],
-    seat: &mut [u16; 32],
-    joined: &mut [u8; 32],
-    rings: &mut [u16; 1],
-    waker: &[u16; 32],
-    suspended: &[bool; 32],
-    priority: &[u8; 32],
-    name: &mut [u32; 8],
-    serial: &[u16; 8],
-    live: &mut [bool; 8],
-    fifo: &mut [bool; 8],
-    limits: &mut [u8; 16],
-    held: &mut [u8; 8],
-    cells: &mut [u8; 8320],
-    wakes: &mut [u32; 32],
-    x: Asked,
-) -> Outcome
-    ensures { (s : State) → answer_of (lent_queues s left.new seat.new joined.new rings.new
-        waker.now suspended.now priority.now name.new serial.now live.new
-        fifo.new limits.new held.new cells.new x.running) wakes.new result
-        ≡ queue_delete (lent_queues s left.old seat.old joined.old rings.old waker.now
-        suspended.now priority.now name.old serial.now live.old fifo.old
-        limits.old held.old cells.old x.running) x.a }
+pub fn queue_delete(s: &mut State, wakes: &mut [u32; 32], id: u32) -> Result<Outcome, Refusal>
+    ensures answer { answer_of s.new wakes.new (outcome_of s.old.running result) ≡ queue_delete s.old id }
+    ensures running { s.new.running ≡ s.old.running }
 {
     *wakes = [0; 32];
-    let f = named(serial, &*live, x.a);
-    if f.status != scope::OK {
-        return answers::plain(f.status, x.running);
-    }
-    let i = f.at;
-    let woken = waiting::wake_all(
-        left,
-        seat,
-        joined,
-        rings,
-        waker,
-        suspended,
-        priority,
-        wakes,
-        16 + i,
-    );
-    messages::clear(cells, held, i);
-    name[i] = 0;
-    live[i] = false;
-    fifo[i] = false;
-    limits[2 * i] = 0;
-    limits[2 * i + 1] = 0;
-    answers::woke(woken, scope::QUEUE_DELETED, seats::runner(seat, rings[0]))
+    let i = tables::find(&s.queues, id)?;
+    let woken = waiting::wake_all(&mut s.line, &s.tasks, wakes, 16 + i);
+    messages::clear(&mut s.queues, i);
+    let u = &mut s.queues;
+    u.name[i] = 0;
+    u.live[i] = false;
+    u.fifo[i] = false;
+    u.limits[2 * i] = 0;
+    u.limits[2 * i + 1] = 0;
+    Ok(answers::woke(woken, scope::QUEUE_DELETED, seats::runner(&s.line)))
 }
 
-pub fn queue_ident<'a>(
-    name: &'a [u32; 8],
-    serial: &[u16; 8],
-    live: &'a [bool; 8],
-    running: usize,
-    what: u32,
-) -> Outcome
-    ensures { (s : State) → answer_of (lent_queues s s.line.left s.line.seat s.line.joined s.line.rings
-        s.tasks.serial s.tasks.suspended s.tasks.priority name.now serial.now live.now
-        s.queues.fifo s.queues.limits s.queues.held s.queues.cells running) no_wakes result
-        ≡ queue_ident (lent_queues s s.line.left s.line.seat s.line.joined s.line.rings s.tasks.serial
-        s.tasks.suspended s.tasks.priority name.now serial.now live.now s.queues.fifo
-        s.queues.limits s.queues.held s.queues.cells running) what }
+// The identifier of the queue of that name.
+pub fn queue_ident(s: &State, what: u32) -> Result<Outcome, Refusal>
+    ensures { answer_of s.now no_wakes (outcome_of s.now.running result) ≡ queue_ident s.now what }
 {
-    let i = tables::by_name(live, name, what);
-    if 8 <= i {
-        return answers::plain(scope::NAME_NOT_FOUND, running);
-    }
-    answers::gives(tables::identifier(serial[i], i), running)
-}
-
-fn wide(x: u8) -> u32
-    ensures { result ≡ x }
-{
-    x as u32
+    let id = tables::ident(&s.queues, what)?;
+    Ok(answers::gives(id, s.running))
 }
 
 // Neither "too long for the queue", nor are "the lent bytes .. fewer".
 fn fits(longest: u8, n: u32, message: &[u8]) -> bool
-    ensures { result ≡ fits_queue longest n message.now }
+    ensures value { result ≡ fits_queue longest n message.now }
+    ensures told { result ≡ true → (n ≤ 64) × (n ≤ length message.now) }
 {
-    if wide(longest) < n {
-        return false;
-    }
-    if 64 < n {
-        return false;
-    }
-    (n as usize) <= message.len()
-}
-
-// Where a message goes: the queue's slot, the slot of the waiter that gets it (32 where it is held), and the refusal, else OK.
-#[derive(Clone, Copy)]
-struct Way {
-    slot: usize,
-    to: usize,
-    status: u32,
-}
-
-// No waiter gets it.
-fn to_none(slot: usize, status: u32) -> Way
-    ensures { result ≡ way slot 32 status }
-{
-    Way {
-        slot: slot,
-        to: 32,
-        status: status,
-    }
-}
-
-// "A message goes to the first waiter or else to the end". 27 before 28.
-fn way_of<'a>(
-    seat: &[u16; 32],
-    serial: &'a [u16; 8],
-    live: &'a [bool; 8],
-    limits: &[u8; 16],
-    held: &[u8; 8],
-    message: &[u8],
-    id: u32,
-    n: u32,
-) -> Way
-    ensures value { result ≡ way_of (slot_of (found serial.now live.now id)) seat.now limits.now
-        held.now n message.now }
-    ensures slot_bound { (result.slot < 8) × (result.status ≡ 0 → (n ≤ 64) × (n ≤ length message.now)) }
-{
-    let f = named(serial, live, id);
-    let i = f.at;
-    if f.status != scope::OK {
-        return to_none(i, f.status);
-    }
-    if !fits(limits[2 * i + 1], n, message) {
-        return to_none(i, scope::INVALID_LENGTH);
-    }
-    let t = seats::first_waiter(seat, 16 + i);
-    if t < 32 {
-        return Way {
-            slot: i,
-            to: t,
-            status: scope::OK,
-        };
-    }
-    if limits[2 * i] <= held[i] {
-        return to_none(i, scope::QUEUE_FULL);
-    }
-    to_none(i, scope::OK)
+    n <= u32::from(longest) && n <= LAST_LENGTH && n as usize <= message.len()
 }
 
 // The message goes to the first waiter `t`: it is shown beside the wake.
-fn deliver(
-    left: &mut [u32; 32],
-    seat: &mut [u16; 32],
-    joined: &mut [u8; 32],
-    rings: &mut [u16; 1],
-    waker: &[u16; 32],
-    suspended: &[bool; 32],
-    priority: &[u8; 32],
-    wakes: &mut [u32; 32],
-    shown: &mut [u8; 64],
-    message: &[u8],
-    n: u32,
-    t: usize,
-) -> Outcome
+fn deliver(s: &mut State, notices: &mut Notices, message: &[u8], n: u32, t: usize) -> Outcome
     requires t_bound { (t < 32) × (n ≤ 64) × (n ≤ length message.now) }
-    requires wakes_value { wakes.old ≡ no_wakes }
-    ensures { (s : State) (name serial : List ℕ) (live fifo : List Bool) (limits held cells : List ℕ) (running : ℕ) → answer_shown
-        (lent_queues s left.new seat.new joined.new rings.new waker.now
-        suspended.now priority.now name serial live fifo limits held cells running) wakes.new
-        shown.new result
-        ≡ handed (lent_queues s left.old seat.old joined.old rings.old waker.now
-        suspended.now priority.now name serial live fifo limits held cells running) n message.now t }
+    requires wakes_value { notices.old.wakes ≡ no_wakes }
+    ensures answer { answer_shown s.new notices.new.wakes notices.new.shown result ≡ handed s.old n message.now t }
+    ensures running { s.new.running ≡ s.old.running }
 {
-    waiting::wake_next(
-        left, seat, joined, rings, waker, suspended, priority, wakes, 0, t,
-    );
-    *shown = messages::shown_of(message, n as usize);
-    answers::delivered(n, seats::runner(seat, rings[0]))
+    waiting::wake_next(&mut s.line, &s.tasks, &mut notices.wakes, 0, t);
+    notices.shown = messages::shown_of(message, n as usize);
+    answers::delivered(n, seats::runner(&s.line))
 }
 
-pub fn queue_send<'a>(
-    left: &mut [u32; 32],
-    seat: &mut [u16; 32],
-    joined: &mut [u8; 32],
-    rings: &mut [u16; 1],
-    waker: &[u16; 32],
-    suspended: &[bool; 32],
-    priority: &[u8; 32],
-    serial: &'a [u16; 8],
-    live: &'a [bool; 8],
-    limits: &[u8; 16],
-    held: &mut [u8; 8],
-    cells: &mut [u8; 8320],
-    wakes: &mut [u32; 32],
-    shown: &mut [u8; 64],
+// A message sent becomes the last that queue `i` holds, one that jumps the first.
+fn hold(u: &mut Queues, call: SendCall, i: usize, cell: [u8; 65])
+    requires { i < 8 }
+    ensures { u.new ≡ with_store u.old (put_of call (store_of u.old) i cell) }
+{
+    match call {
+        SendCall::Send => messages::append(u, i, cell),
+        SendCall::Jump => messages::push_front(u, i, cell),
+    }
+}
+
+// "A message goes to the first waiter or else" the queue holds it. 27 before 28.
+fn put(
+    s: &mut State,
+    notices: &mut Notices,
     message: &[u8],
-    x: Asked,
-) -> Outcome
-    ensures { (s : State) → answer_shown (lent_queues s left.new seat.new joined.new rings.new
-        waker.now suspended.now priority.now s.queues.name serial.now live.now
-        s.queues.fifo limits.now held.new cells.new x.running) wakes.new
-        shown.new result
-        ≡ queue_send (lent_queues s left.old seat.old joined.old rings.old waker.now
-        suspended.now priority.now s.queues.name serial.now live.now s.queues.fifo
-        limits.now held.old cells.old x.running) x.a x.b message.now }
+    call: SendCall,
+    id: u32,
+    n: u32,
+) -> Result<Outcome, Refusal>
+    ensures answer { answer_shown s.new notices.new.wakes notices.new.shown (outcome_of s.old.running result)
+        ≡ on_found (queue_found s.old id) s.old (queue_put_at (put_of call) s.old n message.now) }
+    ensures running { s.new.running ≡ s.old.running }
 {
-    *wakes = [0; 32];
-    *shown = [0; 64];
-    let w = way_of(&*seat, serial, live, limits, &*held, message, x.a, x.b);
-    if w.status != scope::OK {
-        return answers::plain(w.status, x.running);
+    *notices = Notices::new();
+    let i = tables::find(&s.queues, id)?;
+    if !fits(s.queues.limits[2 * i + 1], n, message) {
+        return Err(Refusal::InvalidLength);
     }
-    if w.to < 32 {
-        return deliver(
-            left, seat, joined, rings, waker, suspended, priority, wakes, shown, message, x.b, w.to,
-        );
+    if let Some(t) = seats::first_waiter(&s.line, 16 + i) {
+        return Ok(deliver(s, notices, message, n, t));
     }
-    let cell = messages::cell_of(message, x.b as usize);
-    messages::append(cells, held, w.slot, cell);
-    answers::plain(scope::OK, x.running)
-}
-
-pub fn queue_jump<'a>(
-    left: &mut [u32; 32],
-    seat: &mut [u16; 32],
-    joined: &mut [u8; 32],
-    rings: &mut [u16; 1],
-    waker: &[u16; 32],
-    suspended: &[bool; 32],
-    priority: &[u8; 32],
-    serial: &'a [u16; 8],
-    live: &'a [bool; 8],
-    limits: &[u8; 16],
-    held: &mut [u8; 8],
-    cells: &mut [u8; 8320],
-    wakes: &mut [u32; 32],
-    shown: &mut [u8; 64],
-    message: &[u8],
-    x: Asked,
-) -> Outcome
-    ensures { (s : State) → answer_shown (lent_queues s left.new seat.new joined.new rings.new
-        waker.now suspended.now priority.now s.queues.name serial.now live.now
-        s.queues.fifo limits.now held.new cells.new x.running) wakes.new
-        shown.new result
-        ≡ queue_jump (lent_queues s left.old seat.old joined.old rings.old waker.now
-        suspended.now priority.now s.queues.name serial.now live.now s.queues.fifo
-        limits.now held.old cells.old x.running) x.a x.b message.now }
-{
-    *wakes = [0; 32];
-    *shown = [0; 64];
-    let w = way_of(&*seat, serial, live, limits, &*held, message, x.a, x.b);
-    if w.status != scope::OK {
-        return answers::plain(w.status, x.running);
+    let most = s.queues.limits[2 * i];
+    let held = s.queues.held[i];
+    if most <= held {
+        return Err(Refusal::QueueFull);
     }
-    if w.to < 32 {
-        return deliver(
-            left, seat, joined, rings, waker, suspended, priority, wakes, shown, message, x.b, w.to,
-        );
-    }
-    let cell = messages::cell_of(message, x.b as usize);
-    messages::push_front(cells, held, w.slot, cell);
-    answers::plain(scope::OK, x.running)
-}
-
-// What a receive is answered: OK where a message is held, PENDING where who runs must wait, else the refusal.
-fn receive_status(holds: u8, options: u32, ticks: u32, running: usize) -> u32
-    ensures value { result ≡ receive_status holds options ticks running }
-    ensures running_bound { result ≡ 1 → running < 32 }
-{
-    if scope::LAST_OPTION < options {
-        return scope::INVALID_OPTIONS;
-    }
-    if times::lacks_time_out(options, ticks) {
-        return scope::INVALID_PARAMETER;
-    }
-    if 0 < holds {
-        return scope::OK;
-    }
-    if options == scope::NOWAIT {
-        return scope::QUEUE_EMPTY;
-    }
-    if 32 <= running {
-        return scope::NO_CALLER;
-    }
-    scope::PENDING
-}
-
-// "an immediate receive beside the answer, whose first figure is its length"
-pub fn queue_receive<'a>(
-    left: &mut [u32; 32],
-    seat: &mut [u16; 32],
-    joined: &mut [u8; 32],
-    rings: &mut [u16; 1],
-    priority: &[u8; 32],
-    serial: &'a [u16; 8],
-    live: &'a [bool; 8],
-    fifo: &[bool; 8],
-    held: &mut [u8; 8],
-    cells: &mut [u8; 8320],
-    shown: &mut [u8; 64],
-    x: Asked,
-) -> Outcome
-    ensures { (s : State) → answer_shown (lent_queues s left.new seat.new joined.new rings.new
-        s.tasks.serial s.tasks.suspended priority.now s.queues.name serial.now live.now
-        fifo.now s.queues.limits held.new cells.new x.running) no_wakes shown.new result
-        ≡ queue_receive (lent_queues s left.old seat.old joined.old rings.old s.tasks.serial
-        s.tasks.suspended priority.now s.queues.name serial.now live.now fifo.now
-        s.queues.limits held.old cells.old x.running) x.a x.b x.c }
-{
-    *shown = [0; 64];
-    let running = x.running;
-    let f = named(serial, live, x.a);
-    if f.status != scope::OK {
-        return answers::plain(f.status, running);
-    }
-    let i = f.at;
-    let status = receive_status(held[i], x.b, x.c, running);
-    if 1 < status {
-        return answers::plain(status, running);
-    }
-    if status == scope::OK {
-        let n = messages::take_first(cells, held, i, shown);
-        return answers::gives(wide(n), running);
-    }
-    waiting::wait(
-        left,
-        seat,
-        joined,
-        rings,
-        16 + i,
-        fifo[i],
-        priority[running],
-        x.c,
-        running,
+    hold(
+        &mut s.queues,
+        call,
+        i,
+        messages::cell_of(message, n as usize),
     );
-    answers::plain(scope::PENDING, seats::runner(seat, rings[0]))
+    Ok(answers::plain(scope::OK, s.running))
+}
+
+// A message of the first `n` bytes lent goes to the first waiter, or else to the queue's end.
+pub fn queue_send(
+    s: &mut State,
+    notices: &mut Notices,
+    message: &[u8],
+    id: u32,
+    n: u32,
+) -> Result<Outcome, Refusal>
+    ensures answer { answer_shown s.new notices.new.wakes notices.new.shown (outcome_of s.old.running result) ≡ queue_send s.old id n message.now }
+    ensures running { s.new.running ≡ s.old.running }
+{
+    put(s, notices, message, SendCall::Send, id, n)
+}
+
+// Or else to its front.
+pub fn queue_jump(
+    s: &mut State,
+    notices: &mut Notices,
+    message: &[u8],
+    id: u32,
+    n: u32,
+) -> Result<Outcome, Refusal>
+    ensures answer { answer_shown s.new notices.new.wakes notices.new.shown (outcome_of s.old.running result) ≡ queue_jump s.old id n message.now }
+    ensures running { s.new.running ≡ s.old.running }
+{
+    put(s, notices, message, SendCall::Jump, id, n)
+}
+
+// "an immediate receive beside the answer, whose first figure is its length"; where no message is held, who runs waits for one, as long
+// as it will.
+pub fn queue_receive(
+    s: &mut State,
+    shown: &mut [u8; 64],
+    id: u32,
+    options: u32,
+    ticks: u32,
+) -> Result<Outcome, Refusal>
+    ensures answer { answer_shown s.new no_wakes shown.new (outcome_of s.old.running result) ≡ queue_receive s.old id options ticks }
+    ensures running { s.new.running ≡ s.old.running }
+{
+    *shown = [0; 64];
+    let i = tables::find(&s.queues, id)?;
+    let time_out = waiting::time_out(options, ticks)?;
+    let held = s.queues.held[i];
+    if 0 < held {
+        let n = messages::take_first(&mut s.queues, i, shown);
+        return Ok(answers::gives(u32::from(n), s.running));
+    }
+    let ticks = time_out.ok_or(Refusal::QueueEmpty)?;
+    let fifo = s.queues.fifo[i];
+    waiting::wait_for(s, 16 + i, fifo, ticks)
 }
 
 // "Info gives options, messages held, tasks waiting."
-pub fn queue_info<'a>(
-    seat: &[u16; 32],
-    serial: &'a [u16; 8],
-    live: &'a [bool; 8],
-    fifo: &[bool; 8],
-    held: &[u8; 8],
-    running: usize,
-    id: u32,
-) -> Outcome
-    ensures { (s : State) → answer_of (lent_queues s s.line.left seat.now s.line.joined s.line.rings
-        s.tasks.serial s.tasks.suspended s.tasks.priority s.queues.name serial.now live.now
-        fifo.now s.queues.limits held.now s.queues.cells running) no_wakes result
-        ≡ queue_info (lent_queues s s.line.left seat.now s.line.joined s.line.rings s.tasks.serial
-        s.tasks.suspended s.tasks.priority s.queues.name serial.now live.now fifo.now
-        s.queues.limits held.now s.queues.cells running) id }
+pub fn queue_info(s: &State, id: u32) -> Result<Outcome, Refusal>
+    ensures { answer_of s.now no_wakes (outcome_of s.now.running result) ≡ queue_info s.now id }
 {
-    let f = named(serial, live, id);
-    if f.status != scope::OK {
-        return answers::plain(f.status, running);
-    }
-    let i = f.at;
-    let waiting = seats::waiters(*seat, 16 + i) as u32;
-    let options = answers::bit(fifo[i]);
-    let holds = wide(held[i]);
-    answers::tells(options, holds, waiting, 0, false, running)
+    let u = &s.queues;
+    let i = tables::find(u, id)?;
+    let waiting = seats::waiters(&s.line, 16 + i) as u32;
+    let options = u32::from(u.fifo[i]);
+    let holds = u32::from(u.held[i]);
+    Ok(answers::tells(options, holds, waiting, 0, false, s.running))
 }

@@ -1,5 +1,5 @@
--- M-104: the answer of a step as bytes that C reads as a struct, and back. "An answer is a status, four values (0 where none is named),
--- the wake list (task and status, in order) and the running task after it, 0 if none." M-100: "a delivery shows it beside the wake, an
+-- The answer of a step as bytes that C reads as a struct, and back. "An answer is a status, four values (0 where none is named),
+-- the wake list (task and status, in order) and the running task after it, 0 if none." "a delivery shows it beside the wake, an
 -- immediate receive beside the answer". Little-endian, no gaps: 236 bytes.
 -- Assumes nothing.
 use Rattle.std.specs.Prelude.{ℕ, Bool, List, [], ◌∷◌, get_or}

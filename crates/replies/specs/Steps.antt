@@ -1,4 +1,4 @@
--- M-104: "Export fresh, step and listing as C functions on numbers and byte slices; step changes the image in place, and a refused step
+-- "Export fresh, step and listing as C functions on numbers and byte slices; step changes the image in place, and a refused step
 -- leaves it."
 -- Assumes nothing.
 use Rattle.std.specs.Prelude.{ℕ, true, false, ◌≡◌, List, ◌++◌, ltb, length, drop}

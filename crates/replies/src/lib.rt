@@ -5,14 +5,15 @@ ghost use Rattle.std.specs.Prelude.{◌≡◌};
 ghost use Rattle.replies.specs.Answers.{answer_bytes};
 ghost use Rattle.replies.specs.Steps.{bad_answer};
 
+// C reads it as the status of a call (`exports_c`), so it is a number.
 const BAD_IMAGE: u32 = 32;
 
 // An answer's bytes.
 pub fn put_answer(answer: &mut [u8; 236], numbers: &[u32; 11], wakes: &[u32; 32], shown: &[u8; 64])
     ensures { answer.new ≡ answer_bytes numbers.now wakes.now shown.now }
 {
-    columns::put_u32s(answer, 0, 4, numbers);
-    columns::put_u32s(answer, 44, 4, wakes);
+    columns::put_column(answer, 0, 4, numbers);
+    columns::put_column(answer, 44, 4, wakes);
     columns::put_rows(answer, 172, 64, 1, 64, shown);
 }
 

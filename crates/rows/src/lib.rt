@@ -1,15 +1,160 @@
-// "The call table has twenty rows, one for each call", and M-100 adds seven, "Calls 20 to 26 in the order named": who may make it, and
-// which statuses it can answer, as a set of bits.
+// The call table: the calls by name and by number, and a row for each of them, who may make it and which statuses it can answer,
+// as a set of bits.
 // A constant table, read by call number, in two columns: a step reads the first alone.
 #![tactic(auto)]
 
-ghost use Rattle.std.specs.Prelude.{◌≡◌, ◌<◌};
+ghost use Rattle.std.specs.Prelude.{◌≡◌, ◌<◌, ◌≤◌, MatchOption};
 ghost use Rattle.scope.specs.Calls.{known_calls, call_at, may_call};
 ghost use Rattle.rows.specs.Rows.{set_at, may_give};
+ghost use Rattle.rows.specs.Kinds.{number_of, mark_of};
 
 // ( Printed by tools/generate/run: known
 pub const CALLS: usize = 27;
 // )
+
+#[derive(Clone, Copy, PartialEq, Eq, Debug, Drop)]
+pub enum TaskCall {
+    Create = 1,
+    Delete = 2,
+    Ident = 3,
+    Start = 4,
+    Suspend = 5,
+    Resume = 6,
+    SetPriority = 7,
+}
+
+#[derive(Clone, Copy, PartialEq, Eq, Debug, Drop)]
+pub enum SemaphoreCall {
+    Create = 8,
+    Delete = 9,
+    Ident = 10,
+    Claim = 11,
+    Release = 12,
+    Info = 13,
+}
+
+#[derive(Clone, Copy, PartialEq, Eq, Debug, Drop)]
+pub enum PoolCall {
+    Create = 14,
+    Delete = 15,
+    Ident = 16,
+    GetBuff = 17,
+    RetBuff = 18,
+    Info = 19,
+}
+
+#[derive(Clone, Copy, PartialEq, Eq, Debug, Drop)]
+pub enum QueueCall {
+    Create = 20,
+    Delete = 21,
+    Ident = 22,
+}
+
+#[derive(Clone, Copy, PartialEq, Eq, Debug, Drop)]
+pub enum SendCall {
+    Send = 23,
+    Jump = 24,
+}
+
+#[derive(Clone, Copy, PartialEq, Eq, Debug, Drop)]
+pub enum ReceiveCall {
+    Receive = 25,
+    Info = 26,
+}
+
+// A call of the table: a chapter's calls are a type of their own, so each chapter takes its own calls and no other.
+#[derive(Clone, Copy, PartialEq, Eq, Debug, Drop)]
+pub enum Call {
+    Tick,
+    Task(TaskCall),
+    Semaphore(SemaphoreCall),
+    Pool(PoolCall),
+    Queue(QueueCall),
+    Send(SendCall),
+    Receive(ReceiveCall),
+}
+
+// Who makes a call, by the caller's mark.
+#[derive(Clone, Copy, PartialEq, Eq, Debug, Drop)]
+pub enum Caller {
+    Task = 0,
+    Interrupt = 1,
+}
+
+impl Call {
+    // The call's number in the table.
+    pub fn number(self) -> u32
+        ensures value { result ≡ number_of self }
+        ensures known { result < known_calls }
+    {
+        match self {
+            Call::Tick => 0,
+            Call::Task(call) => call as u32,
+            Call::Semaphore(call) => call as u32,
+            Call::Pool(call) => call as u32,
+            Call::Queue(call) => call as u32,
+            Call::Send(call) => call as u32,
+            Call::Receive(call) => call as u32,
+        }
+    }
+
+    // The call of that number, if there is one.
+    pub fn from_number(number: u32) -> Option<Call>
+        ensures { MatchOption result (known_calls ≤ number) (λ call. number_of call ≡ number) }
+    {
+        Some(match number {
+            0 => Call::Tick,
+            1 => Call::Task(TaskCall::Create),
+            2 => Call::Task(TaskCall::Delete),
+            3 => Call::Task(TaskCall::Ident),
+            4 => Call::Task(TaskCall::Start),
+            5 => Call::Task(TaskCall::Suspend),
+            6 => Call::Task(TaskCall::Resume),
+            7 => Call::Task(TaskCall::SetPriority),
+            8 => Call::Semaphore(SemaphoreCall::Create),
+            9 => Call::Semaphore(SemaphoreCall::Delete),
+            10 => Call::Semaphore(SemaphoreCall::Ident),
+            11 => Call::Semaphore(SemaphoreCall::Claim),
+            12 => Call::Semaphore(SemaphoreCall::Release),
+            13 => Call::Semaphore(SemaphoreCall::Info),
+            14 => Call::Pool(PoolCall::Create),
+            15 => Call::Pool(PoolCall::Delete),
+            16 => Call::Pool(PoolCall::Ident),
+            17 => Call::Pool(PoolCall::GetBuff),
+            18 => Call::Pool(PoolCall::RetBuff),
+            19 => Call::Pool(PoolCall::Info),
+            20 => Call::Queue(QueueCall::Create),
+            21 => Call::Queue(QueueCall::Delete),
+            22 => Call::Queue(QueueCall::Ident),
+            23 => Call::Send(SendCall::Send),
+            24 => Call::Send(SendCall::Jump),
+            25 => Call::Receive(ReceiveCall::Receive),
+            26 => Call::Receive(ReceiveCall::Info),
+            _ => return None,
+        })
+    }
+}
+
+impl Caller {
+    // The caller's mark.
+    pub fn mark(self) -> u32
+        ensures value { result ≡ mark_of self }
+        ensures known { result < 2 }
+    {
+        self as u32
+    }
+
+    // The caller of that mark, if there is one.
+    pub fn from_mark(mark: u32) -> Option<Caller>
+        ensures { MatchOption result (1 < mark) (λ caller. mark_of caller ≡ mark) }
+    {
+        match mark {
+            0 => Some(Caller::Task),
+            1 => Some(Caller::Interrupt),
+            _ => None,
+        }
+    }
+}
 
 // Bit 0 the running task, bit 1 an interrupt.
 const TASK: u8 = 1;
@@ -99,13 +244,12 @@ pub fn may_of(call: usize) -> u64
     MAY[call]
 }
 
-// Whether a caller of this mark may make the call.
-pub fn may_call(call: u32, mark: u32) -> bool
-    requires call_lt_known_calls { call < known_calls }
-    requires mark_bound { mark < 2 }
-    ensures { result ≡ may_call call mark }
+// Whether the caller may make the call.
+#[tactic(auto, unfolding(scope::specs::Calls::may_call))]
+pub fn may_call(call: Call, caller: Caller) -> bool
+    ensures { result ≡ may_call (number_of call) (mark_of caller) }
 {
-    (who_of(call as usize) >> mark) % 2 == 1
+    (who_of(call.number() as usize) >> caller.mark()) % 2 == 1
 }
 
 // Whether the status stands in the call's row.

@@ -1,46 +1,45 @@
 // "Rules of a state": each a function named after its rule, asked in six parts (that of the messages held stands in crate messages). A
-// part is lent the columns that it reads, so the state stays where it lies. Nothing stops at the first failure: a state is nearly always
-// sound, and a loop without a way out in its middle runs several slots at a time. So tests are joined by `&`, which asks both.
-// (specs/Lent.antt, and scope's specs/Rules.antt.)
-#![tactic(auto)]
+// part is lent the part of the state that it reads, so the state stays where it lies. Nothing stops at the first failure: a state is nearly
+// always sound, and a loop without a way out in its middle runs several slots at a time. So tests are joined by `&`, which asks both, and
+// a rule of all slots is `every` of the rule of a slot.
+// (scope's specs/Rules.antt.)
+// (That a slot lies in its table is asked by number. An object is a semaphore or a queue, by its number, as the definitions have it: so a row
+// of each is read side by side.)
+#![tactic(auto, unfolding(scope::specs::Choice::pick, scope::specs::Seats::waits_on, scope::specs::Objects::of_object, scope::specs::Objects::objects, scope::specs::Views::ready_with, scope::specs::Rules::seat_right, scope::specs::Rules::rings_right, scope::specs::Rules::ready_right, scope::specs::Rules::wait_right, scope::specs::Rules::joined_right, scope::specs::Rules::start_right, scope::specs::Rules::task_right, scope::specs::Rules::sem_right, scope::specs::Rules::queue_right, scope::specs::Rules::pool_right, scope::specs::Rules::admitted, scope::specs::Rules::running_right, scope::specs::Rules::seats_right, scope::specs::Rules::ready_order_right, scope::specs::Rules::waits_right, scope::specs::Rules::queues_sorted, scope::specs::Rules::counts_right, scope::specs::Rules::held_right, scope::specs::Rules::starts_right, scope::specs::Rules::tasks_right, scope::specs::Rules::sems_right, scope::specs::Rules::queues_right, scope::specs::Rules::pools_right, scope::specs::Rules::orders_right))]
 
-ghost use Rattle.std.specs.Prelude.{◌≡◌, true, false, not, ◌&&◌, List, ℕ, ◌-◌, ◌%◌, ◌^◌, ◌<◌, get_or, eqb, ltb, leb};
-ghost use Rattle.scope.specs.Choice.{pick, number};
+ghost use Rattle.std.specs.Prelude.{◌≡◌, true, ◌&&◌, ◌%◌, ◌^◌, ◌-◌, ◌<◌, ℕ, Bool, false, get_or, eqb, ltb};
+ghost use Rattle.scope.specs.Choice.{pick, number, every};
 ghost use Rattle.scope.specs.Seats.{is_on, queue_seats, queue_of, on_seat, standing};
-ghost use Rattle.scope.specs.Objects.{queue_object, of_object};
-ghost use Rattle.scope.specs.Views.{ready_with, less};
-ghost use Rattle.scope.specs.Queues.{are_limits};
+ghost use Rattle.scope.specs.Objects.{queue_object, of_object, objects_of};
+ghost use Rattle.scope.specs.Views.{less};
 ghost use Rattle.scope.specs.Rules.{seat_right, seats_right, rings_right, ready_right, ready_order_right, wait_right, waits_right, joined_right, queues_sorted, count_right};
-ghost use Rattle.scope.specs.Rules.{counts_right, holds_right, held_right, start_right, starts_right, tasks_right, sems_right, queues_right, admitted, pools_right};
-ghost use Rattle.scope.specs.Rules.{orders_right, running_right, order_rules, keeps};
-ghost use Rattle.scope.specs.declared.Line.{Line};
-ghost use Rattle.scope.specs.declared.Tasks.{Tasks};
-ghost use Rattle.scope.specs.declared.Semaphores.{Semaphores};
-ghost use Rattle.scope.specs.declared.Pools.{Pools};
-ghost use Rattle.scope.specs.declared.Queues.{Queues};
-ghost use Rattle.scope.specs.declared.State.{State};
-ghost use Rattle.answers.specs.Columns.{line_of, tasks_of, semaphores_of, pools_of, queues_of, state_of};
-ghost use Rattle.rules.specs.Lent.{seated, readied, queued, placed, received, lent_orders, pools_kept};
+ghost use Rattle.scope.specs.Rules.{counts_right, holds_right, held_right, start_right, starts_right, task_right, tasks_right, sem_right, sems_right, queue_right, queues_right};
+ghost use Rattle.scope.specs.Pools.{pool_row, pool_buffers};
+ghost use Rattle.scope.specs.Rules.{admitted, pool_right, pools_right, order_right, orders_right, running_right, order_rules, keeps};
+ghost use Rattle.rules.specs.Kept.{pools_kept};
 
-// 1 where the two are equal, else 0.
-fn one_if(x: u16, y: u16) -> u16
-    ensures { result ≡ pick (eqb x y) 1 0 }
+use scope::{Line, Pools, Queues, Semaphores, State, Tasks};
+
+// Whether every number below `n` passes a test: each is asked, whatever those before it answered. The answer is that of any definition,
+// `passes`, that the test agrees with.
+fn every<F: Fn(usize) -> bool>(n: usize, right: F) -> bool
+    requires { (k : ℕ) → k < n → F.pre right k }
+    ensures { (passes : ℕ → Bool) → ((k : ℕ) (answer : Bool) → k < n → F.post right k answer → answer ≡ passes k) → result ≡ every passes n }
 {
-    if x == y {
-        return 1;
+    let mut ok = true;
+    for i in 0..n {
+        ok = right(i) & ok;
     }
-    0
+    ok
 }
 
 // How many tasks are on seat `x`.
 fn number_on(q: &[u16; 32], x: u16) -> u16
     ensures { result ≡ number (is_on q.now x) 32 }
 {
-    let mut n: u16 = 0;
-    let mut t: usize = 0;
-    while t < 32 {
-        n += one_if(q[t], x);
-        t += 1;
+    let mut n = 0;
+    for y in q {
+        n += u16::from(*y == x);
     }
     n
 }
@@ -71,68 +70,43 @@ fn seat_right(q: &[u16; 32], x: u16) -> bool
 fn seats_right(q: &[u16; 32]) -> bool
     ensures { result ≡ seats_right q.now }
 {
-    let mut ok = true;
-    let mut t: usize = 0;
-    while t < 32 {
-        let right = seat_right(q, q[t]);
-        ok = right & ok;
-        t += 1;
-    }
-    ok
-}
-
-fn wide(p: u8) -> u16
-    ensures { result ≡ p }
-{
-    p as u16
-}
-
-// "A task is ready if started, not waiting and not suspended."
-fn ready_with(started: bool, suspended: bool, x: u16) -> bool
-    ensures { result ≡ ready_with started suspended x }
-{
-    started & !suspended & !seats::waits_on(x)
+    every(32, |t| seat_right(q, q[t]))
 }
 
 // A ready task stands among those of its priority, and no other task stands among the ready.
 fn ready_right(started: bool, suspended: bool, priority: u8, x: u16) -> bool
     ensures { result ≡ ready_right started suspended priority x }
 {
-    let base = wide(priority) * 64 + 2048;
-    if ready_with(started, suspended, x) {
+    let base = u16::from(priority) * 64 + 2048;
+    if seats::is_ready(started, suspended, x) {
         return (base < x) & (x < base + 63);
     }
     x < 2048
 }
 
-fn ready_order_right(
-    seat: &[u16; 32],
-    started: &[bool; 32],
-    suspended: &[bool; 32],
-    priority: &[u8; 32],
-) -> bool
-    ensures { (l : Line) (k : Tasks) → result ≡ ready_order_right (seated l seat.now) (readied k started.now suspended.now priority.now) }
+fn ready_order_right(line: &Line, tasks: &Tasks) -> bool
+    ensures { result ≡ ready_order_right line.now tasks.now }
 {
-    let mut ok = true;
-    let mut t: usize = 0;
-    while t < 32 {
-        let right = ready_right(started[t], suspended[t], priority[t], seat[t]);
-        ok = right & ok;
-        t += 1;
-    }
-    ok
+    every(32, |t| {
+        ready_right(
+            tasks.started[t],
+            tasks.suspended[t],
+            tasks.priority[t],
+            line.seat[t],
+        )
+    })
 }
 
 // The kept mask is that of the rings that hold a task.
-fn rings_right(seat: &[u16; 32], rings: &[u16; 1]) -> bool
-    ensures { (left joined : List ℕ) → result ≡ rings_right (line_of left seat.now joined rings.now) }
+fn rings_right(line: &Line) -> bool
+    ensures { result ≡ rings_right line.now }
 {
-    rings[0] == seats::ring_mask(seat)
+    line.rings[0] == seats::ring_mask(&line.seat)
 }
 
 // What a row of the semaphores and one of the queues hold for object `i`; false where there is none.
-fn of_object(sems: [bool; 16], queues: [bool; 8], i: usize) -> bool
-    ensures { result ≡ of_object sems queues false i }
+fn of_object(sems: &[bool; 16], queues: &[bool; 8], i: usize) -> bool
+    ensures { result ≡ of_object sems.now queues.now false i }
 {
     if i < 16 {
         return sems[i];
@@ -144,13 +118,10 @@ fn of_object(sems: [bool; 16], queues: [bool; 8], i: usize) -> bool
 }
 
 // And for the object whose wait queue seat `x` is in.
-fn of_queue(sems: [bool; 16], queues: [bool; 8], x: u16) -> bool
-    ensures { result ≡ of_object sems queues false (queue_of x) }
+fn of_queue(sems: &[bool; 16], queues: &[bool; 8], x: u16) -> bool
+    ensures { result ≡ of_object sems.now queues.now false (queue_of x) }
 {
-    if x < 128 {
-        return of_object(sems, queues, 0);
-    }
-    of_object(sems, queues, (x / 64 - 1) as usize)
+    of_object(sems, queues, usize::from((x / 64).saturating_sub(1)))
 }
 
 // A waiting task waits for a live semaphore or queue, with a time_out left and a joining priority; one that does not wait has neither.
@@ -158,74 +129,60 @@ fn wait_right(live: &[bool; 16], queues: &[bool; 8], x: u16, left: u32, joined: 
     ensures { result ≡ wait_right (of_object live.now queues.now false) x left joined }
 {
     if seats::waits_on(x) {
-        return (64 <= x) & of_queue(*live, *queues, x) & times::is_time_out(left) & (joined <= 15);
+        return (64 <= x) & of_queue(live, queues, x) & times::is_time_out(left) & (joined <= 15);
     }
     (left == 0) & (joined == 0)
 }
 
-fn waits_right(
-    left: &[u32; 32],
-    seat: &[u16; 32],
-    joined: &[u8; 32],
-    live: &[bool; 16],
-    queues: &[bool; 8],
-) -> bool
-    ensures { (rings : List ℕ)
-        → result ≡ waits_right (line_of left.now seat.now joined.now rings) (of_object live.now queues.now false) }
+fn waits_right(s: &State) -> bool
+    ensures { result ≡ waits_right s.now.line (objects_of s.now).live }
 {
-    let mut ok = true;
-    let mut t: usize = 0;
-    while t < 32 {
-        let right = wait_right(live, queues, seat[t], left[t], joined[t]);
-        ok = right & ok;
-        t += 1;
-    }
-    ok
+    every(32, |t| {
+        wait_right(
+            &s.semaphores.live,
+            &s.queues.live,
+            s.line.seat[t],
+            s.line.left[t],
+            s.line.joined[t],
+        )
+    })
 }
 
 // The joining priority of the task on seat `x`; 0 where there is none.
-fn joined_on(q: &[u16; 32], joined: [u8; 32], x: u16) -> u8
-    ensures { result ≡ get_or joined (on_seat q.now x) 0 }
+fn joined_on(line: &Line, x: u16) -> u8
+    ensures { result ≡ get_or line.now.joined (on_seat line.now.seat x) 0 }
 {
-    let t = seats::on_seat(q, x);
-    if t < 32 {
-        return joined[t];
+    match seats::on_seat(&line.seat, x) {
+        Some(t) => line.joined[t],
+        None => 0,
     }
-    0
 }
 
 // In a queue that is not FIFO nobody has a higher joining priority than who stands directly ahead.
-fn joined_right(
-    q: &[u16; 32],
-    joined: &[u8; 32],
-    fifo: &[bool; 16],
-    queues: &[bool; 8],
-    x: u16,
-    priority: u8,
-) -> bool
-    ensures { result ≡ joined_right q.now joined.now (of_object fifo.now queues.now false) x priority }
+fn joined_right(line: &Line, fifo: &[bool; 16], queues: &[bool; 8], x: u16, priority: u8) -> bool
+    ensures { result ≡ joined_right line.now.seat line.now.joined (of_object fifo.now queues.now false) x priority }
 {
     if seats::waits_on(x) & (1 < x % 64) {
-        if of_queue(*fifo, *queues, x) {
+        if of_queue(fifo, queues, x) {
             return true;
         }
-        return priority <= joined_on(q, *joined, x - 1);
+        return priority <= joined_on(line, x - 1);
     }
     true
 }
 
-fn queues_sorted(seat: &[u16; 32], joined: &[u8; 32], fifo: &[bool; 16], queues: &[bool; 8]) -> bool
-    ensures { (left rings : List ℕ)
-        → result ≡ queues_sorted (line_of left seat.now joined.now rings) (of_object fifo.now queues.now false) }
+fn queues_sorted(s: &State) -> bool
+    ensures { result ≡ queues_sorted s.now.line (objects_of s.now).fifo }
 {
-    let mut ok = true;
-    let mut t: usize = 0;
-    while t < 32 {
-        let right = joined_right(seat, joined, fifo, queues, seat[t], joined[t]);
-        ok = right & ok;
-        t += 1;
-    }
-    ok
+    every(32, |t| {
+        joined_right(
+            &s.line,
+            &s.semaphores.fifo,
+            &s.queues.fifo,
+            s.line.seat[t],
+            s.line.joined[t],
+        )
+    })
 }
 
 // "A queue with n tasks, n above 0, has count −n; an empty queue has count 0 to 32,767."
@@ -239,43 +196,34 @@ fn count_right(waiting: usize, units: u16) -> bool
     units <= 32767
 }
 
-fn counts_right(seat: &[u16; 32], units: &[u16; 16]) -> bool
-    ensures { (l : Line) (m : Semaphores) → result ≡ counts_right (seated l seat.now) (queued m units.now m.live m.fifo) }
+fn counts_right(line: &Line, semaphores: &Semaphores) -> bool
+    ensures { result ≡ counts_right line.now semaphores.now }
 {
-    let mut ok = true;
-    let mut i: usize = 0;
-    while i < 16 {
-        let waiting = seats::waiters(*seat, i);
-        let right = count_right(waiting, units[i]);
-        ok = right & ok;
-        i += 1;
-    }
-    ok
+    every(
+        16,
+        |i| count_right(seats::waiters(line, i), semaphores.units[i]),
+    )
 }
 
-// "a queue with waiters holds nothing, any other only what sends can leave" (M-100). One that holds nothing breaks neither, so its
+// "a queue with waiters holds nothing, any other only what sends can leave". One that holds nothing breaks neither, so its
 // waiters need not be counted.
-fn holds_right(seat: &[u16; 32], i: usize, held: u8, most: u8) -> bool
+fn holds_right(line: &Line, i: usize, held: u8, most: u8) -> bool
     requires { i < 8 }
-    ensures { result ≡ holds_right (standing seat.now (queue_seats (queue_object i))) held most }
+    ensures { result ≡ holds_right (standing line.now.seat (queue_seats (queue_object i))) held most }
 {
     if held == 0 {
         return true;
     }
-    (seats::waiters(*seat, 16 + i) == 0) & (held <= most)
+    (seats::waiters(line, 16 + i) == 0) & (held <= most)
 }
 
-fn held_right(seat: &[u16; 32], limits: &[u8; 16], held: &[u8; 8]) -> bool
-    ensures { (l : Line) (u : Queues) → result ≡ held_right (seated l seat.now) (received u u.live u.fifo limits.now held.now) }
+fn held_right(line: &Line, queues: &Queues) -> bool
+    ensures { result ≡ held_right line.now queues.now }
 {
-    let mut ok = true;
-    let mut i: usize = 0;
-    while i < 8 {
-        let right = holds_right(seat, i, held[i], limits[2 * i]);
-        ok = right & ok;
-        i += 1;
-    }
-    ok
+    every(
+        8,
+        |i| holds_right(line, i, queues.held[i], queues.limits[2 * i]),
+    )
 }
 
 // "Tasks not started neither wait nor are suspended."
@@ -288,140 +236,83 @@ fn start_right(started: bool, suspended: bool, x: u16) -> bool
     !seats::waits_on(x) & !suspended
 }
 
-fn starts_right(seat: &[u16; 32], started: &[bool; 32], suspended: &[bool; 32]) -> bool
-    ensures { (l : Line) (k : Tasks) → result ≡ starts_right (seated l seat.now) (readied k started.now suspended.now k.priority) }
+fn starts_right(line: &Line, tasks: &Tasks) -> bool
+    ensures { result ≡ starts_right line.now tasks.now }
 {
-    let mut ok = true;
-    let mut t: usize = 0;
-    while t < 32 {
-        let right = start_right(started[t], suspended[t], seat[t]);
-        ok = right & ok;
-        t += 1;
-    }
-    ok
+    every(
+        32,
+        |t| start_right(tasks.started[t], tasks.suspended[t], line.seat[t]),
+    )
 }
 
-// A live task's serial and priority are in range; a slot without one holds its last serial and otherwise zeros.
-fn task_right(
-    live: bool,
-    serial: u16,
-    name: u32,
-    started: bool,
-    suspended: bool,
-    priority: u8,
-) -> bool
-    ensures { result ≡ pick live (leb 1 serial && leb priority 15) (eqb name 0 && (not started && (not suspended && eqb priority 0))) }
+// A live task's serial and priority are in range; a slot without one holds its last serial and otherwise zeros. Both are asked of each slot,
+// so that slots are tested several at a time.
+fn task_right(tasks: &Tasks, t: usize) -> bool
+    requires { t < 32 }
+    ensures { result ≡ task_right tasks.now t }
 {
-    if live {
-        return (1 <= serial) & (priority <= 15);
+    let in_range = (1 <= tasks.serial[t]) & (tasks.priority[t] <= 15);
+    let empty = (tasks.name[t] == 0)
+        & !tasks.started[t]
+        & !tasks.suspended[t]
+        & (tasks.priority[t] == 0);
+    if tasks.live[t] {
+        return in_range;
     }
-    (name == 0) & !started & !suspended & (priority == 0)
+    empty
 }
 
 // Whether the tasks' rule is kept.
-pub fn tasks_right(
-    name: &[u32; 32],
-    serial: &[u16; 32],
-    live: &[bool; 32],
-    started: &[bool; 32],
-    suspended: &[bool; 32],
-    priority: &[u8; 32],
-) -> bool
-    ensures { result ≡ tasks_right (tasks_of name.now serial.now live.now started.now suspended.now priority.now) }
+pub fn tasks_right(tasks: &Tasks) -> bool
+    ensures { result ≡ tasks_right tasks.now }
 {
-    let mut ok = true;
-    let mut t: usize = 0;
-    while t < 32 {
-        let right = task_right(
-            live[t],
-            serial[t],
-            name[t],
-            started[t],
-            suspended[t],
-            priority[t],
-        );
-        ok = right & ok;
-        t += 1;
-    }
-    ok
+    every(32, |t| task_right(tasks, t))
 }
 
-fn sem_right(live: bool, serial: u16, name: u32, fifo: bool, units: u16) -> bool
-    ensures { result ≡ pick live (leb 1 serial) (eqb name 0 && (not fifo && eqb units 0)) }
+fn sem_right(semaphores: &Semaphores, i: usize) -> bool
+    requires { i < 16 }
+    ensures { result ≡ sem_right semaphores.now i }
 {
-    if live {
-        return 1 <= serial;
+    let in_range = 1 <= semaphores.serial[i];
+    let empty = (semaphores.name[i] == 0) & !semaphores.fifo[i] & (semaphores.units[i] == 0);
+    if semaphores.live[i] {
+        return in_range;
     }
-    (name == 0) & !fifo & (units == 0)
+    empty
 }
 
 // Whether the semaphores' rule is kept.
-pub fn sems_right(
-    name: &[u32; 16],
-    serial: &[u16; 16],
-    units: &[u16; 16],
-    live: &[bool; 16],
-    fifo: &[bool; 16],
-) -> bool
-    ensures { result ≡ sems_right (semaphores_of name.now serial.now units.now live.now fifo.now) }
+pub fn sems_right(semaphores: &Semaphores) -> bool
+    ensures { result ≡ sems_right semaphores.now }
 {
-    let mut ok = true;
-    let mut i: usize = 0;
-    while i < 16 {
-        let right = sem_right(live[i], serial[i], name[i], fifo[i], units[i]);
-        ok = right & ok;
-        i += 1;
-    }
-    ok
+    every(16, |i| sem_right(semaphores, i))
 }
 
-// "most messages (1 to 16), longest message (1 to 64)" (M-100); a slot without a queue holds its last serial and otherwise zeros.
-fn queue_right(
-    live: bool,
-    serial: u16,
-    name: u32,
-    fifo: bool,
-    most: u8,
-    longest: u8,
-    held: u8,
-) -> bool
-    ensures { result
-        ≡ pick live (leb 1 serial && are_limits most longest) (eqb name 0 && (not fifo && (eqb most 0 && (eqb longest 0 && eqb held 0)))) }
+// "most messages (1 to 16), longest message (1 to 64)"; a slot without a queue holds its last serial and otherwise zeros.
+fn queue_right(queues: &Queues, i: usize) -> bool
+    requires { i < 8 }
+    ensures { result ≡ queue_right queues.now i }
 {
-    if live {
-        return (1 <= serial) & messages::are_limits(most as u32, longest as u32);
+    let most = queues.limits[2 * i];
+    let longest = queues.limits[2 * i + 1];
+    let in_range = (1 <= queues.serial[i])
+        & messages::are_limits(u32::from(most), u32::from(longest));
+    let empty = (queues.name[i] == 0)
+        & !queues.fifo[i]
+        & (most == 0)
+        & (longest == 0)
+        & (queues.held[i] == 0);
+    if queues.live[i] {
+        return in_range;
     }
-    (name == 0) & !fifo & (most == 0) & (longest == 0) & (held == 0)
+    empty
 }
 
 // Whether the queues' rule is kept.
-pub fn queues_right(
-    name: &[u32; 8],
-    serial: &[u16; 8],
-    live: &[bool; 8],
-    fifo: &[bool; 8],
-    limits: &[u8; 16],
-    held: &[u8; 8],
-) -> bool
-    ensures { (cells : List ℕ)
-        → result ≡ queues_right (queues_of name.now serial.now live.now fifo.now limits.now held.now cells) }
+pub fn queues_right(queues: &Queues) -> bool
+    ensures { result ≡ queues_right queues.now }
 {
-    let mut ok = true;
-    let mut i: usize = 0;
-    while i < 8 {
-        let right = queue_right(
-            live[i],
-            serial[i],
-            name[i],
-            fifo[i],
-            limits[2 * i],
-            limits[2 * i + 1],
-            held[i],
-        );
-        ok = right & ok;
-        i += 1;
-    }
-    ok
+    every(8, |i| queue_right(queues, i))
 }
 
 // Whether no mark is set past the first `n` buffers.
@@ -444,130 +335,73 @@ fn is_admitted(address: u32, length: u32, size: u32, out: u64) -> bool
 }
 
 // A slot without a live pool holds its last serial and otherwise zeros.
-fn is_empty(out: u64, name: u32, address: u32, length: u32, size: u32, forced: bool) -> bool
-    ensures { result ≡ (eqb out 0 && (eqb name 0 && (eqb address 0 && (eqb length 0 && (eqb size 0 && not forced))))) }
+fn pool_right(pools: &Pools, i: usize) -> bool
+    requires { i < 8 }
+    ensures { result ≡ pool_right pools.now i }
 {
-    (out == 0) & (name == 0) & (address == 0) & (length == 0) & (size == 0) & !forced
+    if pools.live[i] {
+        return (1 <= pools.serial[i])
+            & is_admitted(
+                pools.address[i],
+                pools.length[i],
+                pools.size[i],
+                pools.out[i],
+            );
+    }
+    (pools.out[i] == 0)
+        & (pools.name[i] == 0)
+        & (pools.address[i] == 0)
+        & (pools.length[i] == 0)
+        & (pools.size[i] == 0)
+        & !pools.forced[i]
 }
 
-fn pool_right(
-    live: bool,
-    serial: u16,
-    out: u64,
-    name: u32,
-    address: u32,
-    length: u32,
-    size: u32,
-    forced: bool,
-) -> bool
-    ensures { result
-        ≡ pick live (leb 1 serial && admitted address length size out) (eqb out 0 && (eqb name 0 && (eqb address 0 && (eqb length 0 && (eqb size 0 && not forced))))) }
+fn pools_right(pools: &Pools) -> bool
+    ensures { result ≡ pools_right pools.now }
 {
-    if live {
-        return (1 <= serial) & is_admitted(address, length, size, out);
-    }
-    is_empty(out, name, address, length, size, forced)
+    every(8, |i| pool_right(pools, i))
 }
 
-fn pools_right(
-    out: &[u64; 8],
-    name: &[u32; 8],
-    at: &[u32; 8],
-    long: &[u32; 8],
-    size: &[u32; 8],
-    serial: &[u16; 8],
-    live: &[bool; 8],
-    forced: &[bool; 8],
-) -> bool
-    ensures { (place : List ℕ)
-        → result ≡ pools_right (pools_of out.now name.now at.now long.now size.now
-        serial.now live.now forced.now place) }
+// "The order of free buffers joins the state, each free buffer once", of one pool.
+fn order_right(pools: &Pools, i: usize) -> bool
+    requires { i < 8 }
+    ensures { result ≡ order_right (pool_row pools.now i) (get_or pools.now.out i 0) (pool_buffers pools.now i) }
 {
-    let mut ok = true;
-    let mut i: usize = 0;
-    while i < 8 {
-        let right = pool_right(
-            live[i], serial[i], out[i], name[i], at[i], long[i], size[i], forced[i],
-        );
-        ok = right & ok;
-        i += 1;
-    }
-    ok
+    let n = areas::buffers_of(pools.length[i], pools.size[i]);
+    places::order_right(&pools.place, i, pools.out[i], n)
 }
 
-// "The order of free buffers joins the state, each free buffer once" (M-103), of every pool.
-fn orders_right(out: &[u64; 8], long: &[u32; 8], size: &[u32; 8], place: &[u8; 512]) -> bool
-    ensures { (p : Pools) → result ≡ orders_right (placed p out.now long.now size.now place.now) }
+fn orders_right(pools: &Pools) -> bool
+    ensures { result ≡ orders_right pools.now }
 {
-    let mut ok = true;
-    let mut i: usize = 0;
-    while i < 8 {
-        let right = places::order_right(place, i, out[i], areas::buffers_of(long[i], size[i]));
-        ok = right & ok;
-        i += 1;
-    }
-    ok
+    every(8, |i| order_right(pools, i))
 }
 
 // Whether the pools' rules are kept.
-pub fn pools_kept(
-    out: &[u64; 8],
-    name: &[u32; 8],
-    at: &[u32; 8],
-    long: &[u32; 8],
-    size: &[u32; 8],
-    serial: &[u16; 8],
-    live: &[bool; 8],
-    forced: &[bool; 8],
-    place: &[u8; 512],
-) -> bool
-    ensures { result
-        ≡ pools_kept (pools_of out.now name.now at.now long.now size.now
-        serial.now live.now forced.now place.now) }
+pub fn pools_kept(pools: &Pools) -> bool
+    ensures { result ≡ pools_kept pools.now }
 {
-    pools_right(out, name, at, long, size, serial, live, forced)
-        & orders_right(out, long, size, place)
-        & areas::pools_apart(live, at, long)
+    pools_right(pools) & orders_right(pools) & areas::pools_apart(pools)
 }
 
 // The kept running task is the one that runs.
-fn running_right(seat: &[u16; 32], rings: &[u16; 1], running: usize) -> bool
-    ensures { (left joined : List ℕ) (k : Tasks) (m : Semaphores) (p : Pools) (u : Queues)
-        → result ≡ running_right (state_of (line_of left seat.now joined rings.now) k m p u running) }
+fn running_right(s: &State) -> bool
+    ensures { result ≡ running_right s.now }
 {
-    running == seats::runner(seat, rings[0])
+    s.running == seats::runner(&s.line)
 }
 
 // Whether the rules of orders and queues are kept.
-pub fn orders_kept(
-    left: &[u32; 32],
-    seat: &[u16; 32],
-    joined: &[u8; 32],
-    rings: &[u16; 1],
-    started: &[bool; 32],
-    suspended: &[bool; 32],
-    priority: &[u8; 32],
-    units: &[u16; 16],
-    live: &[bool; 16],
-    fifo: &[bool; 16],
-    lives: &[bool; 8],
-    fifos: &[bool; 8],
-    limits: &[u8; 16],
-    held: &[u8; 8],
-    running: usize,
-) -> bool
-    ensures { (s : State) → result
-        ≡ keeps order_rules (lent_orders s left.now seat.now joined.now rings.now started.now suspended.now
-        priority.now units.now live.now fifo.now lives.now fifos.now limits.now
-        held.now running) }
+pub fn orders_kept(s: &State) -> bool
+    ensures { result ≡ keeps order_rules s.now }
 {
-    seats_right(seat)
-        & rings_right(seat, rings)
-        & ready_order_right(seat, started, suspended, priority)
-        & waits_right(left, seat, joined, live, lives)
-        & queues_sorted(seat, joined, fifo, fifos)
-        & counts_right(seat, units)
-        & held_right(seat, limits, held)
-        & starts_right(seat, started, suspended)
-        & running_right(seat, rings, running)
+    seats_right(&s.line.seat)
+        & rings_right(&s.line)
+        & ready_order_right(&s.line, &s.tasks)
+        & waits_right(s)
+        & queues_sorted(s)
+        & counts_right(&s.line, &s.semaphores)
+        & held_right(&s.line, &s.queues)
+        & starts_right(&s.line, &s.tasks)
+        & running_right(s)
 }

@@ -13,3 +13,4 @@ pub mod Gets
 pub mod Named
 pub mod Rings
 pub mod Sends
+pub mod Refusals

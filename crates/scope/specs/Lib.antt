@@ -3,6 +3,7 @@ pub mod Choice
 pub mod Lists
 pub mod Identifiers
 pub mod Statuses
+pub mod Refusals
 pub mod Options
 pub mod Seats
 pub mod Objects

@@ -1,7 +1,12 @@
-// The state of the kernel and the answers it gives, as plain data. What they mean, sentence by sentence of document 01,
+// The state of the kernel, what is asked of it and the answers it gives, as plain data. What they mean, sentence by sentence,
 // is in specs/. Every array is by slot: 32 tasks, 16 semaphores, 8 pools, 8 queues; places are by pool and buffer.
 
 #![tactic(auto)]
+
+ghost use Rattle.std.specs.Prelude.{◌≡◌};
+ghost use Rattle.scope.specs.Refusals.{number_of};
+
+use std::fmt;
 
 pub const TASKS: usize = 32;
 
@@ -11,68 +16,90 @@ pub const POOLS: usize = 8;
 
 pub const QUEUES: usize = 8;
 
-// "Status numbers", by name. (specs/Statuses.antt.)
+// The status numbers that are no refusal: of a call done, of one that waits, and those that woken tasks alone are told. (specs/Statuses.antt.)
 pub const OK: u32 = 0;
 
 pub const PENDING: u32 = 1;
 
-pub const ILLEGAL_USE: u32 = 2;
-
-pub const INVALID_PARAMETER: u32 = 3;
-
-pub const INVALID_ID: u32 = 4;
-
-pub const OBJECT_DELETED: u32 = 5;
-
-pub const INVALID_OPTIONS: u32 = 6;
-
-pub const TOO_MANY_OBJECTS: u32 = 7;
-
-pub const NAME_NOT_FOUND: u32 = 8;
-
-pub const INVALID_COUNT: u32 = 9;
-
-pub const SEMAPHORE_NOT_AVAILABLE: u32 = 10;
-
 pub const SEMAPHORE_DELETED: u32 = 11;
-
-pub const SEMAPHORE_OVERFLOW: u32 = 12;
 
 pub const TIME_OUT: u32 = 13;
 
-pub const INVALID_BUFF_SIZE: u32 = 14;
-
-pub const POOL_OVERLAP: u32 = 15;
-
-pub const POOL_IN_USE: u32 = 16;
-
-pub const NO_MORE_MEMORY: u32 = 17;
-
-pub const INVALID_BUFF: u32 = 18;
-
-pub const INVALID_PRIORITY: u32 = 19;
-
-pub const TASK_ALREADY_STARTED: u32 = 20;
-
-pub const TASK_NOT_STARTED: u32 = 21;
-
-pub const TASK_ALREADY_SUSPENDED: u32 = 22;
-
-pub const TASK_NOT_SUSPENDED: u32 = 23;
-
-pub const NO_CALLER: u32 = 24;
-
-pub const BAD_CALL: u32 = 25;
-
-pub const BAD_STATE: u32 = 26;
-
-pub const INVALID_LENGTH: u32 = 27;
-
-pub const QUEUE_FULL: u32 = 28;
-
-pub const QUEUE_EMPTY: u32 = 29;
-
 pub const QUEUE_DELETED: u32 = 30;
+
+// Why a call is refused, by its number: "Status numbers" but those that are no refusal (0, 1) or told to woken tasks alone (11, 13, 30).
+// (specs/Refusals.antt.)
+#[derive(Clone, Copy, PartialEq, Eq, Debug, Drop)]
+pub enum Refusal {
+    IllegalUse = 2,
+    InvalidParameter = 3,
+    InvalidId = 4,
+    ObjectDeleted = 5,
+    InvalidOptions = 6,
+    TooManyObjects = 7,
+    NameNotFound = 8,
+    InvalidCount = 9,
+    SemaphoreNotAvailable = 10,
+    SemaphoreOverflow = 12,
+    InvalidBuffSize = 14,
+    PoolOverlap = 15,
+    PoolInUse = 16,
+    NoMoreMemory = 17,
+    InvalidBuff = 18,
+    InvalidPriority = 19,
+    TaskAlreadyStarted = 20,
+    TaskNotStarted = 21,
+    TaskAlreadySuspended = 22,
+    TaskNotSuspended = 23,
+    NoCaller = 24,
+    BadCall = 25,
+    BadState = 26,
+    InvalidLength = 27,
+    QueueFull = 28,
+    QueueEmpty = 29,
+}
+
+impl Refusal {
+    // The number that an answer tells as its status.
+    pub fn number(self) -> u32
+        ensures { result ≡ number_of self }
+    {
+        self as u32
+    }
+}
+
+impl fmt::Display for Refusal {
+    fn fmt<W: fmt::Write>(&self, f: &mut fmt::Formatter<W>) -> fmt::Result {
+        f.write_str(match self {
+            Refusal::IllegalUse => "ILLEGAL_USE",
+            Refusal::InvalidParameter => "INVALID_PARAMETER",
+            Refusal::InvalidId => "INVALID_ID",
+            Refusal::ObjectDeleted => "OBJECT_DELETED",
+            Refusal::InvalidOptions => "INVALID_OPTIONS",
+            Refusal::TooManyObjects => "TOO_MANY_OBJECTS",
+            Refusal::NameNotFound => "NAME_NOT_FOUND",
+            Refusal::InvalidCount => "INVALID_COUNT",
+            Refusal::SemaphoreNotAvailable => "SEMAPHORE_NOT_AVAILABLE",
+            Refusal::SemaphoreOverflow => "SEMAPHORE_OVERFLOW",
+            Refusal::InvalidBuffSize => "INVALID_BUFF_SIZE",
+            Refusal::PoolOverlap => "POOL_OVERLAP",
+            Refusal::PoolInUse => "POOL_IN_USE",
+            Refusal::NoMoreMemory => "NO_MORE_MEMORY",
+            Refusal::InvalidBuff => "INVALID_BUFF",
+            Refusal::InvalidPriority => "INVALID_PRIORITY",
+            Refusal::TaskAlreadyStarted => "TASK_ALREADY_STARTED",
+            Refusal::TaskNotStarted => "TASK_NOT_STARTED",
+            Refusal::TaskAlreadySuspended => "TASK_ALREADY_SUSPENDED",
+            Refusal::TaskNotSuspended => "TASK_NOT_SUSPENDED",
+            Refusal::NoCaller => "NO_CALLER",
+            Refusal::BadCall => "BAD_CALL",
+            Refusal::BadState => "BAD_STATE",
+            Refusal::InvalidLength => "INVALID_LENGTH",
+            Refusal::QueueFull => "QUEUE_FULL",
+            Refusal::QueueEmpty => "QUEUE_EMPTY",
+        })
+    }
+}
 
 // "Options are bit 0". (specs/Options.antt.)
 pub const FIFO: u32 = 1;
@@ -160,7 +187,20 @@ pub struct State {
     pub running: usize,
 }
 
-// The tasks that a call has woken so far, in order, beside where the tasks stand by then.
+// What is asked of a step: a call and its caller by their numbers, and five arguments.
+#[derive(Clone, Copy, PartialEq, Eq, Debug)]
+pub struct Request {
+    pub call: u32,
+    pub mark: u32,
+    pub a: u32,
+    pub b: u32,
+    pub c: u32,
+    pub d: u32,
+    pub e: u32,
+}
+
+// The tasks that a call has woken so far, in order, beside where the tasks stand by then. (A list and its length: the definitions of waking
+// have this shape, and there is no heap.)
 #[derive(Clone, Copy)]
 pub struct Waking {
     pub line: Line,
@@ -168,6 +208,7 @@ pub struct Waking {
     pub woken: usize,
 }
 
+// What a call answers, as the definitions have it. (Flags, counts and a status stand beside their values: theorems stand on this shape.)
 #[derive(Clone, Copy)]
 pub struct Answer {
     pub state: State,
@@ -188,14 +229,14 @@ pub struct Answer {
     pub shown: [u8; 64],
 }
 
-// A fresh state, or the refusal of its priority beside the fresh state of priority 0.
+// A fresh state, or the refusal of its priority beside the fresh state of priority 0. (No Result: both are given at once.)
 #[derive(Clone, Copy)]
 pub struct Fresh {
     pub state: State,
     pub status: u32,
 }
 
-// What an identifier names.
+// What an identifier names. (No Result: the theorems over histories go by these three cases.)
 #[derive(Clone, Copy)]
 pub enum Found {
     At(usize),

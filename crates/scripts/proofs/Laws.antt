@@ -28,7 +28,7 @@ use Rattle.histories.specs.Sound.{Sound}
 use Rattle.histories.proofs.Meaning.{sound_right}
 use Rattle.histories.proofs.Stays.{step_keeps}
 use Rattle.histories.proofs.Fresh.{fresh_sound}
-use Rattle.text.specs.declared.Record.{Record}
+use Rattle.scope.specs.declared.Request.{Request}
 use Rattle.text.specs.Records.{record_at}
 use Rattle.text.specs.Lines.{longest_line, reply_by}
 use Rattle.text.proofs.Laws.{line_length}
@@ -104,11 +104,11 @@ module _ (script : List ℕ) (at : ℕ) (s : State) (ok : Sound s) where
   step_is e = e ∙ sym (stepped-sound s _ _ _ _ _ _ _ _ (sound_right s ok))
 
   -- of the numbers and the message as they were read
-  pub record_step : (q : Record) (m : List ℕ) {r : Answer} → q ≡ record_at script at → m ≡ message_at script at
+  pub record_step : (q : Request) (m : List ℕ) {r : Answer} → q ≡ record_at script at → m ≡ message_at script at
       → r ≡ answered s q.call q.mark q.a q.b q.c q.d q.e m → r ≡ step_at script at s
   record_step q m {r} e f p =
       step_is
-      (subst (λ (x : Record). r ≡ answered s x.call x.mark x.a x.b x.c x.d x.e (message_at script at)) e
+      (subst (λ (x : Request). r ≡ answered s x.call x.mark x.a x.b x.c x.d x.e (message_at script at)) e
       (subst (λ (x : List ℕ). r ≡ answered s q.call q.mark q.a q.b q.c q.d q.e x) f p))
 
   pub step_sound : Sound (step_at script at s).state

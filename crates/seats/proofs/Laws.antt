@@ -1,25 +1,24 @@
 -- What the loops of the seats lean on: the last seat ahead is the one of the least way to the queue's end; a join's seat lies in its
 -- queue, and its two steps make `joins`; one task more counted.
 -- Assumes nothing.
-use Rattle.std.proofs.Common.{◌≡◌, ℕ, zero, suc, ◌+◌, ◌-◌, ◌*◌, ◌/◌, ◌%◌, ◌^◌, ◌<◌, ◌≤◌, Bool, true, false, ◌&&◌, ◌||◌, eqb, ltb, leb, ◌⊎◌, List, map, length, get_or, set, sym, refl, ap, ◌∙◌, inl, inr, ⊎_elim, add-one, arith, below_none, ltb-false, ltb-true, le-ltb, lt-ltb, eq-eqb, ne_eqb, le-leb, leb-false}
+use Rattle.std.proofs.Common.{◌≡◌, ℕ, zero, suc, ◌+◌, ◌-◌, ◌*◌, ◌/◌, ◌<◌, ◌≤◌, Bool, true, false, ◌&&◌, ◌||◌, eqb, ltb, leb, ◌⊎◌, List, map, length, get_or, set, sym, refl, ap, ◌∙◌, inl, inr, Option, None, Some, cond, min, add-one, arith, below_none, ltb-false, ltb-true, le-ltb, lt-ltb, eq-eqb, ne_eqb, le-leb, leb-false}
 use lib.ListN.{length-map}
 use lib.Seq.{set-get_or}
 use borrow.Author.Tests.{lt-leb}
 use Rattle.scope.specs.Choice.{pick, number}
-use Rattle.scope.specs.Seats.{lower, leaves, is_on, on_seat, seats_end, later_of, ahead_of, raise, joins, becomes_ready, stands_in}
+use Rattle.scope.specs.Seats.{lower, leaves, is_on, on_seat, seats_end, later_of, ahead_of, raise, joins, becomes_ready, stands_in, standing}
 use Rattle.scope.specs.Seats.{first_ring, ring_seats, ring_of, holds_task, mask_emptied, mask_left}
 use Rattle.laws.proofs.Arrays.{Changing, get_or-map_lt}
-use Rattle.laws.proofs.Branches.{true-false, picked_yes, picked_no, lt_or_le}
-use Rattle.laws.proofs.Searches.{none_more, some_more, noted}
+use Rattle.laws.proofs.Branches.{true-false, picked_yes, picked_no}
+use Rattle.laws.proofs.Searches.{number-le, none_more, some_more, noted, least-le, least-true, least_below}
+use Rattle.std.specs.Prelude.{MatchOption, position}
+use Rattle.std.specs.List.{position_or_len}
+use Rattle.std.specs.Option.{unwrap_or}
+use Rattle.std.proofs.lemmas.List.Sums.{position_or_len_is}
 
 -- the way from x to y, or one that wraps: then both x and the way itself are more than y
 abbrev pub Way : ℕ → ℕ → ℕ → Type 0
 Way x y d = (x + d ≡ y) ⊎ ((x + d ≡ y + 65536) × (y < x) × (y < d))
-
--- a difference that may wrap is a way
-pub wrapped : (y x d : ℕ) → y < 65536 → x < 65536 → d < 65536 → (d + x) % 2 ^ 16 ≡ y → Way x y d
-wrapped y x d h l m e =
-    ⊎_elim (λ f. inl (omega (arith, e, f))) (λ f. inr (omega (arith, e, f), omega (arith, e, f), omega (arith, e, f))) (lt_or_le (d + x) 65536)
 
 -- one comparison of ways: a seat lies from x on and before e exactly if the way to it is shorter than the way to e
 pub nearer : (x y d n e : ℕ) → Way x y d → x + n ≡ e → e < 65536 → d < n → (x ≤ y) × (y < e)
@@ -62,27 +61,22 @@ raise_apart x e y (inr b) = sym (go (leb x y))
     go false = refl
 
 -- the lesser way ends at the later seat, and the way from a seat past the queue is never the lesser
-way_more : (b y d w k : ℕ) → w ≤ 62 → Way y (b + 62) d
-    → b + 62 - pick (ltb d w) d w ≡ later_of (b + 62 - w) y (b + 63) k 0
+way_more : (b y d w v k : ℕ) → w ≤ 62 → v ≡ min w d → Way y (b + 62) d → b + 62 - v ≡ later_of (b + 62 - w) y (b + 63) k 0
 unfolding later_of pick
-way_more b y d w k h (inl e) = go (ltb d w) refl (ltb (b + 62 - w) y) refl (ltb y (b + 63)) refl (leb 0 k) refl
+way_more b y d w v k h m (inl e) = go (ltb (b + 62 - w) y) refl (ltb y (b + 63)) refl (leb 0 k) refl
   where
-    go : (p : Bool) → ltb d w ≡ p → (a : Bool) → ltb (b + 62 - w) y ≡ a → (f : Bool) → ltb y (b + 63) ≡ f → (g : Bool) → leb 0 k ≡ g
-        → b + 62 - pick p d w ≡ pick a (pick f (pick g y (b + 62 - w)) (b + 62 - w)) (b + 62 - w)
-    go true p true a true f true g = omega (arith, e)
-    go true p true a true f false g = absurd (omega (arith, leb-false 0 k g))
-    go true p true a false f v g = absurd (omega (arith, e, ltb-false y (b + 63) f))
-    go true p false a u f v g = absurd (omega (arith, e, ltb-true d w p, ltb-false (b + 62 - w) y a))
-    go false p true a u f v g = absurd (omega (arith, e, ltb-false d w p, ltb-true (b + 62 - w) y a))
-    go false p false a u f v g = refl
-way_more b y d w k h (inr e) = go (ltb d w) refl (ltb (b + 62 - w) y) (ltb y (b + 63)) refl (leb 0 k)
+    go : (p : Bool) → ltb (b + 62 - w) y ≡ p → (f : Bool) → ltb y (b + 63) ≡ f → (g : Bool) → leb 0 k ≡ g
+        → b + 62 - v ≡ pick p (pick f (pick g y (b + 62 - w)) (b + 62 - w)) (b + 62 - w)
+    go true u true f true g = omega (arith, ltb-true (b + 62 - w) y u)
+    go true u true f false g = absurd (omega (arith, leb-false 0 k g))
+    go true u false f g q = absurd (omega (arith, ltb-false y (b + 63) f))
+    go false u f q g r = omega (arith, ltb-false (b + 62 - w) y u)
+way_more b y d w v k h m (inr e) = go (ltb (b + 62 - w) y) (ltb y (b + 63)) refl (leb 0 k)
   where
-    go : (p : Bool) → ltb d w ≡ p → (a f : Bool) → ltb y (b + 63) ≡ f → (g : Bool)
-        → b + 62 - pick p d w ≡ pick a (pick f (pick g y (b + 62 - w)) (b + 62 - w)) (b + 62 - w)
-    go true p a f v g = absurd (omega (arith, e.2, ltb-true d w p))
-    go false p true true f g = absurd (omega (arith, e.1, ltb-true y (b + 63) f))
-    go false p true false f g = refl
-    go false p false u f g = refl
+    go : (p f : Bool) → ltb y (b + 63) ≡ f → (g : Bool) → b + 62 - v ≡ pick p (pick f (pick g y (b + 62 - w)) (b + 62 - w)) (b + 62 - w)
+    go true true f g = absurd (omega (arith, e.1, ltb-true y (b + 63) f))
+    go true false f g = omega (arith, e.2)
+    go false q f g = omega (arith, e.2)
 
 -- the loop of `hindmost`: the least way so far ends at the last seat of the first n tasks, whatever their keys
 abbrev pub Nearest : List ℕ → ℕ → ℕ → ℕ → Type 0
@@ -92,17 +86,12 @@ pub nearest_start : (q : List ℕ) (b : ℕ) → Nearest q b 62 0
 unfolding ahead_of
 nearest_start q b = (omega arith, λ key. omega arith)
 
-pub nearest_more : (q : List ℕ) (b w n d v : ℕ) → Way (get_or q n 0) (b + 62) d
-    → v ≡ pick (ltb d w) d w → Nearest q b w n → Nearest q b v (n + 1)
-unfolding ahead_of pick
+pub nearest_more : (q : List ℕ) (b w n d v : ℕ) → Way (get_or q n 0) (b + 62) d → v ≡ min w d → Nearest q b w n → Nearest q b v (n + 1)
+unfolding ahead_of
 nearest_more q b w n d v e g (small, all) = (
-  rw g (lesser (ltb d w) refl),
-  λ key. rw (g, add-one n, ahead_of, ← all key) (way_more b (get_or q n 0) d w (get_or key n 0) small e),
+  omega arith,
+  λ key. rw (add-one n, ahead_of, ← all key) (way_more b (get_or q n 0) d w v (get_or key n 0) small g e),
 )
-  where
-    lesser : (p : Bool) → ltb d w ≡ p → pick p d w ≤ 62
-    lesser true p = omega (arith, ltb-true d w p)
-    lesser false p = small
 
 -- where s has the seats of those whose key is p or more, and 0 for the others, keys need not be looked at again
 later_masked : (m y e k j p : ℕ) → later_of m (pick (leb p k) y 0) e j 0 ≡ later_of m y e k p
@@ -208,3 +197,37 @@ woken q r key t p b y behind false h long d e all g = rw (g, ← e, ← d) (all 
 pub counted : (q : List ℕ) (i base end n one t : ℕ) → base ≡ i → end ≡ base + 63 → n ≡ number (stands_in q i) t → one ≡ pick {A = ℕ} (ltb base (get_or q t 0) && ltb (get_or q t 0) end) 1 0 → n + one ≡ number (stands_in q i) (t + 1)
 unfolding number stands_in
 counted q i base end n one t b e h f = rw (add-one t, number, h, f, e, b)
+
+-- the task on seat x as an answer that may be nobody
+abbrev pub Told : List ℕ → ℕ → Option ℕ → Type 0
+Told q x r = MatchOption r (32 ≤ on_seat q x) (λ t. (t < 32) × (t ≡ on_seat q x))
+
+-- the library's first place at which x stands is that task
+pub seat_told : (q : List ℕ) (x : ℕ) {r : Option ℕ} → length q ≡ 32 → r ≡ position (λ (y : ℕ). eqb y x) q → Told q x r
+unfolding on_seat
+seat_told q x {r} long e = told (ltb (on_seat q x) 32) refl (e ∙ rw (first, long))
+  where
+    first : position_or_len (λ (y : ℕ). eqb y x) q ≡ on_seat q x
+    first =
+        position_or_len_is (λ (y : ℕ). eqb y x) q (on_seat q x) 0 (omega (arith, least-le (is_on q x) 32))
+        (λ k h. least_below (is_on q x) 32 k h)
+        (λ h. least-true (is_on q x) 32 (omega arith))
+
+    told : (b : Bool) → ltb (on_seat q x) 32 ≡ b → r ≡ cond b (Some (on_seat q x)) None → Told q x r
+    told true h g = rw g (ltb-true (on_seat q x) 32 h, refl)
+    told false h g = rw g (ltb-false (on_seat q x) 32 h)
+
+-- the same at a seat that is given another name
+pub told_at : (q : List ℕ) (x y : ℕ) (r : Option ℕ) → x ≡ y → Told q x r → Told q y r
+told_at q x y r e h = rw (← e) h
+
+-- nobody as the number 32
+pub told_or : (q : List ℕ) (x : ℕ) (r : Option ℕ) {n : ℕ} → Told q x r → n ≡ unwrap_or r 32 → n ≡ on_seat q x
+unfolding on_seat
+told_or q x (Some t) h e = e ∙ h.1
+told_or q x None h e = omega (arith, e, h, least-le (is_on q x) 32)
+
+-- no more tasks wait than there are
+pub few : (q : List ℕ) (base : ℕ) → standing q base ≤ 32
+unfolding standing
+few q base = number-le (stands_in q base) 32

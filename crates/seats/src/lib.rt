@@ -1,18 +1,24 @@
 // The verbs of the queues: leave from anywhere, join behind a key, first, who runs, how many; and of the mask of the rings that
 // hold a task. Nobody else touches a seat.
 // A seat is queue × 64 + place; slot 32 is nobody. (scope's specs/Seats.antt.)
-#![tactic(auto)]
+// `as` narrows a number that is proved to fit: `try_from` would make a Result that is never an Err.
+// (That a task's slot or an object's number lies in its range is asked by number: a type for each would be unwrapped at every index. The
+// functions below `take_out` and `put_in` take the seats alone, by value where the compiler then looks at many at a time.)
+#![tactic(auto, unfolding(scope::specs::Choice::pick, scope::specs::Seats::waits_on))]
 
-ghost use Rattle.std.specs.Prelude.{◌≡◌, ℕ, ◌+◌, ◌*◌, ◌/◌, ◌^◌, ◌<◌, ◌&&◌, ◌⊎◌, List, map, nat_le, nat_lt, slice_set};
+ghost use Rattle.std.specs.Prelude.{◌≡◌, ℕ, ◌+◌, ◌*◌, ◌/◌, ◌^◌, ◌<◌, ◌&&◌, ◌⊎◌, List, map, nat_le, nat_lt, slice_set, ◌≤◌, MatchOption};
 ghost use Rattle.scope.specs.Choice.{pick, has_bit};
+ghost use Rattle.scope.specs.Views.{ready_with};
 ghost use Rattle.scope.specs.Seats.{lower, raise, leaves, joins, becomes_ready, ahead_of, on_seat, first_standing, standing, runner_of, waits_on, queue_seats, seats_end};
-ghost use Rattle.scope.specs.Seats.{mask_filled, mask_emptied, rings_left, rings_ready, first_ring, ring_of, holds_task, ring_mask};
+ghost use Rattle.scope.specs.Seats.{mask_filled, mask_emptied, rings_left, rings_ready, first_ring, mask_of, ring_of, holds_task, ring_mask};
+
+use scope::Line;
 
 // The way from seat `x` on to seat `y`; to a seat before `x` it wraps.
 fn way(x: u16, y: u16) -> u16
     ensures { (x + result ≡ y) ⊎ ((x + result ≡ y + 65536) × (y < x) × (y < result)) }
 {
-    std::num::wrapping_sub_u16(y, x)
+    y.wrapping_sub(x)
 }
 
 // A seat after seat `x` was left; `reach` is the way from `x` to the end of its queue's seats. Which seats lie between is told by one
@@ -30,7 +36,7 @@ fn lowered(y: u16, x: u16, reach: u16) -> u16
     y
 }
 
-// The seats after one was left, and whether anybody is the first of its queue then.
+// The seats after one was left, and whether anybody is the first of its queue then. No Option: the seats are needed either way.
 #[derive(Clone, Copy)]
 struct Closed {
     seats: [u16; 32],
@@ -43,19 +49,13 @@ fn close_up(q: [u16; 32], x: u16) -> Closed
 {
     let reach = 63 - x % 64;
     let first = x / 64 * 64 + 1;
-    let mut r = q;
+    let mut seats = q;
     let mut held = false;
-    let mut k: usize = 0;
-    while k < 32 {
-        let y = lowered(r[k], x, reach);
-        r[k] = y;
-        held = held | (y == first);
-        k += 1;
+    for y in seats.iter_mut() {
+        *y = lowered(*y, x, reach);
+        held = held | (*y == first);
     }
-    Closed {
-        seats: r,
-        held: held,
-    }
+    Closed { seats, held }
 }
 
 // A seat after another task took seat `x`; `reach` is the way from `x` to the end of its queue's seats.
@@ -69,15 +69,6 @@ fn raised(y: u16, x: u16, reach: u16) -> u16
     y
 }
 
-fn smaller(x: u16, y: u16) -> u16
-    ensures { result ≡ pick (nat_lt y x) y x }
-{
-    if y < x {
-        return y;
-    }
-    x
-}
-
 // The last seat taken above `base`, in a queue's 62 seats; `base` if there is none. By the least way from a seat to the queue's last, longer
 // than any from a seat past it, with no branch for each task: the compiler takes many seats at a time.
 fn hindmost(q: [u16; 32], base: u16) -> u16
@@ -86,10 +77,8 @@ fn hindmost(q: [u16; 32], base: u16) -> u16
 {
     let last = base + 62;
     let mut least: u16 = 62;
-    let mut k: usize = 0;
-    while k < 32 {
-        least = smaller(least, way(q[k], last));
-        k += 1;
+    for y in &q {
+        least = least.min(way(*y, last));
     }
     last - least
 }
@@ -109,14 +98,11 @@ fn ahead(q: [u16; 32], key: [u8; 32], base: u16, p: u8) -> u16
     requires { base < 65000 }
     ensures { result ≡ ahead_of q key base (base + 63) p 32 }
 {
-    let mut s = q;
-    let mut k: usize = 0;
-    while k < 32 {
-        let y = seat_ahead(s[k], key[k], p);
-        s[k] = y;
-        k += 1;
+    let mut seats = q;
+    for k in 0..32 {
+        seats[k] = seat_ahead(seats[k], key[k], p);
     }
-    hindmost(s, base)
+    hindmost(seats, base)
 }
 
 // The seats after another task took seat `x`; `reach` is the way from `x` to the end of its queue's seats.
@@ -124,14 +110,11 @@ fn make_room(q: [u16; 32], x: u16, reach: u16) -> [u16; 32]
     requires { x + reach < 65536 }
     ensures { result ≡ map (raise x (x + reach)) q }
 {
-    let mut r = q;
-    let mut k: usize = 0;
-    while k < 32 {
-        let y = raised(r[k], x, reach);
-        r[k] = y;
-        k += 1;
+    let mut seats = q;
+    for y in seats.iter_mut() {
+        *y = raised(*y, x, reach);
     }
-    r
+    seats
 }
 
 // Task `t`, which stands nowhere, joins the queue whose seats begin above `base`, behind all whose key is `p` or more.
@@ -143,12 +126,6 @@ pub fn join(seat: &mut [u16; 32], key: &[u8; 32], t: usize, base: u16, p: u8)
     let x = ahead(*seat, *key, base, p) + 1;
     *seat = make_room(*seat, x, base + 63 - x);
     seat[t] = x;
-}
-
-fn wide(p: u8) -> u16
-    ensures { result ≡ p }
-{
-    p as u16
 }
 
 // The seat behind all of that queue. Nobody there has to go back for who takes it.
@@ -173,10 +150,10 @@ pub fn make_ready(seat: &mut [u16; 32], t: usize, p: u8)
     requires { t < 32 }
     ensures { (key : List ℕ) → seat.new ≡ becomes_ready seat.old key t p }
 {
-    join_last(seat, t, wide(p) * 64 + 2048);
+    join_last(seat, t, u16::from(p) * 64 + 2048);
 }
 
-// The seats after one was left, and the seat behind all of some queue then.
+// The seats after one was left, and the seat behind all of some queue then: names for what one pass makes.
 #[derive(Clone, Copy)]
 struct Moved {
     seats: [u16; 32],
@@ -190,17 +167,14 @@ fn move_up(q: [u16; 32], x: u16, base: u16) -> Moved
 {
     let reach = 63 - x % 64;
     let last = base + 62;
-    let mut r = q;
+    let mut seats = q;
     let mut least: u16 = 62;
-    let mut k: usize = 0;
-    while k < 32 {
-        let y = lowered(r[k], x, reach);
-        r[k] = y;
-        least = smaller(least, way(y, last));
-        k += 1;
+    for y in seats.iter_mut() {
+        *y = lowered(*y, x, reach);
+        least = least.min(way(*y, last));
     }
     Moved {
-        seats: r,
+        seats,
         behind: last - least + 1,
     }
 }
@@ -222,25 +196,16 @@ pub fn wake(seat: &mut [u16; 32], t: usize, suspended: bool, p: u8)
         ≡ pick suspended (leaves seat.old t) (becomes_ready (leaves seat.old t) key t p) }
 {
     let x = seat[t];
-    let m = move_up(*seat, x, wide(p) * 64 + 2048);
-    let q = m.seats;
-    *seat = q;
-    let y = seat_unless(suspended, m.behind);
-    seat[t] = y;
+    let Moved { seats, behind } = move_up(*seat, x, u16::from(p) * 64 + 2048);
+    *seat = seats;
+    seat[t] = seat_unless(suspended, behind);
 }
 
-// The task on seat `x`; 32 if there is none.
-pub fn on_seat(q: &[u16; 32], x: u16) -> usize
-    ensures { result ≡ on_seat q.now x }
+// The task on seat `x`.
+pub fn on_seat(q: &[u16; 32], x: u16) -> Option<usize>
+    ensures { MatchOption result (32 ≤ on_seat q.now x) (λ t. (t < 32) × (t ≡ on_seat q.now x)) }
 {
-    let mut t: usize = 0;
-    while t < 32 {
-        if q[t] == x {
-            return t;
-        }
-        t += 1;
-    }
-    t
+    q.iter().position(|y| *y == x)
 }
 
 // Whether somebody is on seat `x`. Without a branch for each task: the compiler takes many seats at a time.
@@ -248,50 +213,41 @@ pub fn is_taken(q: [u16; 32], x: u16) -> bool
     ensures { result ≡ nat_lt (on_seat q x) 32 }
 {
     let mut taken = false;
-    let mut t: usize = 0;
-    while t < 32 {
-        taken = taken | (q[t] == x);
-        t += 1;
+    for y in &q {
+        taken = taken | (*y == x);
     }
     taken
 }
 
-// The first waiter of object `i`; 32 if there is none, which is most often so.
-pub fn first_waiter(q: &[u16; 32], i: usize) -> usize
+// The first waiter of object `i`. Most often there is none: that is asked first, of all seats at once.
+pub fn first_waiter(line: &Line, i: usize) -> Option<usize>
     requires { i < 31 }
-    ensures { result ≡ first_standing q.now (queue_seats i) }
+    ensures { MatchOption result (32 ≤ first_standing line.now.seat (queue_seats i)) (λ t. (t < 32) × (t ≡ first_standing line.now.seat (queue_seats i))) }
 {
     let x = (i * 64 + 65) as u16;
-    if is_taken(*q, x) {
-        return on_seat(q, x);
+    if is_taken(line.seat, x) {
+        return on_seat(&line.seat, x);
     }
-    32
+    None
 }
 
 // 1 for a task that stands above `base`, before `end`; else 0.
 fn one_in(y: u16, base: u16, end: u16) -> usize
     ensures { result ≡ pick {A = ℕ} (nat_lt base y && nat_lt y end) 1 0 }
 {
-    if base < y {
-        if y < end {
-            return 1;
-        }
-    }
-    0
+    usize::from(base < y && y < end)
 }
 
 // How many tasks wait for object `i`.
-pub fn waiters(q: [u16; 32], i: usize) -> usize
+pub fn waiters(line: &Line, i: usize) -> usize
     requires { i < 31 }
-    ensures { result ≡ standing q (queue_seats i) }
+    ensures { result ≡ standing line.now.seat (queue_seats i) }
 {
     let base = (i * 64 + 64) as u16;
     let end = base + 63;
-    let mut n: usize = 0;
-    let mut t: usize = 0;
-    while t < 32 {
-        n += one_in(q[t], base, end);
-        t += 1;
+    let mut n = 0;
+    for y in &line.seat {
+        n += one_in(*y, base, end);
     }
     n
 }
@@ -311,7 +267,7 @@ pub fn mask_filled(mask: u16, p: u8) -> u16
     if 16 <= p {
         return mask;
     }
-    let k = p as u32;
+    let k = u32::from(p);
     if has_bit(mask, k) {
         return mask;
     }
@@ -325,7 +281,7 @@ fn mask_emptied(mask: u16, p: u16) -> u16
     if 16 <= p {
         return mask;
     }
-    let k = p as u32;
+    let k = u32::from(p);
     if has_bit(mask, k) {
         return mask - (1u16 << k);
     }
@@ -347,54 +303,56 @@ fn mask_left(mask: u16, held: bool, x: u16) -> u16
 
 // Task `t` leaves the queue it stands in, and the mask follows. Its seat is read where it lies: read from a copy of all seats, the copy
 // would have to be made.
-pub fn take_out(seat: &mut [u16; 32], rings: &mut [u16; 1], t: usize)
+pub fn take_out(line: &mut Line, t: usize)
     requires { t < 32 }
-    ensures { (seat.new ≡ leaves seat.old t)
-        × (rings.new ≡ rings_left rings.old seat.old t) }
+    ensures { line.new ≡ record line.old { seat = leaves line.old.seat t; rings = rings_left line.old.rings line.old.seat t } }
 {
-    let x = seat[t];
-    let c = close_up(*seat, x);
-    let q = c.seats;
-    *seat = q;
-    let mask = mask_left(rings[0], c.held, x);
-    rings[0] = mask;
+    let x = line.seat[t];
+    let Closed { seats, held } = close_up(line.seat, x);
+    line.seat = seats;
+    line.rings[0] = mask_left(line.rings[0], held, x);
 }
 
 // Task `t`, which stands nowhere, becomes ready with priority `p`, and the mask follows.
-pub fn put_in(seat: &mut [u16; 32], key: &[u8; 32], rings: &mut [u16; 1], t: usize, p: u8)
+pub fn put_in(line: &mut Line, t: usize, p: u8)
     requires { t < 32 }
-    ensures { (seat.new ≡ becomes_ready seat.old key.now t p)
-        × (rings.new ≡ rings_ready rings.old p) }
+    ensures { line.new ≡ record line.old { seat = becomes_ready line.old.seat line.old.joined t p; rings = rings_ready line.old.rings p } }
 {
-    make_ready(seat, t, p);
-    let mask = mask_filled(rings[0], p);
-    rings[0] = mask;
+    make_ready(&mut line.seat, t, p);
+    line.rings[0] = mask_filled(line.rings[0], p);
 }
 
 // The running task: the first of the ring that the leading zeros of the mask name; 32 if no ring holds a task. Slot 0 is asked before the
 // search is called: the first task is who runs while all others wait.
-pub fn runner(q: &[u16; 32], mask: u16) -> usize
-    ensures { result ≡ runner_of q.now mask }
+// The answer stays a number, as `State.running` does, which it is written to: the theorems of the state compare it with 32.
+pub fn runner(line: &Line) -> usize
+    ensures { result ≡ runner_of line.now.seat (mask_of line.now.rings) }
 {
+    let mask = line.rings[0];
     if mask == 0 {
         return 32;
     }
     let p = 15 - u16::leading_zeros(mask);
     let x = (p * 64 + 2049) as u16;
-    if q[0] == x {
+    if line.seat[0] == x {
         return 0;
     }
-    on_seat(q, x)
+    on_seat(&line.seat, x).unwrap_or(32)
 }
 
 // Whether a task on this seat waits in an object's queue.
 pub fn waits_on(x: u16) -> bool
     ensures { result ≡ waits_on x }
 {
-    if 0 < x {
-        return x < 2048;
-    }
-    false
+    0 < x && x < 2048
+}
+
+// "A task is ready if started, not waiting and not suspended." Without a branch, so that a rule asks several tasks at a time.
+#[tactic(auto, unfolding(scope::specs::Views::ready_with))]
+pub fn is_ready(started: bool, suspended: bool, x: u16) -> bool
+    ensures { result ≡ ready_with started suspended x }
+{
+    started & !suspended & !waits_on(x)
 }
 
 // Bit `p` of a mask where ring `p` holds a task, else 0.
@@ -412,11 +370,9 @@ fn ring_bit(q: &[u16; 32], p: u32) -> u16
 pub fn ring_mask(q: &[u16; 32]) -> u16
     ensures { result ≡ ring_mask q.now }
 {
-    let mut mask: u16 = 0;
-    let mut p: u32 = 0;
-    while p < 16 {
+    let mut mask = 0;
+    for p in 0..16 {
         mask += ring_bit(q, p);
-        p += 1;
     }
     mask
 }

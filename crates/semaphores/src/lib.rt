@@ -1,295 +1,118 @@
-// The semaphore calls: chapter 7, as document 01 fixes it. A semaphore keeps its free units; its count is those less the tasks
+// The semaphore calls. A semaphore keeps its free units; its count is those less the tasks
 // that wait, so whoever leaves its queue gives its one back by leaving. sem_release may come from an interrupt.
-// Each call is lent the columns it reads or changes, and changes them where they lie. (scope's specs/Semaphores.antt.)
-#![tactic(auto)]
+// Each call is lent the state and changes it where it lies; who runs then, its outcome says. A refusal changes nothing.
+// (scope's specs/Semaphores.antt.)
+// (A cast by `as` stands where Rust has no `From`; each is proved to lose nothing.)
+#![tactic(auto, unfolding(scope::specs::Choice::pick, tables::specs::Slots::slot_of, scope::specs::Answers::on_found, scope::specs::Answers::plain, scope::specs::Answers::gives, scope::specs::Answers::answer, scope::specs::Answers::wakes_with, scope::specs::Answers::bit_of, scope::specs::Views::less, answers::specs::Outcomes::outcome, answers::specs::Outcomes::woke, answers::specs::Outcomes::answer_of, waiting::specs::Calls::time_out, waiting::specs::Calls::wait_for, scope::specs::Semaphores::sem_create, scope::specs::Semaphores::sem_create_at, scope::specs::Semaphores::sem_delete_at, scope::specs::Semaphores::sem_ident, scope::specs::Semaphores::sem_ident_at, scope::specs::Semaphores::sem_wait_at, scope::specs::Semaphores::sem_claim_at, scope::specs::Semaphores::sem_release_at, scope::specs::Semaphores::sem_info_at), using(seats::proofs::Laws::few))]
 
-ghost use Rattle.std.specs.Prelude.{◌≡◌, true, false, ◌<◌, ◌≤◌, get_or};
-ghost use Rattle.scope.specs.declared.State.{State};
+ghost use Rattle.std.specs.Prelude.{◌≡◌, ◌<◌};
 ghost use Rattle.scope.specs.Answers.{no_wakes};
-ghost use Rattle.scope.specs.Identifiers.{found};
 ghost use Rattle.scope.specs.Semaphores.{sem_create, sem_delete, sem_ident, sem_claim, sem_release, sem_info};
-ghost use Rattle.answers.specs.Outcomes.{answer_of};
-ghost use Rattle.answers.specs.Columns.{lent_semaphores};
-ghost use Rattle.tables.specs.Slots.{slot_of};
-ghost use Rattle.semaphores.specs.Deciding.{room_of, claim_status};
+ghost use Rattle.answers.specs.Outcomes.{answer_of, outcome_of};
 
 use answers::Outcome;
-use tables::Slot;
+use scope::{Refusal, State};
 
-// The semaphore an identifier names.
-fn named<'a>(serial: &'a [u16; 16], live: &'a [bool; 16], id: u32) -> Slot
-    ensures value { result ≡ slot_of (found serial.now live.now id) }
-    ensures at_bound { result.at < 16 }
-{
-    tables::find(serial, live, id)
-}
+// The greatest count.
+const LAST_COUNT: u16 = 32767;
 
-// The slot a new semaphore takes.
-fn room<'a>(serial: &'a [u16; 16], live: &'a [bool; 16], count: u32, options: u32) -> Slot
-    ensures value { result ≡ room_of serial.now live.now count options }
-    ensures at_bound { (result.at < 16) × (result.status ≡ 0 → (get_or serial.now result.at 0 < 65535) × (count ≤ 32767)) }
+// A new semaphore in the lowest slot that is free, with so many units.
+pub fn sem_create(s: &mut State, what: u32, count: u32, options: u32) -> Result<Outcome, Refusal>
+    ensures answer { answer_of s.new no_wakes (outcome_of s.old.running result) ≡ sem_create s.old what count options }
+    ensures running { s.new.running ≡ s.old.running }
 {
-    if 32767 < count {
-        return tables::refused(scope::INVALID_COUNT);
+    if u32::from(LAST_COUNT) < count {
+        return Err(Refusal::InvalidCount);
     }
     if scope::LAST_OPTION < options {
-        return tables::refused(scope::INVALID_OPTIONS);
+        return Err(Refusal::InvalidOptions);
     }
-    let i = tables::lowest_usable(serial, live);
-    if 16 <= i {
-        return tables::refused(scope::TOO_MANY_OBJECTS);
-    }
-    tables::taken(i)
+    let m = &mut s.semaphores;
+    let i = tables::lowest_usable(&*m).ok_or(Refusal::TooManyObjects)?;
+    let next = m.serial[i] + 1;
+    m.name[i] = what;
+    m.serial[i] = next;
+    m.units[i] = count as u16;
+    m.live[i] = true;
+    m.fifo[i] = options == scope::FIFO;
+    Ok(answers::gives(tables::identifier(next, i), s.running))
 }
 
-pub fn sem_create(
-    name: &mut [u32; 16],
-    serial: &mut [u16; 16],
-    units: &mut [u16; 16],
-    live: &mut [bool; 16],
-    fifo: &mut [bool; 16],
-    running: usize,
-    what: u32,
-    count: u32,
-    options: u32,
-) -> Outcome
-    ensures { (s : State) → answer_of
-        (lent_semaphores s s.line.left s.line.seat s.line.joined s.line.rings s.tasks.serial s.tasks.suspended s.tasks.priority
-        name.new serial.new units.new live.new fifo.new running) no_wakes result
-        ≡ sem_create
-        (lent_semaphores s s.line.left s.line.seat s.line.joined s.line.rings s.tasks.serial s.tasks.suspended s.tasks.priority
-        name.old serial.old units.old live.old
-        fifo.old running) what count options }
-{
-    let f = room(&*serial, &*live, count, options);
-    if f.status != scope::OK {
-        return answers::plain(f.status, running);
-    }
-    let i = f.at;
-    let next = serial[i] + 1;
-    name[i] = what;
-    serial[i] = next;
-    units[i] = count as u16;
-    live[i] = true;
-    fifo[i] = options == scope::FIFO;
-    answers::gives(tables::identifier(next, i), running)
-}
-
-pub fn sem_delete(
-    left: &mut [u32; 32],
-    seat: &mut [u16; 32],
-    joined: &mut [u8; 32],
-    rings: &mut [u16; 1],
-    waker: &[u16; 32],
-    suspended: &[bool; 32],
-    priority: &[u8; 32],
-    name: &mut [u32; 16],
-    serial: &[u16; 16],
-    units: &mut [u16; 16],
-    live: &mut [bool; 16],
-    fifo: &mut [bool; 16],
-    wakes: &mut [u32; 32],
-    running: usize,
-    id: u32,
-) -> Outcome
-    ensures { (s : State) → answer_of (lent_semaphores s left.new seat.new joined.new rings.new
-        waker.now suspended.now priority.now name.new serial.now units.new
-        live.new fifo.new running) wakes.new result
-        ≡ sem_delete (lent_semaphores s left.old seat.old joined.old rings.old waker.now
-        suspended.now priority.now name.old serial.now units.old live.old
-        fifo.old running) id }
+// All that wait for it are woken, and it is gone.
+pub fn sem_delete(s: &mut State, wakes: &mut [u32; 32], id: u32) -> Result<Outcome, Refusal>
+    ensures answer { answer_of s.new wakes.new (outcome_of s.old.running result) ≡ sem_delete s.old id }
+    ensures running { s.new.running ≡ s.old.running }
 {
     *wakes = [0; 32];
-    let f = named(serial, &*live, id);
-    if f.status != scope::OK {
-        return answers::plain(f.status, running);
-    }
-    let i = f.at;
-    let woken = waiting::wake_all(
-        left, seat, joined, rings, waker, suspended, priority, wakes, i,
-    );
-    name[i] = 0;
-    units[i] = 0;
-    live[i] = false;
-    fifo[i] = false;
-    answers::woke(
-        woken,
-        scope::SEMAPHORE_DELETED,
-        seats::runner(seat, rings[0]),
-    )
+    let i = tables::find(&s.semaphores, id)?;
+    let woken = waiting::wake_all(&mut s.line, &s.tasks, wakes, i);
+    let m = &mut s.semaphores;
+    m.name[i] = 0;
+    m.units[i] = 0;
+    m.live[i] = false;
+    m.fifo[i] = false;
+    Ok(answers::woke(woken, scope::SEMAPHORE_DELETED, seats::runner(&s.line)))
 }
 
-pub fn sem_ident<'a>(
-    name: &'a [u32; 16],
-    serial: &[u16; 16],
-    live: &'a [bool; 16],
-    running: usize,
-    what: u32,
-) -> Outcome
-    ensures { (s : State) → answer_of
-        (lent_semaphores s s.line.left s.line.seat s.line.joined s.line.rings s.tasks.serial s.tasks.suspended s.tasks.priority
-        name.now serial.now s.semaphores.units live.now s.semaphores.fifo running) no_wakes result
-        ≡ sem_ident
-        (lent_semaphores s s.line.left s.line.seat s.line.joined s.line.rings s.tasks.serial s.tasks.suspended s.tasks.priority
-        name.now serial.now s.semaphores.units live.now s.semaphores.fifo running) what }
+// The identifier of the semaphore of that name.
+pub fn sem_ident(s: &State, what: u32) -> Result<Outcome, Refusal>
+    ensures { answer_of s.now no_wakes (outcome_of s.now.running result) ≡ sem_ident s.now what }
 {
-    let i = tables::by_name(live, name, what);
-    if 16 <= i {
-        return answers::plain(scope::NAME_NOT_FOUND, running);
-    }
-    answers::gives(tables::identifier(serial[i], i), running)
+    let id = tables::ident(&s.semaphores, what)?;
+    Ok(answers::gives(id, s.running))
 }
 
-// What a claim is answered: OK where a unit is free, PENDING where who runs must wait, else the refusal.
-fn claim_status(free: u16, options: u32, ticks: u32, running: usize) -> u32
-    ensures value { result ≡ claim_status free options ticks running }
-    ensures free_nonzero { (result ≡ 0 → 0 < free) × (result ≡ 1 → running < 32) }
+// A unit where one is free; else who runs waits for one, as long as it will.
+pub fn sem_claim(s: &mut State, id: u32, options: u32, ticks: u32) -> Result<Outcome, Refusal>
+    ensures answer { answer_of s.new no_wakes (outcome_of s.old.running result) ≡ sem_claim s.old id options ticks }
+    ensures running { s.new.running ≡ s.old.running }
 {
-    if scope::LAST_OPTION < options {
-        return scope::INVALID_OPTIONS;
-    }
-    if times::lacks_time_out(options, ticks) {
-        return scope::INVALID_PARAMETER;
-    }
+    let i = tables::find(&s.semaphores, id)?;
+    let time_out = waiting::time_out(options, ticks)?;
+    let free = s.semaphores.units[i];
     if 0 < free {
-        return scope::OK;
+        s.semaphores.units[i] = free - 1;
+        return Ok(answers::plain(scope::OK, s.running));
     }
-    if options == scope::NOWAIT {
-        return scope::SEMAPHORE_NOT_AVAILABLE;
-    }
-    if 32 <= running {
-        return scope::NO_CALLER;
-    }
-    scope::PENDING
-}
-
-pub fn sem_claim<'a>(
-    left: &mut [u32; 32],
-    seat: &mut [u16; 32],
-    joined: &mut [u8; 32],
-    rings: &mut [u16; 1],
-    priority: &[u8; 32],
-    serial: &'a [u16; 16],
-    units: &mut [u16; 16],
-    live: &'a [bool; 16],
-    fifo: &[bool; 16],
-    running: usize,
-    id: u32,
-    options: u32,
-    ticks: u32,
-) -> Outcome
-    ensures { (s : State) → answer_of (lent_semaphores s left.new seat.new
-        joined.new rings.new s.tasks.serial s.tasks.suspended priority.now s.semaphores.name serial.now
-        units.new live.now fifo.now running) no_wakes result
-        ≡ sem_claim (lent_semaphores s left.old seat.old joined.old rings.old s.tasks.serial s.tasks.suspended
-        priority.now s.semaphores.name serial.now units.old live.now
-        fifo.now running) id options ticks }
-{
-    let f = named(serial, live, id);
-    if f.status != scope::OK {
-        return answers::plain(f.status, running);
-    }
-    let i = f.at;
-    let free = units[i];
-    let status = claim_status(free, options, ticks, running);
-    if 1 < status {
-        return answers::plain(status, running);
-    }
-    if status == scope::OK {
-        units[i] = free - 1;
-        return answers::plain(scope::OK, running);
-    }
-    waiting::wait(
-        left,
-        seat,
-        joined,
-        rings,
-        i,
-        fifo[i],
-        priority[running],
-        ticks,
-        running,
-    );
-    answers::plain(scope::PENDING, seats::runner(seat, rings[0]))
+    let ticks = time_out.ok_or(Refusal::SemaphoreNotAvailable)?;
+    let fifo = s.semaphores.fifo[i];
+    waiting::wait_for(s, i, fifo, ticks)
 }
 
 // "If there were waiters the first leaves, woken with OK: that is its grant."
-pub fn sem_release<'a>(
-    left: &mut [u32; 32],
-    seat: &mut [u16; 32],
-    joined: &mut [u8; 32],
-    rings: &mut [u16; 1],
-    waker: &[u16; 32],
-    suspended: &[bool; 32],
-    priority: &[u8; 32],
-    serial: &'a [u16; 16],
-    units: &mut [u16; 16],
-    live: &'a [bool; 16],
-    wakes: &mut [u32; 32],
-    running: usize,
-    id: u32,
-) -> Outcome
-    ensures { (s : State) → answer_of (lent_semaphores s left.new seat.new joined.new rings.new
-        waker.now suspended.now priority.now s.semaphores.name serial.now
-        units.new live.now s.semaphores.fifo running) wakes.new result
-        ≡ sem_release (lent_semaphores s left.old seat.old joined.old rings.old waker.now
-        suspended.now priority.now s.semaphores.name serial.now units.old
-        live.now s.semaphores.fifo running) id }
+pub fn sem_release(s: &mut State, wakes: &mut [u32; 32], id: u32) -> Result<Outcome, Refusal>
+    ensures answer { answer_of s.new wakes.new (outcome_of s.old.running result) ≡ sem_release s.old id }
+    ensures running { s.new.running ≡ s.old.running }
 {
     *wakes = [0; 32];
-    let f = named(serial, live, id);
-    if f.status != scope::OK {
-        return answers::plain(f.status, running);
+    let i = tables::find(&s.semaphores, id)?;
+    if let Some(t) = seats::first_waiter(&s.line, i) {
+        waiting::wake_next(&mut s.line, &s.tasks, wakes, 0, t);
+        return Ok(answers::woke(1, scope::OK, seats::runner(&s.line)));
     }
-    let i = f.at;
-    let t = seats::first_waiter(seat, i);
-    if t < 32 {
-        waiting::wake_next(
-            left, seat, joined, rings, waker, suspended, priority, wakes, 0, t,
-        );
-        return answers::woke(1, scope::OK, seats::runner(seat, rings[0]));
+    let free = s.semaphores.units[i];
+    if LAST_COUNT <= free {
+        return Err(Refusal::SemaphoreOverflow);
     }
-    let free = units[i];
-    if 32767 <= free {
-        return answers::plain(scope::SEMAPHORE_OVERFLOW, running);
-    }
-    units[i] = free + 1;
-    answers::plain(scope::OK, running)
-}
-
-fn wide(x: u16) -> u32
-    ensures { result ≡ x }
-{
-    x as u32
+    s.semaphores.units[i] = free + 1;
+    Ok(answers::plain(scope::OK, s.running))
 }
 
 // "sem_info gives options, count, tasks waiting". The count is the units less the tasks waiting, with a sign.
-pub fn sem_info<'a>(
-    seat: &[u16; 32],
-    serial: &'a [u16; 16],
-    units: &[u16; 16],
-    live: &'a [bool; 16],
-    fifo: &[bool; 16],
-    running: usize,
-    id: u32,
-) -> Outcome
-    ensures { (s : State) → answer_of (lent_semaphores s s.line.left
-        seat.now s.line.joined s.line.rings s.tasks.serial s.tasks.suspended s.tasks.priority s.semaphores.name
-        serial.now units.now live.now fifo.now running) no_wakes result
-        ≡ sem_info (lent_semaphores s s.line.left
-        seat.now s.line.joined s.line.rings s.tasks.serial s.tasks.suspended s.tasks.priority s.semaphores.name
-        serial.now units.now live.now fifo.now running) id }
+pub fn sem_info(s: &State, id: u32) -> Result<Outcome, Refusal>
+    ensures { answer_of s.now no_wakes (outcome_of s.now.running result) ≡ sem_info s.now id }
 {
-    let f = named(serial, live, id);
-    if f.status != scope::OK {
-        return answers::plain(f.status, running);
-    }
-    let i = f.at;
-    let waiting = seats::waiters(*seat, i) as u32;
-    let options = answers::bit(fifo[i]);
-    let free = wide(units[i]);
-    if free < waiting {
-        return answers::tells(options, waiting - free, waiting, 0, true, running);
-    }
-    answers::tells(options, free - waiting, waiting, 0, false, running)
+    let m = &s.semaphores;
+    let i = tables::find(m, id)?;
+    let waiting = seats::waiters(&s.line, i) as u32;
+    let options = u32::from(m.fifo[i]);
+    let free = u32::from(m.units[i]);
+    Ok(answers::tells(
+        options,
+        free.abs_diff(waiting),
+        waiting,
+        0,
+        free < waiting,
+        s.running,
+    ))
 }

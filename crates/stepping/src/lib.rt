@@ -1,5 +1,6 @@
 // The kernel for C, on numbers and bytes: a fresh image, and a step that changes an image in place and gives its answer as bytes.
 // (specs/Steps.antt and specs/Answers.antt of `replies`.)
+// (A cast by `as` stands where Rust has no `From`; each is proved to lose nothing.)
 #![tactic(auto)]
 
 ghost use Rattle.std.specs.Prelude.{◌≡◌, ◌≤◌, length, take};
@@ -10,8 +11,8 @@ ghost use Rattle.image.specs.Image.{image_size};
 ghost use Rattle.replies.specs.Answers.{numbers_by};
 ghost use Rattle.replies.specs.Steps.{StepsTo, steps_on, freshes, writes};
 
-use answers::Outcome;
-use scope::State;
+use answers::{Notices, Outcome};
+use scope::{Refusal, Request, State};
 
 const NO_ROOM: u32 = 31;
 
@@ -42,27 +43,18 @@ fn step_own(
     image: &mut [u8; image::SIZE],
     message: &[u8],
     answer: &mut [u8; 236],
-    call: u32,
-    mark: u32,
-    a: u32,
-    b: u32,
-    c: u32,
-    d: u32,
-    e: u32,
+    request: &Request,
 ) -> u32
     requires { length image.old ≡ image_size }
-    ensures { StepsTo image.old (steps_on image.old call mark a b c d e message.now) image.new answer.new result }
+    ensures { StepsTo image.old (steps_on image.old request.now.call request.now.mark request.now.a request.now.b request.now.c request.now.d request.now.e message.now) image.new answer.new result }
 {
-    let mut wakes = [0u32; 32];
-    let mut shown = [0u8; 64];
+    let mut notices = Notices::new();
     let written = images::is_written(image);
-    let t = imaging::step_image(
-        image, &mut wakes, &mut shown, message, call, mark, a, b, c, d, e,
-    );
+    let t = imaging::step_image(image, &mut notices, message, request);
     if t.good & written {
         let o = t.outcome;
         let numbers = numbers_of(o, t.running);
-        replies::put_answer(answer, &numbers, &wakes, &shown);
+        replies::put_answer(answer, &numbers, &notices.wakes, &notices.shown);
         return o.status;
     }
     replies::refuse(answer)
@@ -88,47 +80,21 @@ fn put_front(image: &mut [u8], own: &[u8; image::SIZE])
 
 // The step of the state that stands in the image, in place; the answer is written beside it, and its status answered. 32 where the bytes
 // are no image, and a refused step leaves every byte of it.
-pub fn step(
-    image: &mut [u8],
-    message: &[u8],
-    answer: &mut [u8; 236],
-    call: u32,
-    mark: u32,
-    a: u32,
-    b: u32,
-    c: u32,
-    d: u32,
-    e: u32,
-) -> u32
+pub fn step(image: &mut [u8], message: &[u8], answer: &mut [u8; 236], request: &Request) -> u32
     ensures { (record { image = image.new; answer = answer.new; status = result })
-        ≡ steps_on image.old call mark a b c d e message.now }
+        ≡ steps_on image.old request.now.call request.now.mark request.now.a request.now.b request.now.c request.now.d request.now.e message.now }
 {
     if image.len() < image::SIZE {
         return replies::refuse(answer);
     }
     let mut own = front(image);
-    let status = step_own(&mut own, message, answer, call, mark, a, b, c, d, e);
+    let status = step_own(&mut own, message, answer, request);
+    // (The status is C's number: above 1 it tells a refusal.)
     if 1 < status {
         return status;
     }
     put_front(image, &own);
     status
-}
-
-// "Asked with a priority above 15, the answer is 19".
-fn fresh_status(priority: u32) -> u32
-    ensures { result ≡ (fresh priority).status }
-{
-    if 15 < priority {
-        return scope::INVALID_PRIORITY;
-    }
-    scope::OK
-}
-
-fn blank() -> [u8; image::SIZE]
-    ensures { length result ≡ image_size }
-{
-    [0; image::SIZE]
 }
 
 // The image of the fresh state, at the start of the slice; the status is answered, "31 before 19".
@@ -138,17 +104,17 @@ pub fn fresh(priority: u32, image: &mut [u8]) -> u32
     if image.len() < image::SIZE {
         return NO_ROOM;
     }
-    let mut own = blank();
+    let mut own = [0; image::SIZE];
     imaging::fresh_image(&mut own, priority);
     put_front(image, &own);
-    fresh_status(priority)
+    fresh::fresh_status(priority)
 }
 
 // A state's image at the start of the slice. "A bad state is not written: 26, before 31."
 pub fn write(s: State, out: &mut [u8]) -> u32
     ensures { (record { bytes = out.new; status = result }) ≡ writes s out.old }
 {
-    let mut own = blank();
+    let mut own = [0; image::SIZE];
     let good = imaging::image_of(s, &mut own);
     if good {
         if out.len() < image::SIZE {
@@ -157,5 +123,5 @@ pub fn write(s: State, out: &mut [u8]) -> u32
         put_front(out, &own);
         return scope::OK;
     }
-    scope::BAD_STATE
+    Refusal::BadState.number()
 }

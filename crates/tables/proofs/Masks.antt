@@ -10,6 +10,7 @@ use lib.Arith.{digits_mod, digits_div}
 use lib.Bits.{bit_or, or_shifted_r}
 use lib.Count.{count_trailing_zeros}
 use lib.Pow.{pow_mono}
+use mir.Val.{bool_byte as from_bool}
 use Rattle.scope.specs.Choice.{least}
 use Rattle.laws.proofs.Branches.{true_or_false, picked_yes, picked_no, lt_or_le}
 use Rattle.laws.proofs.Searches.{least_hit}
@@ -123,15 +124,19 @@ module _ (p : ℕ → Bool) (base n m : ℕ) (before : (j : ℕ) → j < base �
   zeros_some = omega (arith, zeros)
 
   -- finds the first that does
-  pub look_hit : (len : ℕ) → base + n ≤ len → n ≤ 8 → (m ≡ 0 → ⊥) → base + count_trailing_zeros 16 m - 1 ≡ least p len
+  pub look_hit : (len : ℕ) → base + n ≤ len → n ≤ 8 → (m ≡ 0 → ⊥)
+      → (base + count_trailing_zeros 16 m - 1 < len) × (base + count_trailing_zeros 16 m - 1 ≡ least p len)
   look_hit len within small some =
       let f : First p n base (count_trailing_zeros 15 (mask_from p base n)) = mask_first p 15 n base (omega (arith, small)) (λ z. some (omega (arith, is, z))) in
       let e : base + count_trailing_zeros 16 m - 1 ≡ base + count_trailing_zeros 15 (mask_from p base n) = omega (arith, zeros) in
-      e
-      ∙ least_hit p (omega (arith, f.below))
-      (λ j h. ⊎_elim (before j) (λ l. f.none j l h) (lt_or_le j base))
-      f.passes
+      let l : base + count_trailing_zeros 15 (mask_from p base n) < len = omega (arith, f.below) in
+      (omega (arith, e, l), e ∙ least_hit p l (λ j h. ⊎_elim (before j) (λ l. f.none j l h) (lt_or_le j base)) f.passes)
 
   -- or shows that none of them does
   pub look_none : m ≡ 0 → (j : ℕ) → j < base + n → p j ≡ false
   look_none z j h = ⊎_elim (before j) (λ l. mask_none p n base (omega (arith, is, z)) j l h) (lt_or_le j base)
+
+-- a bit, as the code has it
+pub bit_of : (p : ℕ → Bool) (k : ℕ) (b : Bool) {x : ℕ} → x ≡ from_bool b → b ≡ p k → x ≡ bit_at p k
+bit_of p k true e f = e ∙ sym (bit_yes p k (sym f))
+bit_of p k false e f = e ∙ sym (bit_no p k (sym f))

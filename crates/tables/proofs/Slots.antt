@@ -1,34 +1,28 @@
--- What the code found, `f`, is what an identifier names: a slot of a table with n slots, or a refusal; and a call with an identifier
--- answers by that slot, or with that refusal.
+-- A call with an identifier answers by the slot that it names, or with the refusal.
 -- Assumes nothing.
-use Prim.Native.Nat.{ℕ, ◌<◌}
-use native.Mathlib.Omega.{arith}
-use mathlib.Core.Path.{◌≡◌, ap, ◌∙◌}
+use Prim.Native.Nat.{ℕ}
+use mathlib.Core.Path.{◌≡◌, refl, sym, ap, ◌∙◌}
+use Rattle.std.specs.Prelude.{Result, Ok, Err}
 use Rattle.scope.specs.declared.State.{State}
 use Rattle.scope.specs.declared.Answer.{Answer}
+use Rattle.scope.specs.declared.Refusal.{Refusal}
 use Rattle.scope.specs.declared.Found.{Found}
 use Rattle.scope.specs.declared.Found.TheVariants.{At, Deleted, Invalid}
-use Rattle.scope.specs.Statuses.{OK}
 use Rattle.scope.specs.Answers.{plain, on_found}
-use Rattle.tables.specs.declared.Slot.{Slot}
-use Rattle.tables.specs.Slots.{slot, slot_of}
+use Rattle.scope.specs.Refusals.{number_of}
+use Rattle.tables.specs.Slots.{slot_of}
 
-module _ {f named : Slot} {n : ℕ} where
-  pub finds_none : {status : ℕ} → f ≡ slot 0 status → slot 0 status ≡ named → (f ≡ named) × (0 < n → f.at < n)
-  finds_none e p = (e ∙ p, λ h. omega (arith, h, ap (λ (x : Slot). x.at) e))
+-- the answer by what the code found
+abbrev pub on_slot : Result ℕ Refusal → State → (ℕ → Answer) → Answer
+on_slot (Ok i) s g = g i
+on_slot (Err r) s g = plain s (number_of r)
 
-  pub finds : {i : ℕ} → f ≡ slot i OK → slot i OK ≡ named → i < n → (f ≡ named) × (0 < n → f.at < n)
-  finds e p l = (e ∙ p, λ h. omega (arith, l, ap (λ (x : Slot). x.at) e))
+pub slot_answers : (s : State) (g : ℕ → Answer) (o : Found) → on_slot (slot_of o) s g ≡ on_found o s g
+unfolding on_found slot_of
+slot_answers s g (At i) = refl
+slot_answers s g Deleted = refl
+slot_answers s g Invalid = refl
 
-module _ (s : State) (g : ℕ → Answer) {f : Slot} {a : Answer} where
-  pub slot_found : (o : Found) → f ≡ slot_of o → f.status ≡ 0 → a ≡ g f.at → a ≡ on_found o s g
-  unfolding on_found slot_of
-  slot_found (At i) e h p = p ∙ ap (λ (x : Slot). g x.at) e
-  slot_found Deleted e h p = absurd (omega (arith, h, ap (λ (x : Slot). x.status) e))
-  slot_found Invalid e h p = absurd (omega (arith, h, ap (λ (x : Slot). x.status) e))
-
-  pub slot_refused : (o : Found) → f ≡ slot_of o → (f.status ≡ 0 → ⊥) → a ≡ plain s f.status → a ≡ on_found o s g
-  unfolding on_found slot_of
-  slot_refused (At i) e h p = absurd (h (ap (λ (x : Slot). x.status) e))
-  slot_refused Deleted e h p = p ∙ ap (λ (x : Slot). plain s x.status) e
-  slot_refused Invalid e h p = p ∙ ap (λ (x : Slot). plain s x.status) e
+-- a call with an identifier answers by the slot that it names
+pub slot_found : (s : State) (g : ℕ → Answer) {f : Result ℕ Refusal} {i : ℕ} {a : Answer} (o : Found) → f ≡ slot_of o → f ≡ Ok i → a ≡ g i → a ≡ on_found o s g
+slot_found s g o e h p = p ∙ (ap (λ (x : Result ℕ Refusal). on_slot x s g) (sym h ∙ e) ∙ slot_answers s g o)

@@ -1,168 +1,236 @@
-// Identifier tables. "What holds for all three identifier tables is proved once over the table size": the columns come as
-// slices, so one proof serves every table.
-#![tactic(auto)]
+// Identifier tables. "What holds for all three identifier tables is proved once over the table size": a table lends its columns as
+// slices, and what is asked of them is generic over the table, so one proof serves every table.
+// (A cast by `as` stands where Rust has no `From`; each is proved to lose nothing.)
+#![tactic(auto, unfolding(scope::specs::Choice::pick, scope::specs::Identifiers::found, scope::specs::Identifiers::usable, scope::specs::Identifiers::named, crate::specs::Slots::slot_of))]
 
-ghost use Rattle.std.specs.Prelude.{◌≡◌, ◌+◌, ◌*◌, ◌≤◌, ◌<◌, false, length, get_or};
-ghost use Rattle.scope.specs.Statuses.{OK};
-ghost use Rattle.scope.specs.Identifiers.{found, usable, lowest_usable, named, by_name};
-ghost use Rattle.tables.specs.Masks.{bit_at, mask_from};
-ghost use Rattle.tables.specs.Slots.{slot, slot_of};
+ghost use Rattle.std.specs.Prelude.{◌≡◌, ◌+◌, ◌*◌, ◌≤◌, ◌<◌, ℕ, Bool, List, false, length, get_or, MatchOption, MatchResult, IfOk};
+ghost use Rattle.std.proofs.Common.{lit≤};
+ghost use Rattle.scope.specs.declared.Refusal.TheVariants.{NameNotFound};
+ghost use Rattle.scope.specs.Identifiers.{found, usable, lowest_usable, by_name};
+ghost use Rattle.tables.specs.Masks.{mask_from};
+ghost use Rattle.tables.specs.Slots.{slot_of, identifier_at};
 
-// What a call works on: the slot, and the status of the refusal where there is one, else OK.
+use scope::{Pools, Queues, Refusal, Semaphores, Tasks};
+
+// A slot that has issued this serial is never used again.
+const LAST_SERIAL: u16 = 65535;
+
+// How many slots one look sees: as many serials as the compiler takes at a time.
+const SEEN: usize = 8;
+
+// The columns of a table that identifiers go by: each has a place for every slot.
 #[derive(Clone, Copy)]
-pub struct Slot {
-    pub at: usize,
-    pub status: u32,
+pub struct Columns<'a> {
+    pub serial: &'a [u16],
+    pub live: &'a [bool],
+    pub name: &'a [u32],
 }
 
-fn wide(x: u16) -> u32
-    ensures { result ≡ x }
-{
-    x as u32
-}
+impl Columns<'_> {
+    // Whether the slot holds an object; none past the last does.
+    fn is_live(&self, k: usize) -> bool
+        ensures { result ≡ get_or self.now.live.now k false }
+    {
+        self.live.get(k).copied().unwrap_or(false)
+    }
 
-// A column's flag at a slot; false past its end.
-fn flag(live: &[bool], k: usize) -> bool
-    ensures { result ≡ get_or live.now k false }
-{
-    if k < live.len() {
-        return live[k];
+    // Whether the slot is free and has a serial left.
+    fn is_usable(&self, k: usize) -> bool
+        requires { k < length self.now.serial.now }
+        ensures { result ≡ usable self.now.serial.now self.now.live.now k }
+    {
+        !self.is_live(k) && self.serial[k] < LAST_SERIAL
     }
-    false
-}
 
-pub fn taken(at: usize) -> Slot
-    ensures { result ≡ slot at OK }
-{
-    Slot {
-        at: at,
-        status: scope::OK,
-    }
-}
-
-pub fn refused(status: u32) -> Slot
-    ensures { result ≡ slot 0 status }
-{
-    Slot {
-        at: 0,
-        status: status,
-    }
-}
-
-// The slot that an identifier names, or its refusal.
-pub fn find<'a>(serial: &'a [u16], live: &'a [bool], id: u32) -> Slot
-    ensures value { result ≡ slot_of (found serial.now live.now id) }
-    ensures at_in_bounds { 0 < length serial.now → result.at < length serial.now }
-{
-    let slot = (id % 64) as usize;
-    let issue = id / 64;
-    if serial.len() <= slot {
-        return refused(scope::INVALID_ID);
-    }
-    if issue == 0 {
-        return refused(scope::INVALID_ID);
-    }
-    let last = wide(serial[slot]);
-    if last < issue {
-        return refused(scope::INVALID_ID);
-    }
-    if flag(live, slot) {
-        if last == issue {
-            return taken(slot);
+    // The usable ones of the n slots from `base` on, as a mask: bit i + 1 for slot base + i. Every slot's bit is shifted, the first one's too:
+    // so the compiler takes all of them alike, and at once.
+    fn usable_mask(&self, base: usize, n: usize) -> u16
+        requires { (base + n ≤ length self.now.serial.now) × (n ≤ 8) }
+        ensures { result ≡ mask_from (usable self.now.serial.now self.now.live.now) base n * 2 }
+    {
+        let mut mask = 0;
+        for i in 0..n {
+            mask |= u16::from(self.is_usable(base + i)) << (i + 1);
         }
-        return refused(scope::OBJECT_DELETED);
+        mask
     }
-    refused(scope::OBJECT_DELETED)
-}
 
-// 1 where the slot is free and has a serial left, else 0.
-#[tactic(auto, unfolding(scope::specs::Identifiers::usable, scope::specs::Choice::pick))]
-fn usable_bit<'a>(serial: &'a [u16], live: &'a [bool], k: usize) -> u16
-    requires { k < length serial.now }
-    ensures { result ≡ bit_at (usable serial.now live.now) k }
-{
-    if flag(live, k) {
-        return 0;
-    }
-    if wide(serial[k]) < 65535 {
-        return 1;
-    }
-    0
-}
-
-// How many of so many slots one look sees: eight, as many serials as the compiler takes at a time.
-fn seen(slots: usize) -> usize
-    ensures { (result ≤ slots) × (result ≤ 8) × (0 < slots → 0 < result) }
-{
-    if slots < 8 {
-        return slots;
-    }
-    8
-}
-
-// The usable ones of the n slots from `base` on, as a mask: bit i + 1 for slot base + i. Every slot's bit is shifted, the first one's too:
-// so the compiler takes all of them alike, and at once.
-fn usable_mask<'a>(serial: &'a [u16], live: &'a [bool], base: usize, n: usize) -> u16
-    requires { (base + n ≤ length serial.now) × (n ≤ 8) }
-    ensures { result ≡ mask_from (usable serial.now live.now) base n * 2 }
-{
-    let mut mask = 0;
-    let mut i = 0;
-    while i < n {
-        mask = mask | (usable_bit(serial, live, base + i) << (i + 1));
-        i += 1;
-    }
-    mask
-}
-
-// The lowest slot that is free and has a serial left, or the table's size where there is none: the trailing zeros of a mask made
-// here. A table of more than eight slots takes another look where the first finds none.
-pub fn lowest_usable<'a>(serial: &'a [u16], live: &'a [bool]) -> usize
-    ensures { result ≡ lowest_usable serial.now live.now }
-{
-    let mut base = 0;
-    while base < serial.len() {
-        let n = seen(serial.len() - base);
-        let mask = usable_mask(serial, live, base, n);
-        if mask != 0 {
-            return base + (u16::trailing_zeros(mask) as usize) - 1;
+    // The slot that an identifier names, or its refusal.
+    pub fn find(&self, id: u32) -> Result<usize, Refusal>
+        ensures value { result ≡ slot_of (found self.now.serial.now self.now.live.now id) }
+        ensures in_bounds { IfOk result (λ i. i < length self.now.serial.now) }
+    {
+        let slot = (id % 64) as usize;
+        let issue = id / 64;
+        let last = u32::from(*self.serial.get(slot).ok_or(Refusal::InvalidId)?);
+        if issue == 0 {
+            return Err(Refusal::InvalidId);
         }
-        base += n;
-    }
-    base
-}
-
-// A column's number at a slot; 0 past its end.
-fn number(name: &[u32], k: usize) -> u32
-    ensures { result ≡ get_or name.now k 0 }
-{
-    if k < name.len() {
-        return name[k];
-    }
-    0
-}
-
-fn is_named<'a>(live: &'a [bool], name: &'a [u32], x: u32, k: usize) -> bool
-    ensures { result ≡ named live.now name.now x k }
-{
-    if flag(live, k) {
-        return number(name, k) == x;
-    }
-    false
-}
-
-// The live object of that name in the lowest slot, or the table's size where there is none.
-pub fn by_name<'a>(live: &'a [bool], name: &'a [u32], x: u32) -> usize
-    ensures { result ≡ by_name live.now name.now x }
-{
-    let mut k = 0;
-    while k < live.len() {
-        if is_named(live, name, x, k) {
-            return k;
+        if last < issue {
+            return Err(Refusal::InvalidId);
         }
-        k += 1;
+        if self.is_live(slot) && last == issue {
+            return Ok(slot);
+        }
+        Err(Refusal::ObjectDeleted)
     }
-    k
+
+    // The lowest slot that is free and has a serial left: the trailing zeros of a mask made here. A table of more than eight slots takes
+    // another look where the first finds none.
+    pub fn lowest_usable(&self) -> Option<usize>
+        ensures { MatchOption result (lowest_usable self.now.serial.now self.now.live.now ≡ length self.now.serial.now)
+            (λ i. (i < length self.now.serial.now) × (i ≡ lowest_usable self.now.serial.now self.now.live.now) × (get_or self.now.serial.now i 0 < 65535)) }
+    {
+        for base in (0..self.serial.len()).step_by(SEEN) {
+            let mask = self.usable_mask(base, SEEN.min(self.serial.len() - base));
+            if mask != 0 {
+                return Some(base + mask.trailing_zeros() as usize - 1);
+            }
+        }
+        None
+    }
+
+    // The live object of that name in the lowest slot.
+    pub fn by_name(&self, x: u32) -> Option<usize>
+        ensures { MatchOption result (by_name self.now.live.now self.now.name.now x ≡ length self.now.live.now)
+            (λ i. (i < length self.now.live.now) × (i ≡ by_name self.now.live.now self.now.name.now x)) }
+    {
+        for (k, is_live) in self.live.iter().enumerate() {
+            if *is_live && self.name.get(k).copied().unwrap_or(0) == x {
+                return Some(k);
+            }
+        }
+        None
+    }
+}
+
+// A table of the state, with so many slots: few enough for an identifier.
+pub trait Table {
+    ghost size: { ℕ };
+
+    ghost serial: { Self → List ℕ };
+
+    ghost live: { Self → List Bool };
+
+    ghost name: { Self → List ℕ };
+
+    // Its columns, lent.
+    fn columns(&self) -> Columns<'_>
+        ensures serial { (result.serial.now ≡ serial self.now) × (length result.serial.now ≡ size) }
+        ensures live { (result.live.now ≡ live self.now) × (length result.live.now ≡ size) }
+        ensures name { (result.name.now ≡ name self.now) × (length result.name.now ≡ size) };
+
+    ghost small: { size ≤ 64 };
+}
+
+// (The four instances have one body: the parts of the state stay four types, and an impl written by a macro of ours is refused.)
+impl Table for Tasks {
+    ghost size = { 32 };
+
+    ghost serial = { λ k. k.serial };
+
+    ghost live = { λ k. k.live };
+
+    ghost name = { λ k. k.name };
+
+    fn columns(&self) -> Columns<'_> {
+        Columns {
+            serial: &self.serial,
+            live: &self.live,
+            name: &self.name,
+        }
+    }
+
+    ghost small = { lit≤ tt };
+}
+
+impl Table for Semaphores {
+    ghost size = { 16 };
+
+    ghost serial = { λ m. m.serial };
+
+    ghost live = { λ m. m.live };
+
+    ghost name = { λ m. m.name };
+
+    fn columns(&self) -> Columns<'_> {
+        Columns {
+            serial: &self.serial,
+            live: &self.live,
+            name: &self.name,
+        }
+    }
+
+    ghost small = { lit≤ tt };
+}
+
+impl Table for Pools {
+    ghost size = { 8 };
+
+    ghost serial = { λ p. p.serial };
+
+    ghost live = { λ p. p.live };
+
+    ghost name = { λ p. p.name };
+
+    fn columns(&self) -> Columns<'_> {
+        Columns {
+            serial: &self.serial,
+            live: &self.live,
+            name: &self.name,
+        }
+    }
+
+    ghost small = { lit≤ tt };
+}
+
+impl Table for Queues {
+    ghost size = { 8 };
+
+    ghost serial = { λ u. u.serial };
+
+    ghost live = { λ u. u.live };
+
+    ghost name = { λ u. u.name };
+
+    fn columns(&self) -> Columns<'_> {
+        Columns {
+            serial: &self.serial,
+            live: &self.live,
+            name: &self.name,
+        }
+    }
+
+    ghost small = { lit≤ tt };
+}
+
+// The slot of the object that an identifier names, or its refusal.
+pub fn find<T: Table>(table: &T, id: u32) -> Result<usize, Refusal>
+    ensures value { result ≡ slot_of (found (T.serial table.now) (T.live table.now) id) }
+    ensures in_bounds { IfOk result (λ i. i < T.size) }
+{
+    table.columns().find(id)
+}
+
+// The lowest slot that is free and has a serial left.
+pub fn lowest_usable<T: Table>(table: &T) -> Option<usize>
+    ensures whole { length (T.serial table.now) ≡ T.size }
+    ensures lowest { MatchOption result (lowest_usable (T.serial table.now) (T.live table.now) ≡ length (T.serial table.now))
+        (λ i. (i < T.size) × (i ≡ lowest_usable (T.serial table.now) (T.live table.now)) × (get_or (T.serial table.now) i 0 < 65535)) }
+{
+    table.columns().lowest_usable()
+}
+
+// The identifier of the live object of that name in the lowest slot.
+pub fn ident<T: Table>(table: &T, name: u32) -> Result<u32, Refusal>
+    ensures { MatchResult result
+        (λ id. (by_name (T.live table.now) (T.name table.now) name < length (T.live table.now))
+        × (id ≡ identifier_at (T.serial table.now) (by_name (T.live table.now) (T.name table.now) name)))
+        (λ e. (e ≡ NameNotFound) × (by_name (T.live table.now) (T.name table.now) name ≡ length (T.live table.now))) }
+{
+    let columns = table.columns();
+    let i = columns.by_name(name).ok_or(Refusal::NameNotFound)?;
+    Ok(identifier(columns.serial[i], i))
 }
 
 // An object's identifier.
@@ -170,5 +238,5 @@ pub fn identifier(serial: u16, slot: usize) -> u32
     requires { slot < 64 }
     ensures { result ≡ serial * 64 + slot }
 {
-    wide(serial) * 64 + (slot as u32)
+    u32::from(serial) * 64 + slot as u32
 }

@@ -1,282 +1,154 @@
-// The task calls: chapter 4, as document 01 fixes it. One public function a call, refusals first.
-// Each call is lent the columns it reads or changes, and changes them where they lie. (scope's specs/Tasks.antt.)
-// Where an argument has a column's name, the column's is in the plural.
-#![tactic(auto)]
+// The task calls. One public function a call, refusals first.
+// Each call is lent the state and changes it where it lies; who runs then, its outcome says. (scope's specs/Tasks.antt.)
+#![tactic(auto, unfolding(scope::specs::Choice::pick, scope::specs::Tasks::task_found, tables::specs::Slots::slot_of, scope::specs::Answers::on_found, scope::specs::Answers::plain, scope::specs::Answers::gives, scope::specs::Answers::answer, answers::specs::Outcomes::outcome, answers::specs::Outcomes::answer_of, scope::specs::Tasks::task_create, scope::specs::Tasks::task_create_at, scope::specs::Tasks::task_delete_at, scope::specs::Tasks::task_ident, scope::specs::Tasks::task_ident_at, scope::specs::Tasks::task_start_at, scope::specs::Tasks::task_suspend_at, scope::specs::Tasks::task_resume_at, scope::specs::Tasks::task_set_priority_at))]
 
-ghost use Rattle.std.specs.Prelude.{◌≡◌, ◌<◌};
-ghost use Rattle.scope.specs.declared.State.{State};
+ghost use Rattle.std.specs.Prelude.{◌≡◌, ◌<◌, IfOk};
 ghost use Rattle.scope.specs.Answers.{no_wakes};
-ghost use Rattle.scope.specs.Views.{ready_with};
 ghost use Rattle.scope.specs.Tasks.{task_found, task_create, task_delete, task_ident, task_start, task_suspend, task_resume, task_set_priority};
-ghost use Rattle.answers.specs.Outcomes.{answer_of};
-ghost use Rattle.answers.specs.Columns.{lent_tasks};
+ghost use Rattle.answers.specs.Outcomes.{answer_of, outcome_of};
 ghost use Rattle.tables.specs.Slots.{slot_of};
 
 use answers::Outcome;
-use tables::Slot;
+use scope::{Refusal, State};
 
 // "16 priorities (0 to 15, 15 most urgent)"
 const LAST_PRIORITY: u32 = 15;
 
-// The task an identifier names; 0 is SELF, the caller.
-fn named<'a>(serial: &'a [u16; 32], live: &'a [bool; 32], running: usize, id: u32) -> Slot
-    ensures value { (s : State) → s.tasks.serial ≡ serial.now → s.tasks.live ≡ live.now → s.running ≡ running
-        → result ≡ slot_of (task_found s id) }
-    ensures at_bound { result.at < 32 }
+// The task an identifier names; 0 is SELF, the caller. Who runs is a slot, 32 for nobody: theorems speak of the state in this shape.
+fn named(s: &State, id: u32) -> Result<usize, Refusal>
+    ensures value { result ≡ slot_of (task_found s.now id) }
+    ensures in_bounds { IfOk result (λ i. i < 32) }
 {
-    if id == 0 {
-        if running < 32 {
-            return tables::taken(running);
-        }
-        return tables::refused(scope::INVALID_ID);
+    if id != 0 {
+        return tables::find(&s.tasks, id);
     }
-    tables::find(serial, live, id)
+    if s.running < scope::TASKS {
+        return Ok(s.running);
+    }
+    Err(Refusal::InvalidId)
 }
 
-pub fn task_create(
-    names: &mut [u32; 32],
-    serial: &mut [u16; 32],
-    live: &mut [bool; 32],
-    started: &mut [bool; 32],
-    suspended: &mut [bool; 32],
-    priorities: &mut [u8; 32],
-    running: usize,
-    name: u32,
-    priority: u32,
-) -> Outcome
-    ensures { (s : State) → answer_of (lent_tasks s s.line.left s.line.seat s.line.joined s.line.rings names.new
-        serial.new live.new started.new suspended.new priorities.new running) no_wakes result
-        ≡ task_create (lent_tasks s s.line.left s.line.seat s.line.joined s.line.rings names.old serial.old
-        live.old started.old suspended.old priorities.old running) name priority }
+pub fn task_create(s: &mut State, name: u32, priority: u32) -> Result<Outcome, Refusal>
+    ensures answer { answer_of s.new no_wakes (outcome_of s.old.running result)
+        ≡ task_create s.old name priority }
+    ensures running { s.new.running ≡ s.old.running }
 {
     if LAST_PRIORITY < priority {
-        return answers::plain(scope::INVALID_PRIORITY, running);
+        return Err(Refusal::InvalidPriority);
     }
-    let t = tables::lowest_usable(&*serial, &*live);
-    if 32 <= t {
-        return answers::plain(scope::TOO_MANY_OBJECTS, running);
-    }
-    let next = serial[t] + 1;
-    names[t] = name;
-    serial[t] = next;
-    live[t] = true;
-    started[t] = false;
-    suspended[t] = false;
-    priorities[t] = priority as u8;
-    answers::gives(tables::identifier(next, t), running)
+    let t = tables::lowest_usable(&s.tasks).ok_or(Refusal::TooManyObjects)?;
+    let next = s.tasks.serial[t] + 1;
+    s.tasks.name[t] = name;
+    s.tasks.serial[t] = next;
+    s.tasks.live[t] = true;
+    s.tasks.started[t] = false;
+    s.tasks.suspended[t] = false;
+    // The first test has told that it fits: a `u8::try_from` would refuse it once more.
+    s.tasks.priority[t] = priority as u8;
+    Ok(answers::gives(tables::identifier(next, t), s.running))
 }
 
 // A waiter leaves its queue, and so gives its one back.
-pub fn task_delete(
-    left: &mut [u32; 32],
-    seat: &mut [u16; 32],
-    joined: &mut [u8; 32],
-    rings: &mut [u16; 1],
-    name: &mut [u32; 32],
-    serial: &[u16; 32],
-    live: &mut [bool; 32],
-    started: &mut [bool; 32],
-    suspended: &mut [bool; 32],
-    priority: &mut [u8; 32],
-    running: usize,
-    id: u32,
-) -> Outcome
-    ensures { (s : State) → answer_of (lent_tasks s left.new seat.new joined.new rings.new name.new
-        serial.now live.new started.new suspended.new priority.new running) no_wakes result
-        ≡ task_delete (lent_tasks s left.old seat.old joined.old rings.old name.old serial.now
-        live.old started.old suspended.old priority.old running) id }
+pub fn task_delete(s: &mut State, id: u32) -> Result<Outcome, Refusal>
+    ensures answer { answer_of s.new no_wakes (outcome_of s.old.running result)
+        ≡ task_delete s.old id }
+    ensures running { s.new.running ≡ s.old.running }
 {
-    let f = named(serial, live, running, id);
-    if f.status != scope::OK {
-        return answers::plain(f.status, running);
-    }
-    let t = f.at;
-    name[t] = 0;
-    live[t] = false;
-    started[t] = false;
-    suspended[t] = false;
-    priority[t] = 0;
-    seats::take_out(seat, rings, t);
-    left[t] = 0;
-    joined[t] = 0;
-    answers::plain(scope::OK, seats::runner(seat, rings[0]))
+    let t = named(&*s, id)?;
+    s.tasks.name[t] = 0;
+    s.tasks.live[t] = false;
+    s.tasks.started[t] = false;
+    s.tasks.suspended[t] = false;
+    s.tasks.priority[t] = 0;
+    seats::take_out(&mut s.line, t);
+    s.line.left[t] = 0;
+    s.line.joined[t] = 0;
+    Ok(answers::plain(scope::OK, seats::runner(&s.line)))
 }
 
-pub fn task_ident<'a>(
-    names: &'a [u32; 32],
-    serial: &[u16; 32],
-    live: &'a [bool; 32],
-    running: usize,
-    name: u32,
-) -> Outcome
-    ensures { (s : State) → answer_of (lent_tasks s s.line.left s.line.seat s.line.joined s.line.rings names.now
-        serial.now live.now s.tasks.started s.tasks.suspended s.tasks.priority running) no_wakes result
-        ≡ task_ident (lent_tasks s s.line.left s.line.seat s.line.joined s.line.rings names.now serial.now
-        live.now s.tasks.started s.tasks.suspended s.tasks.priority running) name }
+pub fn task_ident(s: &State, name: u32) -> Result<Outcome, Refusal>
+    ensures { answer_of s.now no_wakes (outcome_of s.now.running result)
+        ≡ task_ident s.now name }
 {
-    let t = tables::by_name(live, names, name);
-    if 32 <= t {
-        return answers::plain(scope::NAME_NOT_FOUND, running);
-    }
-    answers::gives(tables::identifier(serial[t], t), running)
+    let id = tables::ident(&s.tasks, name)?;
+    Ok(answers::gives(id, s.running))
 }
 
-pub fn task_start<'a>(
-    seat: &mut [u16; 32],
-    joined: &[u8; 32],
-    rings: &mut [u16; 1],
-    serial: &'a [u16; 32],
-    live: &'a [bool; 32],
-    started: &mut [bool; 32],
-    priority: &[u8; 32],
-    running: usize,
-    id: u32,
-) -> Outcome
-    ensures { (s : State) → answer_of (lent_tasks s s.line.left seat.new joined.now rings.new s.tasks.name
-        serial.now live.now started.new s.tasks.suspended priority.now running) no_wakes result
-        ≡ task_start (lent_tasks s s.line.left seat.old joined.now rings.old s.tasks.name serial.now
-        live.now started.old s.tasks.suspended priority.now running) id }
+pub fn task_start(s: &mut State, id: u32) -> Result<Outcome, Refusal>
+    ensures answer { answer_of s.new no_wakes (outcome_of s.old.running result)
+        ≡ task_start s.old id }
+    ensures running { s.new.running ≡ s.old.running }
 {
-    let f = named(serial, live, running, id);
-    if f.status != scope::OK {
-        return answers::plain(f.status, running);
+    let t = named(&*s, id)?;
+    if s.tasks.started[t] {
+        return Err(Refusal::TaskAlreadyStarted);
     }
-    let t = f.at;
-    if started[t] {
-        return answers::plain(scope::TASK_ALREADY_STARTED, running);
-    }
-    started[t] = true;
-    seats::put_in(seat, joined, rings, t, priority[t]);
-    answers::plain(scope::OK, seats::runner(seat, rings[0]))
+    s.tasks.started[t] = true;
+    seats::put_in(&mut s.line, t, s.tasks.priority[t]);
+    Ok(answers::plain(scope::OK, seats::runner(&s.line)))
 }
 
 // "A suspended waiter keeps its place"; a ready task leaves the ready order.
-pub fn task_suspend<'a>(
-    seat: &mut [u16; 32],
-    rings: &mut [u16; 1],
-    serial: &'a [u16; 32],
-    live: &'a [bool; 32],
-    started: &[bool; 32],
-    suspended: &mut [bool; 32],
-    running: usize,
-    id: u32,
-) -> Outcome
-    ensures { (s : State) → answer_of (lent_tasks s s.line.left seat.new s.line.joined rings.new s.tasks.name
-        serial.now live.now started.now suspended.new s.tasks.priority running) no_wakes result
-        ≡ task_suspend (lent_tasks s s.line.left seat.old s.line.joined rings.old s.tasks.name serial.now
-        live.now started.now suspended.old s.tasks.priority running) id }
+pub fn task_suspend(s: &mut State, id: u32) -> Result<Outcome, Refusal>
+    ensures answer { answer_of s.new no_wakes (outcome_of s.old.running result)
+        ≡ task_suspend s.old id }
+    ensures running { s.new.running ≡ s.old.running }
 {
-    let f = named(serial, live, running, id);
-    if f.status != scope::OK {
-        return answers::plain(f.status, running);
+    let t = named(&*s, id)?;
+    if !s.tasks.started[t] {
+        return Err(Refusal::TaskNotStarted);
     }
-    let t = f.at;
-    if !started[t] {
-        return answers::plain(scope::TASK_NOT_STARTED, running);
+    if s.tasks.suspended[t] {
+        return Err(Refusal::TaskAlreadySuspended);
     }
-    if suspended[t] {
-        return answers::plain(scope::TASK_ALREADY_SUSPENDED, running);
-    }
-    suspended[t] = true;
-    let x = seat[t];
+    s.tasks.suspended[t] = true;
+    let x = s.line.seat[t];
     if seats::waits_on(x) {
-        return answers::plain(scope::OK, running);
+        return Ok(answers::plain(scope::OK, s.running));
     }
-    seats::take_out(seat, rings, t);
-    answers::plain(scope::OK, seats::runner(seat, rings[0]))
+    seats::take_out(&mut s.line, t);
+    Ok(answers::plain(scope::OK, seats::runner(&s.line)))
 }
 
 // "it becomes ready when it neither waits nor is suspended"
-pub fn task_resume<'a>(
-    seat: &mut [u16; 32],
-    joined: &[u8; 32],
-    rings: &mut [u16; 1],
-    serial: &'a [u16; 32],
-    live: &'a [bool; 32],
-    started: &[bool; 32],
-    suspended: &mut [bool; 32],
-    priority: &[u8; 32],
-    running: usize,
-    id: u32,
-) -> Outcome
-    ensures { (s : State) → answer_of (lent_tasks s s.line.left seat.new joined.now rings.new s.tasks.name
-        serial.now live.now started.now suspended.new priority.now running) no_wakes result
-        ≡ task_resume (lent_tasks s s.line.left seat.old joined.now rings.old s.tasks.name serial.now
-        live.now started.now suspended.old priority.now running) id }
+pub fn task_resume(s: &mut State, id: u32) -> Result<Outcome, Refusal>
+    ensures answer { answer_of s.new no_wakes (outcome_of s.old.running result)
+        ≡ task_resume s.old id }
+    ensures running { s.new.running ≡ s.old.running }
 {
-    let f = named(serial, live, running, id);
-    if f.status != scope::OK {
-        return answers::plain(f.status, running);
+    let t = named(&*s, id)?;
+    if !s.tasks.started[t] {
+        return Err(Refusal::TaskNotStarted);
     }
-    let t = f.at;
-    if !started[t] {
-        return answers::plain(scope::TASK_NOT_STARTED, running);
+    if !s.tasks.suspended[t] {
+        return Err(Refusal::TaskNotSuspended);
     }
-    if !suspended[t] {
-        return answers::plain(scope::TASK_NOT_SUSPENDED, running);
+    s.tasks.suspended[t] = false;
+    if seats::waits_on(s.line.seat[t]) {
+        return Ok(answers::plain(scope::OK, s.running));
     }
-    suspended[t] = false;
-    if seats::waits_on(seat[t]) {
-        return answers::plain(scope::OK, running);
-    }
-    seats::put_in(seat, joined, rings, t, priority[t]);
-    answers::plain(scope::OK, seats::runner(seat, rings[0]))
-}
-
-// "A task is ready if started, not waiting and not suspended." (Here of a task on seat `x`.)
-fn is_ready(started: bool, suspended: bool, x: u16) -> bool
-    ensures { result ≡ ready_with started suspended x }
-{
-    if !started {
-        return false;
-    }
-    if suspended {
-        return false;
-    }
-    !seats::waits_on(x)
-}
-
-fn wide(p: u8) -> u32
-    ensures { result ≡ p }
-{
-    p as u32
+    seats::put_in(&mut s.line, t, s.tasks.priority[t]);
+    Ok(answers::plain(scope::OK, seats::runner(&s.line)))
 }
 
 // A ready task is taken out and put in again behind its new equals.
-pub fn task_set_priority<'a>(
-    seat: &mut [u16; 32],
-    joined: &[u8; 32],
-    rings: &mut [u16; 1],
-    serial: &'a [u16; 32],
-    live: &'a [bool; 32],
-    started: &[bool; 32],
-    suspended: &[bool; 32],
-    priorities: &mut [u8; 32],
-    running: usize,
-    id: u32,
-    priority: u32,
-) -> Outcome
-    ensures { (s : State) → answer_of (lent_tasks s s.line.left seat.new joined.now rings.new s.tasks.name
-        serial.now live.now started.now suspended.now
-        priorities.new running) no_wakes result
-        ≡ task_set_priority (lent_tasks s s.line.left seat.old joined.now rings.old s.tasks.name serial.now
-        live.now started.now suspended.now priorities.old running) id priority }
+pub fn task_set_priority(s: &mut State, id: u32, priority: u32) -> Result<Outcome, Refusal>
+    ensures answer { answer_of s.new no_wakes (outcome_of s.old.running result)
+        ≡ task_set_priority s.old id priority }
+    ensures running { s.new.running ≡ s.old.running }
 {
-    let f = named(serial, live, running, id);
-    if f.status != scope::OK {
-        return answers::plain(f.status, running);
-    }
-    let t = f.at;
+    let t = named(&*s, id)?;
     if LAST_PRIORITY < priority {
-        return answers::plain(scope::INVALID_PRIORITY, running);
+        return Err(Refusal::InvalidPriority);
     }
-    let before = priorities[t];
+    let before = s.tasks.priority[t];
+    // The test above has told that it fits: a `u8::try_from` would refuse it once more.
     let after = priority as u8;
-    priorities[t] = after;
-    if is_ready(started[t], suspended[t], seat[t]) {
-        seats::take_out(seat, rings, t);
-        seats::put_in(seat, joined, rings, t, after);
-        return answers::gives(wide(before), seats::runner(seat, rings[0]));
+    s.tasks.priority[t] = after;
+    if seats::is_ready(s.tasks.started[t], s.tasks.suspended[t], s.line.seat[t]) {
+        seats::take_out(&mut s.line, t);
+        seats::put_in(&mut s.line, t, after);
+        return Ok(answers::gives(u32::from(before), seats::runner(&s.line)));
     }
-    answers::gives(wide(before), running)
+    Ok(answers::gives(u32::from(before), s.running))
 }

@@ -17,7 +17,9 @@ use Rattle.scope.specs.Choice.{pick}
 use Rattle.scope.specs.Replies.{wakes_from, reply_of}
 use Rattle.scope.specs.Script.{message_at}
 use Rattle.scope.specs.Listing.{digits, decimal, signed, field, wake_fields, delivery_field, line_of}
+use Rattle.text.specs.declared.Writer.{Writer}
 use Rattle.text.specs.Lines.{last_two, longest_line}
+use Rattle.text.specs.Writers.{Wrote}
 use Rattle.laws.proofs.Branches.{lt_or_le}
 use Rattle.laws.proofs.Arrays.{at_end_lem}
 
@@ -69,12 +71,6 @@ unfolding signed pick
 signed-length true n = omega (arith, decimal-length n)
 signed-length false n = omega (arith, decimal-length n)
 
-pub field-length : (n : ℕ) → length (field (decimal n)) ≤ 11
-field-length n = omega (arith, decimal-length n)
-
-pub signed-field-length : (negative : Bool) (n : ℕ) → length (field (signed negative n)) ≤ 12
-signed-field-length negative n = omega (arith, signed-length negative n)
-
 -- a number of two digits, and the last two of a longer one
 pub decimal_two : (n : ℕ) → 10 ≤ n → n < 100 → decimal n ≡ last_two n
 decimal_two n l h =
@@ -99,73 +95,22 @@ two_length n l h = ap length (decimal_two n l h)
 pub hundreds_length : (n : ℕ) → n < 2 ^ 32 → 100 ≤ n → length (decimal n) ≡ length (decimal (n / 100)) + 2
 hundreds_length n h l = ap length (decimal_hundreds n h l) ∙ length-append (decimal (n / 100)) (last_two n)
 
--- the text ds stands in `out` from `at` to `r`, behind what `before` had there
-abbrev pub Put : List ℕ → List ℕ → ℕ → ℕ → List ℕ → Type 0
-Put before out at r ds = (r ≡ at + length ds) × (take r out ≡ take at before ++ ds)
-
--- nothing
-pub put_none : (out : List ℕ) (at : ℕ) → Put out out at at []
-put_none out at = (omega arith, sym (append-nil (take at out)))
-
--- one byte
-pub put_one : (out : List ℕ) (at b : ℕ) → at + 1 ≤ length out → Put out (set out at b) at (at + 1) (b ∷ [])
-put_one out at b h = (refl, rw add-one (take-suc-set out at b (omega arith)))
-
 -- two texts, one behind the other
-pub put_then : (x y z : List ℕ) (at k r : ℕ) (c d : List ℕ) → Put x y at k c → Put y z k r d → Put x z at r (c ++ d)
-put_then x y z at k r c d p q = (
+pub wrote_then : (u v w : Writer) (c d : List ℕ) → Wrote u v c → Wrote v w d → Wrote u w (c ++ d)
+wrote_then u v w c d p q = (
   rw length-append (omega (arith, p.0, q.0)),
-  q.1 ∙ ap (λ (l : List ℕ). l ++ d) p.1 ∙ append_assoc (take at x) c d,
+  q.1 ∙ ap (λ (l : List ℕ). l ++ d) p.1 ∙ append_assoc (take u.at u.bytes.now) c d,
+  q.2 ∙ p.2,
+  q.3 ∙ p.3,
 )
 
 -- the same text under another name
-pub put_as : (x y : List ℕ) (at r : ℕ) {c d : List ℕ} → c ≡ d → Put x y at r c → Put x y at r d
-put_as x y at r e p = subst (Put x y at r) e p
+pub wrote_as : (v w : Writer) {c d : List ℕ} → c ≡ d → Wrote v w c → Wrote v w d
+wrote_as v w e p = subst (Wrote v w) e p
 
 -- signs of digits, as a number's digits
 pub one_sign : (n b : ℕ) → n < 10 → b ≡ 48 + n % 10 → b ∷ [] ≡ decimal n
 one_sign n b h e = let m : n % 10 ≡ n = omega arith in rw (e, m, decimal_small n h)
-
-pub two_signs : (n a b : ℕ) → a ≡ 48 + n / 10 % 10 → b ≡ 48 + n % 10 → a ∷ b ∷ [] ≡ last_two n
-two_signs n a b d e = rw (d, e)
-
--- what room a put of at most m bytes leaves
-pub room_after : (m rest at k n o d : ℕ) → k ≡ at + d → d ≤ m → o ≡ n → at + (m + rest) ≤ n → k + rest ≤ o
-room_after m rest at k n o d e l q h = omega arith
-
--- a text copied byte by byte: one byte more, and the whole
-pub paste_more : (x y t : List ℕ) (at k : ℕ) → at + length t ≤ length x → k < length t → y ≡ paste x at t k
-    → set y (at + k) (get_or t k 0) ≡ paste x at t (k + 1)
-paste_more x y t at k h l e =
-    ap (λ (o : List ℕ). set o (at + k) (get_or t k 0)) e ∙ rw add-one (paste-suc x at t k 0 (omega arith) l)
-
-pub put_text : (x y t : List ℕ) (at k : ℕ) → at + length t ≤ length x → k ≤ length t → length t ≤ k → y ≡ paste x at t k
-    → Put x y at (at + k) t
-put_text x y t at k h l m e =
-    let q : k ≡ length t = omega arith in
-    (ap (λ (n : ℕ). at + n) q, ap (take (at + k)) e ∙ take-paste x at t k (omega arith) l ∙ ap (λ (n : ℕ). take at x ++ take n t) q ∙ ap (λ (l : List ℕ). take at x ++ l) (take-length t))
-
--- the message that the record at a place lends, copied byte by byte over zeros: one byte more, and the whole
-abbrev pub blank : List ℕ
-blank = replicate 64 0
-
-abbrev pub first_bytes : List ℕ → ℕ → List ℕ
-first_bytes script at = take 12 (drop (at + 16) script)
-
-module _ (script m : List ℕ) (at k : ℕ) (e : m ≡ paste blank 0 (first_bytes script at) k) where
-  pub message_more : at + 28 ≤ length script → k < 12 → set m k (get_or script (at + 16 + k) 0) ≡ paste blank 0 (first_bytes script at) (k + 1)
-  message_more h l =
-      let n : length (first_bytes script at) ≡ 12 = length-take-le 12 (drop (at + 16) script) (omega (arith, length-drop (at + 16) script)) in
-      let byte : get_or (first_bytes script at) k 0 ≡ get_or script (at + 16 + k) 0 = get_or-take 12 (drop (at + 16) script) k 0 l ∙ get_or-drop (at + 16) script k 0 in
-      let z : k ≡ 0 + k = omega arith in
-      ap (set m k) (sym byte) ∙ ap (λ (j : ℕ). set m j (get_or (first_bytes script at) k 0)) z
-      ∙ paste_more blank m (first_bytes script at) 0 k (omega (arith, n)) (omega (arith, n)) e
-
-  pub message_is : k ≤ 12 → 12 ≤ k → m ≡ message_at script at
-  unfolding message_at
-  message_is l g =
-      at_end_lem (λ (n : ℕ). m ≡ paste blank 0 (first_bytes script at) n) 12 k l g e
-      ∙ ap (λ (t : List ℕ). t ++ replicate 52 0) (take-take 12 12 (drop (at + 16) script) (omega arith))
 
 -- one wake's field
 abbrev pub wake : ℕ → ℕ → List ℕ
@@ -183,11 +128,21 @@ wakes_more (suc n) k j wakes why e =
     ap (λ (l : List ℕ). f ++ l) (wakes_more n (suc k) j wakes why (omega (arith, e)))
     ∙ sym (append_assoc f (wake_fields (wakes_from n (suc k) wakes why)) (wake (get_or wakes j 0) why))
 
-pub put_wake_more : (x y z : List ℕ) (at k r n : ℕ) (wakes : List ℕ) (why : ℕ) → Put x y at k (wake_fields (wakes_from n 0 wakes why))
-    → Put y z k r (wake (get_or wakes n 0) why) → Put x z at r (wake_fields (wakes_from (n + 1) 0 wakes why))
-put_wake_more x y z at k r n wakes why p q =
+pub wrote_wake : (u v w : Writer) (n : ℕ) (wakes : List ℕ) (why : ℕ) → Wrote u v (wake_fields (wakes_from n 0 wakes why))
+    → Wrote v w (wake (get_or wakes n 0) why) → Wrote u w (wake_fields (wakes_from (n + 1) 0 wakes why))
+wrote_wake u v w n wakes why p q =
     rw (add-one n, wakes_more n 0 n wakes why (omega arith))
-    (put_then x y z at k r (wake_fields (wakes_from n 0 wakes why)) (wake (get_or wakes n 0) why) p q)
+    (wrote_then u v w (wake_fields (wakes_from n 0 wakes why)) (wake (get_or wakes n 0) why) p q)
+
+-- the wakes of the first n tasks are those of a list of just these
+first_wakes : (n m k : ℕ) (wakes : List ℕ) (why : ℕ) → k + n ≤ m → wakes_from n k (take m wakes) why ≡ wakes_from n k wakes why
+first_wakes zero m k wakes why h = refl
+first_wakes (suc n) m k wakes why h =
+    rw (get_or-take m wakes k 0 (omega arith), first_wakes n m (suc k) wakes why (omega arith)) refl
+
+pub all_wakes : (n : ℕ) (wakes : List ℕ) (why : ℕ) → n ≤ length wakes
+    → wakes_from (length (take n wakes)) 0 (take n wakes) why ≡ wakes_from n 0 wakes why
+all_wakes n wakes why h = rw (length-take-le n wakes h) (first_wakes n n 0 wakes why (omega arith))
 
 wake-length : (task why : ℕ) → length (wake task why) ≤ 22
 wake-length task why =

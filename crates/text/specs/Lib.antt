@@ -1,2 +1,3 @@
 pub mod Records
 pub mod Lines
+pub mod Writers

@@ -2,9 +2,9 @@
 -- Assumes nothing.
 use Rattle.std.specs.Prelude.{ℕ, ◌+◌, List}
 use Rattle.scope.specs.Script.{number32}
-use Rattle.text.specs.declared.Record.{Record}
+use Rattle.scope.specs.declared.Request.{Request}
 
-abbrev pub record_at : List ℕ → ℕ → Record
+abbrev pub record_at : List ℕ → ℕ → Request
 record_at script at =
     record {
       call = number32 script at;

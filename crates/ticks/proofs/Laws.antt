@@ -1,72 +1,60 @@
--- What the tick's loops lean on: every place of `times_left`, and one task more looked at by `wake_due`.
+-- What the tick's loops lean on: how many time_outs have one left, and one task more looked at by `wake_due`.
 -- Assumes nothing.
 use Prim.Native.Nat.{ℕ, zero, suc, ◌+◌, ◌-◌, ◌≤◌, ◌<◌}
 use native.Mathlib.Omega.{arith}
 use native.Mathlib.Numerals.{add-one}
-use mathlib.Core.Path.{◌≡◌, refl, ap, ◌∙◌}
-use mathlib.Core.Logic.{⊎_elim}
-use mathlib.Core.Bool.{Bool, true, false}
-use mathlib.Core.List.{List}
-use lib.ListN.{get_or}
+use mathlib.Core.Path.{◌≡◌, refl}
+use mathlib.Core.Bool.{Bool, true, false, cond}
+use mathlib.Core.List.{List, [], ◌∷◌}
+use lib.ListN.{length, get_or, take}
 use lib.Dec.{eqb}
-use Rattle.laws.proofs.Arrays.{Changing, mapping_done}
-use Rattle.laws.proofs.Branches.{eq_or_not, picked_yes, picked_no, second_fails}
+use Rattle.std.specs.List.{count_by}
+use Rattle.std.proofs.lemmas.List.Sums.{count_by_more_yes, count_by_more_no, sum_by-cons}
+use Rattle.std.specs.Int.{from_bool}
+use Rattle.laws.proofs.Branches.{second_fails}
 use Rattle.scope.specs.declared.Line.{Line}
 use Rattle.scope.specs.declared.Tasks.{Tasks}
 use Rattle.scope.specs.declared.Waking.{Waking}
 use Rattle.scope.specs.Seats.{waits_on}
-use Rattle.scope.specs.Choice.{pick}
-use Rattle.scope.specs.Answers.{bit_of}
 use Rattle.scope.specs.Waiting.{wake_next}
-use Rattle.scope.specs.Ticks.{time_left, times_left, is_due, wake_due}
+use Rattle.scope.specs.Ticks.{is_due, wake_due}
 
--- a loop that changes each time_out in its place makes `times_left`
-pub times_done : (left r : List ℕ) (k : ℕ) → 32 ≤ k → Changing 32 (λ j. time_left) left r k → r ≡ times_left left
-unfolding times_left
-times_done left r k h m = mapping_done 32 time_left left r k h m
-
--- what a place counts: one at most; and where none was counted before and place k counts nothing, none is up to k
-pub counts_one : (x : Bool) → bit_of x ≤ 1
-unfolding bit_of pick
-counts_one true = omega arith
-counts_one false = omega arith
-
-counts_none : (x : Bool) → bit_of x ≡ 0 → x ≡ false
-unfolding bit_of pick
-counts_none true e = absurd (omega (arith, e))
-counts_none false e = refl
-
-pub none_counted : (p : ℕ → Bool) (k last b : ℕ) → (last ≡ 0 → (j : ℕ) → j < k → p j ≡ false) → b ≡ bit_of (p k) → last + b ≡ 0 → (j : ℕ) → j < k + 1 → p j ≡ false
-none_counted p k last b before counts none j h =
-    ⊎_elim (λ e. ap p e ∙ counts_none (p k) (omega (arith, none, counts))) (λ ne. before (omega (arith, none)) j (omega arith)) (eq_or_not j k)
-
--- The tasks below t are looked at: no more are woken, and the rest of the work gives what the whole gives.
-abbrev pub Looked : Tasks → Line → Waking → Waking → ℕ → Type 0
-Looked k l x w t = (t ≤ 32) × (w.woken ≤ t) × (wake_due k l (32 - t) t w ≡ wake_due k l 32 0 x)
-
--- one task more, woken where it is due and passed by where it is not; and the end
-pub due_looked : (k : Tasks) (l : Line) (x w v : Waking) (t : ℕ) → Looked k l x w t → t < 32 → v.woken ≤ w.woken + 1
-    → v ≡ pick (is_due l t) (wake_next k w t) w → Looked k l x v (t + 1)
-unfolding wake_due
-due_looked k l x w v t m h f e =
-    let d : 32 - t ≡ suc (32 - (t + 1)) = omega arith in
-    let r : wake_due k l (32 - (t + 1)) (t + 1) v ≡ wake_due k l (32 - t) t w = rw (d, wake_due) (go (is_due l t) refl) in
-    (omega arith, omega arith, r ∙ m.2)
+-- one time_out more is counted, or passed by
+pub counted_more : (xs : List ℕ) (k last : ℕ) → k < length xs → last ≡ count_by (λ n. eqb n 1) (take k xs) → last ≤ k
+    → (last + from_bool (eqb (get_or xs k 0) 1) ≡ count_by (λ n. eqb n 1) (take (k + 1) xs)) × (last + from_bool (eqb (get_or xs k 0) 1) ≤ k + 1)
+counted_more xs k last h e l = go (eqb (get_or xs k 0) 1) refl
   where
-    go : (b : Bool) → is_due l t ≡ b
-        → wake_due k l (32 - (t + 1)) (t + 1) v
-        ≡ elim (is_due l t) [ true ↦ wake_due k l (32 - (t + 1)) (suc t) (wake_next k w t) | false ↦ wake_due k l (32 - (t + 1)) (suc t) w ]
-    go true p = rw (e, p, picked_yes {A = Waking} true _ _ refl, add-one t)
-    go false p = rw (e, p, picked_no {A = Waking} false _ _ refl, add-one t)
+    go : (b : Bool) → eqb (get_or xs k 0) 1 ≡ b
+        → (last + from_bool (eqb (get_or xs k 0) 1) ≡ count_by (λ n. eqb n 1) (take (k + 1) xs)) × (last + from_bool (eqb (get_or xs k 0) 1) ≤ k + 1)
+    go true p = rw p (omega (arith, e, count_by_more_yes (λ (n : ℕ). eqb n 1) xs k 0 h p), omega arith)
+    go false p = rw p (omega (arith, e, count_by_more_no (λ (n : ℕ). eqb n 1) xs k 0 h p), omega arith)
 
-pub due_done : (k : Tasks) (l : Line) (x w : Waking) (t : ℕ) → Looked k l x w t → 32 ≤ t → w ≡ wake_due k l 32 0 x
-unfolding wake_due
-due_done k l x w t m h = let d : 32 - t ≡ 0 = omega arith in rw d at m.2
+-- where none is counted, none has one left
+not_one : (b : Bool) → cond {A = ℕ} b 1 0 ≤ 0 → b ≡ false
+not_one true e = absurd (omega (arith, e))
+not_one false e = refl
+
+pub none_counted : (xs : List ℕ) → count_by (λ n. eqb n 1) xs ≡ 0 → (j : ℕ) → eqb (get_or xs j 0) 1 ≡ false
+none_counted [] e zero = refl
+none_counted [] e (suc j) = refl
+none_counted (x ∷ xs) e zero = not_one (eqb x 1) (omega (arith, e, sum_by-cons (λ (n : ℕ). cond (eqb n 1) 1 0) x xs))
+none_counted (x ∷ xs) e (suc j) = none_counted xs (omega (arith, e, sum_by-cons (λ (n : ℕ). cond (eqb n 1) 1 0) x xs)) j
+
+-- one task more, woken where it was due and passed by where it was not
+module _ (k : Tasks) (before : Line) (t : ℕ) (w : Waking) (below : t < 32) where
+  pub due_more : (v : Waking) → is_due before t ≡ true → v ≡ wake_next k w t
+      → wake_due k before (32 - (t + 1)) (t + 1) v ≡ wake_due k before (32 - t) t w
+  unfolding wake_due
+  due_more v due woken = let d : 32 - t ≡ suc (32 - (t + 1)) = omega arith in rw (d, wake_due, due, woken, add-one t)
+
+  pub due_passed : is_due before t ≡ false → wake_due k before (32 - (t + 1)) (t + 1) w ≡ wake_due k before (32 - t) t w
+  unfolding wake_due
+  due_passed due = let d : 32 - t ≡ suc (32 - (t + 1)) = omega arith in rw (d, wake_due, due, add-one t)
 
 -- nobody has one left, so nobody is due and nobody is woken
-pub none_due : (k : Tasks) (l : Line) (w : Waking) (n t : ℕ) → ((j : ℕ) → j < t + n → eqb (get_or l.left j 0) 1 ≡ false) → w ≡ wake_due k l n t w
+pub none_due : (k : Tasks) (l : Line) (w : Waking) (n t : ℕ) → ((j : ℕ) → eqb (get_or l.left j 0) 1 ≡ false) → w ≡ wake_due k l n t w
 unfolding wake_due is_due
 none_due k l w zero t h = refl
 none_due k l w (suc n) t h =
-    let e : is_due l t ≡ false = second_fails (waits_on (get_or l.seat t 0)) _ (h t (omega arith)) in
-    rw (wake_due, e) (none_due k l w n (suc t) (λ j b. h j (omega arith)))
+    let e : is_due l t ≡ false = second_fails (waits_on (get_or l.seat t 0)) _ (h t) in
+    rw (wake_due, e) (none_due k l w n (suc t) h)

@@ -1,134 +1,94 @@
 // Waiting and waking, for whatever tasks wait for: a task joins the queue of an object, and leaves it from whatever place.
 // An object is a number below 31: 0 to 15 are the semaphores, 16 to 23 the message queues. (scope's specs/Waiting.antt.)
-#![tactic(auto)]
+// (A cast by `as` stands where Rust has no `From`; each is proved to lose nothing.)
+// (An object is a number, as the definitions have it: scope's specs/Objects.antt. The wake list is lent beside its count, which the outcome
+// tells: there is no heap.)
+#![tactic(auto, unfolding(scope::specs::Choice::pick, scope::specs::Waiting::queue_key, scope::specs::Waiting::waits, scope::specs::Waiting::woken_seats, scope::specs::Waiting::woken_rings, scope::specs::Waiting::wake, scope::specs::Waiting::wake_next, scope::specs::Seats::rings_ready, scope::specs::Answers::plain, scope::specs::Answers::answer, answers::specs::Outcomes::outcome, answers::specs::Outcomes::answer_of, crate::specs::Calls::time_out, crate::specs::Calls::wait_for))]
 
-ghost use Rattle.std.specs.Prelude.{◌≡◌, ℕ, ◌+◌, ◌<◌, List};
-ghost use Rattle.scope.specs.declared.Tasks.{Tasks};
-ghost use Rattle.scope.specs.Choice.{pick};
-ghost use Rattle.scope.specs.Seats.{mask_filled, joins};
-ghost use Rattle.scope.specs.Waiting.{queue_key, waits, woken_seats, wake_next, wake_all};
-ghost use Rattle.answers.specs.Columns.{line_of, wakers, waking_of};
+ghost use Rattle.std.specs.Prelude.{◌≡◌, ◌+◌, ◌<◌};
+ghost use Rattle.scope.specs.Waiting.{waits, wake_next, wake_all};
+ghost use Rattle.scope.specs.Answers.{no_wakes};
+ghost use Rattle.answers.specs.Columns.{waking_from};
+ghost use Rattle.answers.specs.Outcomes.{answer_of, outcome_of};
+ghost use Rattle.waiting.specs.Calls.{time_out, wait_for};
 
-// Task `t`, which stands nowhere, joins the queue whose seats begin above `base`: "FIFO queues grow at the end. Others are by
-// priority at the moment of joining". Whoever joins at the end asks for no priority, and sends nobody back.
-fn join_queue(
-    seat: &mut [u16; 32],
-    joined: &[u8; 32],
-    t: usize,
-    base: u16,
-    fifo: bool,
-    priority: u8,
-)
-    requires { (t < 32) × (base < 65000) }
-    ensures { seat.new ≡ joins seat.old joined.now t base (queue_key fifo priority) }
-{
-    if fifo {
-        seats::join_last(seat, t, base);
-        return;
-    }
-    seats::join(seat, joined, t, base, priority);
-}
+use answers::Outcome;
+use scope::{Line, Refusal, State, Tasks};
 
 // Task `t` leaves the ready order and joins the queue of object `i`. What does not wait for another store is stored first: so less is kept for
 // later.
-pub fn wait(
-    left: &mut [u32; 32],
-    seat: &mut [u16; 32],
-    joined: &mut [u8; 32],
-    rings: &mut [u16; 1],
-    i: usize,
-    fifo: bool,
-    priority: u8,
-    ticks: u32,
-    t: usize,
-)
+pub fn wait(line: &mut Line, i: usize, fifo: bool, priority: u8, ticks: u32, t: usize)
     requires { (i < 31) × (t < 32) }
-    ensures { line_of left.new seat.new joined.new rings.new ≡ waits (line_of left.old
-        seat.old joined.old rings.old) i fifo priority ticks t }
+    ensures { line.new ≡ waits line.old i fifo priority ticks t }
 {
-    left[t] = ticks;
-    seats::take_out(seat, rings, t);
+    line.left[t] = ticks;
+    seats::take_out(line, t);
     let base = (i * 64 + 64) as u16;
-    join_queue(seat, joined, t, base, fifo, priority);
-    joined[t] = priority;
-}
-
-// Where the tasks stand once task `t` is woken: "it becomes ready when it neither waits nor is suspended".
-fn leave_queue(seat: &mut [u16; 32], suspended: bool, priority: u8, t: usize)
-    requires { t < 32 }
-    ensures { (left joined rings : List ℕ) → seat.new
-        ≡ woken_seats (line_of left seat.old joined rings) suspended priority t }
-{
-    seats::wake(seat, t, suspended, priority);
-}
-
-// The mask of the rings then: the queue that the task leaves is no ring.
-fn woken_mask(mask: u16, suspended: bool, priority: u8) -> u16
-    ensures { result ≡ pick suspended mask (mask_filled mask priority) }
-{
-    if suspended {
-        return mask;
+    if fifo {
+        seats::join_last(&mut line.seat, t, base);
+    } else {
+        seats::join(&mut line.seat, &line.joined, t, base, priority);
     }
-    seats::mask_filled(mask, priority)
+    line.joined[t] = priority;
 }
 
 // Task `t` leaves its queue and waits no longer, and is the next of the wake list. What is asked of it is read once, before a seat changes:
 // the compiler could not tell that it stays the same.
-pub fn wake_next(
-    left: &mut [u32; 32],
-    seat: &mut [u16; 32],
-    joined: &mut [u8; 32],
-    rings: &mut [u16; 1],
-    serial: &[u16; 32],
-    suspended: &[bool; 32],
-    priority: &[u8; 32],
-    wakes: &mut [u32; 32],
-    woken: usize,
-    t: usize,
-)
+pub fn wake_next(line: &mut Line, tasks: &Tasks, wakes: &mut [u32; 32], woken: usize, t: usize)
     requires { (t < 32) × (woken < 32) }
-    ensures { (k : Tasks) → waking_of left.new seat.new joined.new rings.new
-        wakes.new (woken + 1) ≡ wake_next (wakers k serial.now suspended.now
-        priority.now) (waking_of left.old seat.old joined.old rings.old wakes.old woken) t }
+    ensures { waking_from line.new wakes.new (woken + 1) ≡ wake_next tasks.now (waking_from line.old wakes.old woken) t }
 {
-    let is_suspended = suspended[t];
-    let p = priority[t];
-    leave_queue(seat, is_suspended, p, t);
-    let mask = woken_mask(rings[0], is_suspended, p);
-    rings[0] = mask;
-    left[t] = 0;
-    joined[t] = 0;
-    let id = tables::identifier(serial[t], t);
-    wakes[woken] = id;
+    let is_suspended = tasks.suspended[t];
+    let priority = tasks.priority[t];
+    seats::wake(&mut line.seat, t, is_suspended, priority);
+    if !is_suspended {
+        line.rings[0] = seats::mask_filled(line.rings[0], priority);
+    }
+    line.left[t] = 0;
+    line.joined[t] = 0;
+    wakes[woken] = tables::identifier(tasks.serial[t], t);
 }
 
 // "Delete wakes all waiters in queue order": the first, while there is one. Answers how many were woken.
-pub fn wake_all(
-    left: &mut [u32; 32],
-    seat: &mut [u16; 32],
-    joined: &mut [u8; 32],
-    rings: &mut [u16; 1],
-    serial: &[u16; 32],
-    suspended: &[bool; 32],
-    priority: &[u8; 32],
-    wakes: &mut [u32; 32],
-    i: usize,
-) -> usize
+pub fn wake_all(line: &mut Line, tasks: &Tasks, wakes: &mut [u32; 32], i: usize) -> usize
     requires { i < 31 }
-    ensures { (k : Tasks) → waking_of left.new seat.new joined.new rings.new wakes.new result
-        ≡ wake_all (wakers k serial.now suspended.now priority.now) i 32 (waking_of left.old
-        seat.old joined.old rings.old wakes.old 0) }
+    ensures { waking_from line.new wakes.new result ≡ wake_all tasks.now i 32 (waking_from line.old wakes.old 0) }
 {
-    let mut n: usize = 0;
-    while n < 32 {
-        let t = seats::first_waiter(seat, i);
-        if 32 <= t {
+    for n in 0..32 {
+        let Some(t) = seats::first_waiter(line, i) else {
             return n;
-        }
-        wake_next(
-            left, seat, joined, rings, serial, suspended, priority, wakes, n, t,
-        );
-        n += 1;
+        };
+        wake_next(line, tasks, wakes, n, t);
     }
-    n
+    32
+}
+
+// How long a call may wait: not at all with NOWAIT, which looks at no time_out.
+pub fn time_out(options: u32, ticks: u32) -> Result<Option<u32>, Refusal>
+    ensures { result ≡ time_out options ticks }
+{
+    if scope::LAST_OPTION < options {
+        return Err(Refusal::InvalidOptions);
+    }
+    if options == scope::NOWAIT {
+        return Ok(None);
+    }
+    if !times::is_time_out(ticks) {
+        return Err(Refusal::InvalidParameter);
+    }
+    Ok(Some(ticks))
+}
+
+// The running task waits for object `i`.
+pub fn wait_for(s: &mut State, i: usize, fifo: bool, ticks: u32) -> Result<Outcome, Refusal>
+    requires { i < 31 }
+    ensures answer { answer_of s.new no_wakes (outcome_of s.old.running result) ≡ wait_for s.old i fifo ticks }
+    ensures running { s.new.running ≡ s.old.running }
+{
+    let t = s.running;
+    if scope::TASKS <= t {
+        return Err(Refusal::NoCaller);
+    }
+    wait(&mut s.line, i, fifo, s.tasks.priority[t], ticks, t);
+    Ok(answers::plain(scope::PENDING, seats::runner(&s.line)))
 }

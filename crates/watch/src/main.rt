@@ -1,6 +1,6 @@
-// Plays the script that standard input gives and writes its grant grid (M-105): a line for each cell that is not 0, by task slot and then
+// Plays the script that standard input gives and writes its grant grid: a line for each cell that is not 0, by task slot and then
 // by semaphore slot, with the identifiers of the latest objects there and the grants. Where there is a second argument, it writes the
-// image of the state that the script leaves instead (M-104). Where there is an argument at all, the last word, `done` or `failed`, goes to
+// image of the state that the script leaves instead. Where there is an argument at all, the last word, `done` or `failed`, goes to
 // descriptor 3, as the program `play` does it.
 #![tactic(auto)]
 
@@ -8,35 +8,24 @@ ghost use Rattle.std.specs.Prelude.{◌≡◌, ◌<◌, length};
 
 use inputs::Ended;
 use scope::{Semaphores, State, Tasks};
+use scripts::Script;
 use std::io;
 use std::io::Write;
 use std::process::ExitCode;
 
+// (Apart, so that the proof of the function that asks for them does not carry 512 cells.)
 fn no_cells() -> [u16; 512]
     ensures { 512 ≡ length result }
 {
     [0; 512]
 }
 
-fn wide(n: u16) -> u64
-    ensures { result ≡ n }
-{
-    n as u64
-}
-
-// A number and what stands behind it.
-fn write_field<W: Write>(to: &mut W, n: u64, after: &[u8]) -> io::Result<()> {
-    write!(to, "{n}")?;
-    to.write_all(after)
-}
-
+// A cell's line; none where nothing was granted.
 fn write_cell<W: Write>(to: &mut W, task: u32, semaphore: u32, grants: u16) -> io::Result<()> {
     if grants == 0 {
         return Ok(());
     }
-    write_field(to, task as u64, b" ")?;
-    write_field(to, semaphore as u64, b" ")?;
-    write_field(to, wide(grants), b"\n")
+    writeln!(to, "{task} {semaphore} {grants}")
 }
 
 // The cells of a task's row.
@@ -49,8 +38,8 @@ fn write_row<W: Write>(
 ) -> io::Result<()>
     requires { t < 32 }
 {
-    for i in 0..16usize {
-        let semaphore = tables::identifier(m.serial[i], i);
+    for (i, serial) in m.serial.iter().enumerate() {
+        let semaphore = tables::identifier(*serial, i);
         write_cell(to, task, semaphore, cells[t * 16 + i])?;
     }
     Ok(())
@@ -62,8 +51,8 @@ fn write_grid<W: Write>(
     m: &Semaphores,
     cells: &[u16; 512],
 ) -> io::Result<()> {
-    for t in 0..32usize {
-        let task = tables::identifier(k.serial[t], t);
+    for (t, serial) in k.serial.iter().enumerate() {
+        let task = tables::identifier(*serial, t);
         write_row(to, task, t, m, cells)?;
     }
     Ok(())
@@ -101,12 +90,11 @@ fn watch_input(rt: &HostRuntime, wants_image: bool) -> Ended {
         inputs::complain(&mut rt.stderr(), b"standard input", b": cannot be read", e);
         return Ended::Failed;
     }
-    let n = got.length;
-    if !text::is_script(&script[..n]) {
+    let Some(script) = Script::new(&script[..got.length]) else {
         return write_refused(rt, wants_image);
-    }
+    };
     let mut cells = no_cells();
-    let s = watching::watch(&script[..n], &mut cells);
+    let s = watching::watch(&script, &mut cells);
     if wants_image {
         return ended(write_image(&mut rt.stdout(), s));
     }

@@ -1,7 +1,7 @@
 -- `columns::get`: the bytes from k on are read.
 use native.Mathlib.Omega.{arith}
 use borrow.Author.Rules.{rules}
-use Rattle.fields.proofs.Loops.{reading_start, reading_room, reading_more, reading_done}
+use Rattle.fields.proofs.Loops.{reading_start, reading_room, reading_more}
 use Rattle.columns.proofs.get.Goals as goal
 
 pub loop-k-init : goal.loop-k-init
@@ -11,22 +11,16 @@ pub overflow_mul-x : goal.overflow_mul-x
 overflow_mul-x c =
     let a = c.args in
     let l = c.loop-k in
-    omega (arith, reading_room a.w a.s.now a.at l.x l.k c.requires.1 c.loop-k-test.true l.invariant)
+    omega (arith, reading_room a.w a.s.now a.at l.x l.k c.requires.1 (search rules) l.invariant)
 
 pub overflow_add-x : goal.overflow_add-x
 overflow_add-x c =
     let a = c.args in
     let l = c.loop-k in
-    omega (arith, reading_room a.w a.s.now a.at l.x l.k c.requires.1 c.loop-k-test.true l.invariant, c.wide_byte.ensures.1)
+    omega (arith, reading_room a.w a.s.now a.at l.x l.k c.requires.1 (search rules) l.invariant, c.from.ensures)
 
 pub loop-k-preserved : goal.loop-k-preserved
 loop-k-preserved c =
     let a = c.args in
     let l = c.loop-k in
-    reading_more a.w a.s.now a.at l.x l.k _ c.loop-k-test.true c.wide_byte.ensures.0 c.wide_byte.ensures.1 l.invariant
-
-pub returns : goal.returns
-returns c =
-    let a = c.args in
-    let l = c.loop-k in
-    reading_done a.w a.s.now a.at l.x l.k (search rules) l.invariant
+    reading_more a.w a.s.now a.at l.x l.k _ (search rules) (search rules) (search rules) (search rules) l.invariant

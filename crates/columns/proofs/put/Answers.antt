@@ -1,21 +1,14 @@
--- `columns::put`: before byte k what is left of the number is still to write.
-use Prim.Native.Nat.{◌-◌}
-use mathlib.Core.Path.{refl}
-use borrow.Author.Rules.{rules}
-use Rattle.fields.proofs.Loops.{writing_start, writing_more, writing_done}
+-- `columns::put`: the library's bytes of a number are its own.
+use Rattle.std.proofs.Common.{◌≡◌, List, ℕ, length, take, arith, ◌∙◌, ap}
+use Rattle.fields.specs.Numbers.{le}
+use Rattle.fields.proofs.Bytes.{length-le}
+use Rattle.fields.proofs.Loops.{stored, low_bytes}
 use Rattle.columns.proofs.put.Goals as goal
-
-pub loop-k-init : goal.loop-k-init
-loop-k-init c = writing_start c.args.w c.args.x c.args.s.now c.args.at
-
-pub loop-k-preserved : goal.loop-k-preserved
-loop-k-preserved c =
-    let a = c.args in
-    let l = c.loop-k in
-    writing_more a.w a.x a.s.now a.at l.s l.rest l.k _ (search rules) refl l.invariant
 
 pub returns : goal.returns
 returns c =
     let a = c.args in
-    let l = c.loop-k in
-    writing_done a.w a.x a.s.now a.at l.s l.rest l.k (search rules) l.invariant
+    let long : length (le a.w a.x) ≡ a.w = length-le a.w a.x in
+    let low : take a.w c.to_le_bytes.result ≡ le a.w a.x =
+    ap (λ (l : List ℕ). take a.w l) c.to_le_bytes.ensures ∙ low_bytes a.w a.x c.requires.1 in
+    stored a.s.now (le a.w a.x) _ a.at _ (omega arith) (omega arith) (c.copy_from_slice.ensures.after ∙ low)

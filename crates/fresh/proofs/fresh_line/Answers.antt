@@ -4,4 +4,4 @@ use Rattle.laws.proofs.Bits.{bit_fits}
 use Rattle.fresh.proofs.fresh_line.Goals as goal
 
 pub returns : goal.returns
-returns c = rw (c.wide.ensures, one-mul, bit_fits _ 16 c.requires)
+returns c = rw (c.from.ensures, c.from-2.ensures, one-mul, bit_fits _ 16 c.requires)

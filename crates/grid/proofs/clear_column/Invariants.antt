@@ -1,13 +1,8 @@
--- The column's cell of each row is set to 0, row after row: after i turns the first i rows are done.
-use Prim.Native.Nat.{ℕ, ◌≤◌, ◌-◌}
-use mathlib.Core.Path.{◌≡◌}
-use mathlib.Core.List.{List}
-use lib.ListN.{length, set}
-use Rattle.grid.proofs.Laws.{part}
+-- The column's cell is 0 in the rows so far; the others are as they were.
+use Rattle.std.proofs.Common.{◌≡◌, ℕ, List, ◌++◌, length, map, take, drop, set}
 use Rattle.grid.proofs.clear_column.Given as goal
 
-abbrev pub invariant-loop-i : goal.invariant-loop-i
-invariant-loop-i l = (l.i ≤ 32) × (length l.initial.h ≡ 32) × (l.h ≡ part (λ (row : List ℕ). set row l.semaphore 0) l.i l.initial.h)
-
-abbrev pub decreases-loop-i : goal.decreases-loop-i
-decreases-loop-i l = 32 - l.i
+abbrev pub invariant-loop-row : goal.invariant-loop-row
+invariant-loop-row l =
+    (length l.fn.g ≡ 32) × (length l.row-items ≡ 32)
+    × (l.row-items ≡ map (λ (row : List ℕ). set row l.semaphore 0) (take l.row-index l.fn.g) ++ drop l.row-index l.fn.g)

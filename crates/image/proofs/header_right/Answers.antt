@@ -8,4 +8,4 @@ use Rattle.image.proofs.header_right.Goals as goal
 
 pub returns : goal.returns
 unfolding header_right
-returns c = tells_one _ _ c.are_u32s.ensures (same_tells (take_column 4 1 4 10 c.args.image.now 0) header_numbers)
+returns c = tells_one _ _ c.is_column.ensures (same_tells (take_column 4 1 4 10 c.args.image.now 0) header_numbers)

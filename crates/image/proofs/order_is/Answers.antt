@@ -15,6 +15,6 @@ pub returns : goal.returns
 returns c =
     let b = c.args.image.now in
     let xs = c.args.places.now in
-    tells_one _ _ c.are_u8s.ensures (same_tells (take_column 1 1 1 (length xs) b order_at) xs)
+    tells_one _ _ c.is_column.ensures (same_tells (take_column 1 1 1 (length xs) b order_at) xs)
     ∙ ap (λ (l : List ℕ). same_bytes l xs) (side_by_side (length xs) b order_at)
     ∙ ap (λ (n : ℕ). same_bytes (part n order_at b) xs) (search rules)

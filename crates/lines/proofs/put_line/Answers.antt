@@ -11,4 +11,4 @@ pub put_line-requires : goal.put_line-requires
 put_line-requires c = (search rules, few_in _ _ c.outcome_in-o.ensures)
 
 pub returns : goal.returns
-returns c = line_put _ _ _ _ _ (took 4 4 11 0 _ _ c.take_u32s.ensures (length-replicate {A = ℕ} 11 0)) (took 4 4 32 44 _ _ c.take_u32s-2.ensures (length-replicate {A = ℕ} 32 0)) c.outcome_in-o.ensures [] _ _ c.put_line.ensures
+returns c = line_put _ _ _ _ _ (took 4 4 11 0 _ _ c.take_column.ensures (length-replicate {A = ℕ} 11 0)) (took 4 4 32 44 _ _ c.take_column-2.ensures (length-replicate {A = ℕ} 32 0)) c.outcome_in-o.ensures [] _ _ c.put_line.ensures

@@ -10,4 +10,4 @@ returns c =
     let g = c.well_formed in
     let s = c.args in
     let size : length s.cells.now ≡ 8320 = search (rules, g) in
-    cell_told s.cells.now s.i size c.requires.0 s.k s.longest c.wide.result c.zeros.result c.requires.1 c.wide.ensures.0 c.zeros.ensures
+    cell_told s.cells.now s.i size c.requires.0 s.k s.longest c.from.result c.zeros.result c.requires.1 c.from.ensures c.zeros.ensures

@@ -1,5 +1,4 @@
--- `messages::in_form`: before cell k the loop holds the test of all cells passed; then the bytes behind them are looked at.
-use Prim.Native.Nat.{◌-◌}
+-- `messages::in_form`: the test of all cells passed; then the bytes behind them are looked at.
 use mathlib.Core.Path.{◌≡◌}
 use lib.ListN.{length}
 use Rattle.laws.proofs.Testing.{testing_start, testing_more, testing_done}
@@ -14,12 +13,12 @@ pub loop-k-init : goal.loop-k-init
 loop-k-init c = testing_start _ _
 
 pub loop-k-preserved : goal.loop-k-preserved
-loop-k-preserved c = testing_more c.loop-k.invariant (search rules) c.cell_right-right.ensures
+loop-k-preserved c = testing_more c.loop-k.invariant (search rules) c.cell_right-ok.ensures
 
 pub returns : goal.returns
 returns c =
     let g = c.well_formed in
-    let s = c.args in
-    let size : length s.cells.now ≡ 8320 = search (rules, g) in
-    row_told s.cells.now s.i size c.requires s.h s.longest c.loop-k.ok c.zeros.result c.if-h-gt16.false
-    (testing_done c.loop-k.invariant c.loop-k-test.false) c.zeros.ensures
+    let x = c.args in
+    let size : length x.cells.now ≡ 8320 = search (rules, g) in
+    row_told x.cells.now x.i size c.requires x.h x.longest c.loop-k.ok c.zeros.result c.if-h-gt16.false
+    (testing_done c.loop-k.invariant (search rules)) c.zeros.ensures

@@ -1,5 +1,4 @@
 -- `messages::zeros`: before byte j the loop holds the bits of all bytes passed.
-use Prim.Native.Nat.{◌-◌}
 use borrow.Author.Rules.{rules}
 use Rattle.laws.proofs.Messages.Forms.{zeroing_start, zeroing_more, zeroing_done}
 use Rattle.messages.proofs.zeros.Goals as goal

@@ -1,10 +1,6 @@
 -- `messages::zeros`: before byte j the loop holds the bits of all bytes passed.
-use Prim.Native.Nat.{◌-◌}
 use Rattle.laws.proofs.Messages.Forms.{Zeroing}
 use Rattle.messages.proofs.zeros.Given as goal
 
 abbrev pub invariant-loop-j : goal.invariant-loop-j
 invariant-loop-j l = Zeroing l.cells l.from l.to l.some l.j
-
-abbrev pub decreases-loop-j : goal.decreases-loop-j
-decreases-loop-j l = l.to - l.j

@@ -3,7 +3,4 @@ use Rattle.orders.proofs.Ringing.{Rings}
 use Rattle.orders.proofs.ready_places.Given as goal
 
 abbrev pub invariant-loop-p : goal.invariant-loop-p
-invariant-loop-p l = Rings l.seat l.places l.n l.p
-
-abbrev pub decreases-loop-p : goal.decreases-loop-p
-decreases-loop-p l = l.p
+invariant-loop-p l = Rings l.seat l.order.places l.order.given l.p

@@ -4,6 +4,3 @@ use Rattle.orders.proofs.ready_seats.Given as goal
 
 abbrev pub invariant-loop-t : goal.invariant-loop-t
 invariant-loop-t l = Marked l.seat l.table l.t
-
-abbrev pub decreases-loop-t : goal.decreases-loop-t
-decreases-loop-t l = l.t

@@ -5,12 +5,12 @@ use Rattle.scope.specs.Places.{first_leaves}
 use Rattle.laws.proofs.Arrays.{changing_start, changing_more, mapping_done}
 use Rattle.places.proofs.first_leaves.Goals as goal
 
-pub loop-k-init : goal.loop-k-init
-loop-k-init c = changing_start 64 (λ j x. x - 1) c.args.row (search rules)
+pub loop-x-init : goal.loop-x-init
+loop-x-init c = changing_start 64 (λ j x. x - 1) c.args.row (search rules)
 
-pub loop-k-preserved : goal.loop-k-preserved
-loop-k-preserved c = changing_more 64 (λ j x. x - 1) c.args.row c.loop-k.r c.loop-k.k _ (search rules) c.forward-x.ensures c.loop-k.invariant
+pub loop-x-preserved : goal.loop-x-preserved
+loop-x-preserved c = changing_more 64 (λ j x. x - 1) c.args.row c.loop-x.x-items c.loop-x.x-index _ (search rules) c.saturating_sub.ensures c.loop-x.invariant
 
 pub returns : goal.returns
 unfolding first_leaves
-returns c = mapping_done 64 (λ x. x - 1) c.args.row c.loop-k.r c.loop-k.k (search rules) c.loop-k.invariant
+returns c = mapping_done 64 (λ x. x - 1) c.args.row c.loop-x.x-items c.loop-x.x-index (search rules) c.loop-x.invariant

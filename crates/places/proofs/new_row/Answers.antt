@@ -1,5 +1,5 @@
 -- `places::new_row`: the loop fills the row by buffers.
-use Prim.Native.Nat.{◌+◌, ◌-◌}
+use Prim.Native.Nat.{◌+◌}
 use lib.ListN.{replicate}
 use lib.Dec.{ltb}
 use borrow.Author.Rules.{rules}
@@ -13,7 +13,7 @@ pub loop-k-init : goal.loop-k-init
 loop-k-init c = changing_start 64 (λ j x. pick (ltb j c.args.n) (j + 1) 0) (replicate 64 0) (search rules)
 
 pub loop-k-preserved : goal.loop-k-preserved
-loop-k-preserved c = changing_more 64 (λ j x. pick (ltb j c.args.n) (j + 1) 0) (replicate 64 0) c.loop-k.r c.loop-k.k _ (search rules) c.new_place.ensures c.loop-k.invariant
+loop-k-preserved c = changing_more 64 (λ j x. pick (ltb j c.args.n) (j + 1) 0) (replicate 64 0) c.loop-k.row c.loop-k.k _ (search rules) c.new_place.ensures c.loop-k.invariant
 
 pub returns : goal.returns
-returns c = changing_done 64 (λ j x. pick (ltb j c.args.n) (j + 1) 0) (replicate 64 0) c.loop-k.r (new_row c.args.n) c.loop-k.k (search rules) (length_new _) (λ j l. new_at _ j l) c.loop-k.invariant
+returns c = changing_done 64 (λ j x. pick (ltb j c.args.n) (j + 1) 0) (replicate 64 0) c.loop-k.row (new_row c.args.n) c.loop-k.k (search rules) (length_new _) (λ j l. new_at _ j l) c.loop-k.invariant

@@ -1,18 +1,22 @@
--- `places::none_above`: before place k the loop holds the test of all places passed.
-use Prim.Native.Nat.{◌-◌}
-use mathlib.Core.Path.{refl, ◌∙◌}
+-- `places::none_above`: the test of all places passed; the slice lent is the row.
+use mathlib.Core.Path.{refl, ap, ◌∙◌}
+use mathlib.Core.List.{List}
+use Prim.Native.Nat.{ℕ}
+use lib.ListN.{get_or}
+use lib.Dec.{leb}
+use Rattle.scope.specs.Choice.{every}
+use Rattle.places.proofs.Rows.{row_lent}
 use borrow.Author.Rules.{rules}
 use Rattle.laws.proofs.Testing.{testing_start, testing_more, testing_done}
-use Rattle.places.proofs.Gathering.{row_tested}
 use Rattle.places.proofs.none_above.Goals as goal
 
-pub loop-k-init : goal.loop-k-init
-loop-k-init c = testing_start _ _
+pub loop-x-init : goal.loop-x-init
+loop-x-init c = testing_start _ _
 
-pub loop-k-preserved : goal.loop-k-preserved
-loop-k-preserved c = testing_more c.loop-k.invariant (search rules) refl
+pub loop-x-preserved : goal.loop-x-preserved
+loop-x-preserved c = testing_more c.loop-x.invariant (search rules) refl
 
 pub returns : goal.returns
 returns c =
-    let a = c.args in
-    testing_done c.loop-k.invariant (search rules) ∙ row_tested a.places.now a.i a.most c.requires
+    testing_done c.loop-x.invariant (search rules)
+    ∙ ap (λ (r : List ℕ). every (λ k. leb (get_or r k 0) c.args.most) 64) (row_lent c.args.places.now c.args.i)

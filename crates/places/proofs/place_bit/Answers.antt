@@ -5,4 +5,4 @@ use Rattle.laws.proofs.Bits.{bit_fits}
 use Rattle.places.proofs.place_bit.Goals as goal
 
 pub returns : goal.returns
-returns c = rw (one-mul, c.number.ensures, bit_fits _ 64 (mod-lt c.args.x (omega arith)))
+returns c = rw (one-mul, c.from.ensures, bit_fits _ 64 (mod-lt c.args.x (omega arith)))

@@ -4,8 +4,8 @@ use Rattle.text.specs.Lines.{longest_line}
 use Rattle.scripts.specs.Place.{point_at, Playing}
 use Rattle.play.proofs.write_listing.Given as goal
 
-abbrev pub invariant-loop-written : goal.invariant-loop-written
-invariant-loop-written g l = Playing l.script (point_at l.s l.p) × longest_line ≤ length l.out
+abbrev pub invariant-loop-place : goal.invariant-loop-place
+invariant-loop-place g l = Playing l.script.bytes.now (point_at l.state l.place) × longest_line ≤ length l.out
 
-abbrev pub decreases-loop-written : goal.decreases-loop-written
-decreases-loop-written g l = l.p.left
+abbrev pub decreases-loop-place : goal.decreases-loop-place
+decreases-loop-place g l = l.place.left

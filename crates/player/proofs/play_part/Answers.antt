@@ -1,42 +1,45 @@
--- `player::play_part`: a turn plays the record at the point, and puts its line behind those so far.
-use Rattle.std.proofs.Common.{◌≡◌, ◌≤◌, sym, subst}
+-- A record's step is the script's, its line stands behind those before it, and both are one record of those still to come.
+use native.Mathlib.Omega.{arith}
+use mathlib.Core.Path.{◌≡◌, refl, sym, ap, subst, ◌∙◌}
+use mathlib.Core.List.{List}
+use Prim.Native.Nat.{ℕ, ◌≤◌, ◌+◌, ◌-◌}
+use borrow.Author.Rules.{rules}
 use Rattle.scope.specs.declared.State.{State}
 use Rattle.scope.specs.declared.Answer.{Answer}
 use Rattle.scope.specs.Views.{running_task}
 use Rattle.answers.specs.Outcomes.{answer_shown, now_runs}
-use Rattle.answers.proofs.Outcomes.{runs_so}
-use Rattle.scripts.specs.Place.{point_at, LinePut}
-use Rattle.scripts.proofs.Laws.{going_first, going_more, line_played, record_step, step_few, line_told}
+use Rattle.scripts.specs.Place.{Point, Reached, point_at, LinePut}
+use Rattle.scripts.proofs.Laws.{going_first, going_more, step_few, record_step, line_told, line_played}
 use Rattle.player.proofs.play_part.Goals as goal
 
-pub loop-wakes-init : goal.loop-wakes-init
-loop-wakes-init c = going_first _ _ _ c.requires
+pub loop-place-init : goal.loop-place-init
+loop-place-init c = (going_first c.args.script.now _ c.args.lines.now c.requires, refl)
 
-pub put_line-k-requires : goal.put_line-k-requires
+pub line-requires : goal.line-requires
 unfolding answer_shown
-put_line-k-requires c =
-    let g = c.loop-wakes.invariant in
-    let e = record_step c.args.script.now c.loop-wakes.at c.loop-wakes.s g.playing.state c.read_record-r.result c.message_at-message.result c.read_record-r.ensures c.message_at-message.ensures c.perform-o.ensures.0 in (
-      (c.goes_on.ensures.yes c.loop-wakes-test.true).1,
-      subst (λ (x : Answer). x.woken ≤ 32) (sym e) (step_few c.args.script.now c.loop-wakes.at c.loop-wakes.s g.playing.state),
-    )
+line-requires c =
+    let script : List ℕ = c.args.script.now in
+    let l = c.loop-place in
+    let sound = l.invariant.0.playing.state in
+    let step = record_step script l.place.at l.s sound c.read_record-request.result c.message_at-message.result c.read_record-request.ensures c.message_at-message.ensures c.perform-outcome.ensures.0 in
+    (search rules, subst (λ (a : Answer). a.woken ≤ 32) (sym step) (step_few script l.place.at l.s sound))
 
-pub loop-wakes-preserved : goal.loop-wakes-preserved
-loop-wakes-preserved c =
-    let l = c.loop-wakes in
-    let g = l.invariant in
-    let y = c.goes_on.ensures.yes c.loop-wakes-test.true in
-    let o = c.perform-o.result in
-    let z = c.perform-o.new.s in
-    let e = record_step c.args.script.now l.at l.s g.playing.state c.read_record-r.result c.message_at-message.result c.read_record-r.ensures c.message_at-message.ensures c.perform-o.ensures.0 in
-    let so = runs_so z o.runs c.perform-o.ensures.1 in
-    let put : LinePut c.args.script.now l.at l.number l.s l.lines l.k (now_runs z o.runs) c.put_line-k.new.out c.put_line-k.result =
-    line_told c.args.script.now l.at l.number l.k c.runner-runs.result l.s z c.perform-o.new.wakes c.perform-o.new.shown o l.lines c.put_line-k.new.out c.put_line-k.result e
-    (subst (λ (x : State). c.runner-runs.result ≡ running_task x) (sym so) c.runner-runs.ensures.0) (c.put_line-k.ensures c.perform-o.new.shown) in
-    let there : LinePut c.args.script.now l.at l.number l.s l.lines l.k c.runner-runs.new.s c.put_line-k.new.out c.put_line-k.result =
-    subst (λ (x : State). LinePut c.args.script.now l.at l.number l.s l.lines l.k x c.put_line-k.new.out c.put_line-k.result) (sym c.runner-runs.ensures.1)
-    (subst (λ (x : State). LinePut c.args.script.now l.at l.number l.s l.lines l.k x c.put_line-k.new.out c.put_line-k.result) so put) in
-    going_more c.args.script.now (point_at c.args.s.now c.args.p) c.args.lines.now l.lines c.put_line-k.new.out
-    (record { state = l.s; left = l.more; number = l.number; at = l.at }) l.k _ g
-    (line_played c.args.script.now (record { state = l.s; left = l.more; number = l.number; at = l.at }) c.runner-runs.new.s l.lines c.put_line-k.new.out l.k c.put_line-k.result g.playing y.0 y.1 c.put_line-k.auto.out there)
-    c.put_line-k.auto.out
+pub loop-place-preserved : goal.loop-place-preserved
+loop-place-preserved c =
+    let script : List ℕ = c.args.script.now in
+    let l = c.loop-place in
+    let q : Point = point_at l.s l.place in
+    let n : State = c.perform-outcome.new.s in
+    let o = c.perform-outcome.result in
+    let shown : List ℕ = c.perform-outcome.new.notices.shown in
+    let before : List ℕ = l.out.bytes.now in
+    let lines : List ℕ = c.line.new.self.bytes.now in
+    let w = c.line.ensures shown in
+    let runs : n ≡ now_runs n o.runs = ap (now_runs n) c.perform-outcome.ensures.1 in
+    let step = record_step script l.place.at l.s l.invariant.0.playing.state c.read_record-request.result c.message_at-message.result c.read_record-request.ensures c.message_at-message.ensures c.perform-outcome.ensures.0 in
+    let told = line_told script l.place.at l.place.number l.out.at c.running_of.result l.s n c.perform-outcome.new.notices.wakes shown o before lines c.line.new.self.at step (c.running_of.ensures ∙ ap running_task runs) (w.0, w.1) in
+    let put = subst (λ (x : State). LinePut script l.place.at l.place.number l.s before l.out.at x lines c.line.new.self.at) (sym runs) told in
+    let played = line_played script q n before lines l.out.at c.line.new.self.at l.invariant.0.playing (search rules) (search rules) w.2 put in (
+      going_more script _ _ before lines q l.out.at _ l.invariant.0 played w.2,
+      w.3 ∙ l.invariant.1,
+    )

@@ -6,5 +6,5 @@ use borrow.Author.Rules.{rules}
 use Rattle.replies.proofs.put_answer.Goals as goal
 
 pub returns : goal.returns
-returns c = answer_put _ _ _ _ _ _ _ (search rules) (put_after 4 4 11 0 _ _ c.put_u32s.ensures (search rules) refl)
-    (put_after 4 4 32 44 _ _ c.put_u32s-2.ensures (search rules) refl) c.put_rows.ensures
+returns c = answer_put _ _ _ _ _ _ _ (search rules) (put_after 4 4 11 0 _ _ c.put_column.ensures (search rules) refl)
+    (put_after 4 4 32 44 _ _ c.put_column-2.ensures (search rules) refl) c.put_rows.ensures

@@ -1,11 +1,6 @@
--- `seats::is_taken`: as long as nobody was found there, no task below t sits on the seat; and one who was found does.
-use Rattle.std.proofs.Common.{◌≡◌, ℕ, ◌-◌, ◌<◌, ◌≤◌, true, false}
-use Rattle.scope.specs.Seats.{is_on}
+-- `seats::is_taken`: whether one of the tasks below the place is on the seat.
+use Rattle.seats.proofs.Laws.{Noted}
 use Rattle.seats.proofs.is_taken.Given as goal
 
-abbrev pub invariant-loop-t : goal.invariant-loop-t
-invariant-loop-t l = (l.t ≤ 32) × (l.taken ≡ false → (j : ℕ) → j < l.t → is_on l.q l.x j ≡ false)
-    × (l.taken ≡ true → (j : ℕ) × (j < l.t) × (is_on l.q l.x j ≡ true))
-
-abbrev pub decreases-loop-t : goal.decreases-loop-t
-decreases-loop-t l = 32 - l.t
+abbrev pub invariant-loop-y : goal.invariant-loop-y
+invariant-loop-y l = Noted l.y-items l.x l.taken l.y-index

@@ -2,4 +2,4 @@
 use Rattle.seats.proofs.make_ready.Goals as goal
 
 pub returns : goal.returns
-returns c = λ key. rw (← c.wide.ensures) (c.join_last.ensures key)
+returns c = λ key. rw (← c.from.ensures) (c.join_last.ensures key)

@@ -15,13 +15,13 @@ pub overflow_sub-result : goal.overflow_sub-result
 unfolding is_out
 overflow_sub-result c =
     let a = c.args in
-    rw (one-mul, bit_fits _ 16 c.if-p-ge16.false) (back_fits a.mask a.p (sym c.has_bit.ensures ∙ c.if-has_bit.true))
+    rw (c.from-k.ensures, one-mul, bit_fits _ 16 c.if-p-ge16.false) (back_fits a.mask a.p (sym (rw c.from-k.ensures at c.has_bit.ensures) ∙ c.if-has_bit.true))
 
 pub returns-then-has_bit : goal.returns-then-has_bit
 unfolding mask_emptied
 returns-then-has_bit c =
-    rw (one-mul, bit_fits _ 16 c.if-p-ge16.false) (pick_yes _ _ _ (sym c.has_bit.ensures ∙ c.if-has_bit.true) refl)
+    rw (c.from-k.ensures, one-mul, bit_fits _ 16 c.if-p-ge16.false) (pick_yes _ _ _ (sym (rw c.from-k.ensures at c.has_bit.ensures) ∙ c.if-has_bit.true) refl)
 
 pub returns : goal.returns
 unfolding mask_emptied
-returns c = pick_no _ _ _ (sym c.has_bit.ensures ∙ c.if-has_bit.false) refl
+returns c = pick_no _ _ _ (sym (rw c.from-k.ensures at c.has_bit.ensures) ∙ c.if-has_bit.false) refl

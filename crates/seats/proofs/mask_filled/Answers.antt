@@ -14,19 +14,19 @@ returns-then-p-ge16 c = pick_no _ _ _ (le-ltb _ _ c.if-p-ge16.true) refl
 pub returns-then-has_bit : goal.returns-then-has_bit
 unfolding mask_filled
 returns-then-has_bit c =
-    pick_yes _ _ _ (lt-ltb _ _ c.if-p-ge16.false) (pick_yes _ _ _ (sym c.has_bit.ensures ∙ c.if-has_bit.true) refl)
+    pick_yes _ _ _ (lt-ltb _ _ c.if-p-ge16.false) (pick_yes _ _ _ (sym (rw c.from-k.ensures at c.has_bit.ensures) ∙ c.if-has_bit.true) refl)
 
 pub overflow_add-result : goal.overflow_add-result
 unfolding is_free is_out
 overflow_add-result c =
     let a = c.args in
-    rw (one-mul, bit_fits _ 16 c.if-p-ge16.false)
+    rw (c.from-k.ensures, one-mul, bit_fits _ 16 c.if-p-ge16.false)
     (Fits-under w16 _ _
-    (take_fits a.mask a.p 16 (not_of_false _ (sym c.has_bit.ensures ∙ c.if-has_bit.false)) c.if-p-ge16.false (search rules))
+    (take_fits a.mask a.p 16 (not_of_false _ (sym (rw c.from-k.ensures at c.has_bit.ensures) ∙ c.if-has_bit.false)) c.if-p-ge16.false (search rules))
     tt)
 
 pub returns : goal.returns
 unfolding mask_filled
 returns c =
-    rw (one-mul, bit_fits _ 16 c.if-p-ge16.false)
-    (pick_yes _ _ _ (lt-ltb _ _ c.if-p-ge16.false) (pick_no _ _ _ (sym c.has_bit.ensures ∙ c.if-has_bit.false) refl))
+    rw (c.from-k.ensures, one-mul, bit_fits _ 16 c.if-p-ge16.false)
+    (pick_yes _ _ _ (lt-ltb _ _ c.if-p-ge16.false) (pick_no _ _ _ (sym (rw c.from-k.ensures at c.has_bit.ensures) ∙ c.if-has_bit.false) refl))

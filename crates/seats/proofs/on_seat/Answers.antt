@@ -1,19 +1,14 @@
--- `seats::on_seat`: no task below t sits on the seat, so the first that does is `on_seat`.
-use Rattle.std.proofs.Common.{◌-◌, false, rules, below_none, below_more, eq-eqb, ne_eqb}
-use Rattle.laws.proofs.Searches.{least_hit, least_none}
-use Rattle.scope.specs.Seats.{on_seat}
+-- `seats::on_seat`: the library's first place at which the seat stands is the definition's least task.
+use Rattle.std.proofs.Common.{◌≡◌, ℕ, rules, tests}
+use Rattle.std.proofs.lemmas.Iterator.{YieldsList-from_slice}
+use Rattle.std.proofs.lemmas.Iterator.Search.{position_from_yields_List}
+use Rattle.std.specs.Prelude.{position, nat_eq}
+use Rattle.seats.proofs.Laws.{seat_told}
 use Rattle.seats.proofs.on_seat.Goals as goal
 
-pub loop-t-init : goal.loop-t-init
-loop-t-init c = (search rules, below_none _)
-
-pub returns-then-q-t : goal.returns-then-q-t
-unfolding on_seat
-returns-then-q-t c = least_hit _ (search rules) c.loop-t.invariant.1 (eq-eqb _ _ c.if-q-t.true)
-
-pub loop-t-preserved : goal.loop-t-preserved
-loop-t-preserved c = (search rules, below_more _ _ c.loop-t.invariant.1 (ne_eqb _ _ c.if-q-t.false))
-
 pub returns : goal.returns
-unfolding on_seat
-returns c = least_none _ (search rules) (search rules) c.loop-t.invariant.1
+returns c =
+    let a = c.args in
+    let e : c.position.result ≡ position (λ (y : ℕ). nat_eq y a.x) a.q.now =
+    position_from_yields_List (λ (y : ℕ). nat_eq y a.x) _ _ c.position.result c.position.ensures.ran (YieldsList-from_slice a.q.now cc) (λ x b q k. search (rules, tests)) in
+    seat_told a.q.now a.x (search rules) e

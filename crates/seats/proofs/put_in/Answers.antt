@@ -4,4 +4,4 @@ use Rattle.seats.proofs.put_in.Goals as goal
 
 pub returns : goal.returns
 unfolding rings_ready
-returns c = (c.make_ready.ensures c.args.key.now, rw c.mask_filled-mask.ensures)
+returns c = rw (c.make_ready.ensures c.args.line.now.joined, c.mask_filled.ensures)

@@ -6,5 +6,5 @@ use Rattle.seats.proofs.take_out.Goals as goal
 pub returns : goal.returns
 unfolding leaves rings_left
 returns c =
-    let u = c.close_up-c in
-    (u.ensures.0, rw (c.mask_left-mask.ensures, ring_left _ _ _ _ u.ensures.1))
+    let u = c.close_up-held in
+    rw (u.ensures.0, c.mask_left.ensures, ring_left _ _ _ _ u.ensures.1)

@@ -8,5 +8,5 @@ pub returns : goal.returns
 unfolding leaves
 returns c =
     let a = c.args in
-    let u = c.move_up-m in
-    λ key. woken a.seat.now u.result.seats key a.t a.p _ c.seat_unless-y.result u.result.behind a.suspended (search rules) (search rules) c.wide.ensures u.ensures.0 u.ensures.1 c.seat_unless-y.ensures
+    let u = c.move_up-behind in
+    λ key. woken a.seat.now u.result.seats key a.t a.p _ c.seat_unless.result u.result.behind a.suspended (search rules) (search rules) c.from.ensures u.ensures.0 u.ensures.1 c.seat_unless.ensures

@@ -5,8 +5,5 @@ use Rattle.stepping.proofs.fresh.Goals as goal
 pub returns-then-image-lt-SIZE : goal.returns-then-image-lt-SIZE
 returns-then-image-lt-SIZE c = fresh_full _ _ c.if-image-lt-SIZE.true
 
-pub fresh_image-requires : goal.fresh_image-requires
-fresh_image-requires c = c.blank-own.ensures
-
 pub returns : goal.returns
 returns c = fresh_done _ _ _ c.if-image-lt-SIZE.false c.fresh_image.ensures.1 c.put_front.ensures c.fresh_status.ensures

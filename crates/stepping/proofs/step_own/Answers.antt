@@ -2,9 +2,6 @@
 use Rattle.replies.proofs.Laws.{tested, step_refused, few_woken, step_done}
 use Rattle.stepping.proofs.step_own.Goals as goal
 
-pub step_image-t-requires : goal.step_image-t-requires
-step_image-t-requires c = c.requires
-
 pub numbers_of-numbers-requires : goal.numbers_of-numbers-requires
 numbers_of-numbers-requires c = few_woken _ _ _ _ _ _ _ _ _ _ _ c.step_image-t.result.outcome _ c.step_image-t.ensures.1.1
 

@@ -1,36 +1,30 @@
--- `ticks::take_one`: the loop changes the array in place, each place by its task, and counts those passed that had one left.
-use Prim.Native.Nat.{ℕ, ◌-◌}
-use native.Mathlib.Omega.{arith}
-use mathlib.Core.Path.{◌≡◌, ap, ◌∙◌}
-use mathlib.Core.List.{List}
+-- `ticks::take_one`: one time_out more.
+use Rattle.std.proofs.Common.{◌≡◌, ℕ, length, take, nat_eq, ap, ◌∙◌, arith, rules}
 use lib.ListN.{get_or}
-use lib.Dec.{eqb}
-use borrow.Author.Rules.{rules}
-use Rattle.scope.specs.Answers.{bit_of}
-use Rattle.scope.specs.Ticks.{time_left}
-use Rattle.laws.proofs.Arrays.{changing_start, changing_more}
-use Rattle.ticks.proofs.Laws.{times_done, counts_one, none_counted}
+use Rattle.std.proofs.lemmas.List.{take_all}
+use Rattle.std.specs.Int.{from_bool}
+use Rattle.laws.proofs.Arrays.{changing_start, changing_more, mapping_done}
+use Rattle.scope.specs.Ticks.{time_left, times_left}
+use Rattle.ticks.proofs.Laws.{counted_more}
 use Rattle.ticks.proofs.take_one.Goals as goal
 
-pub loop-k-init : goal.loop-k-init
-loop-k-init c = (changing_start 32 (λ j. time_left) c.args.left (search rules), λ e j l. absurd (omega arith), omega arith)
+pub loop-x-init : goal.loop-x-init
+loop-x-init c = (changing_start 32 (λ j. time_left) c.args.left (search rules), search rules, omega arith)
 
-pub overflow_add-last : goal.overflow_add-last
-overflow_add-last c = omega (arith, c.loop-k.invariant.2, c.bit-last.ensures, counts_one (eqb (get_or c.loop-k.r c.loop-k.k 0) 1))
-
-pub loop-k-preserved : goal.loop-k-preserved
-loop-k-preserved c =
-    let left : List ℕ = c.args.left in
-    let r : List ℕ = c.loop-k.r in
-    let k : ℕ = c.loop-k.k in
-    let here : get_or r k 0 ≡ get_or left k 0 = c.loop-k.invariant.0.4 k (omega arith) in (
-      changing_more 32 (λ j. time_left) left r k _ c.loop-k-test.true c.time_left.ensures c.loop-k.invariant.0,
-      none_counted (λ (j : ℕ). eqb (get_or left j 0) 1) k c.loop-k.last _ c.loop-k.invariant.1 (c.bit-last.ensures ∙ ap (λ (x : ℕ). bit_of (eqb x 1)) here),
-      omega (arith, c.loop-k.invariant.2, c.bit-last.ensures, counts_one (eqb (get_or r k 0) 1)),
-    )
+pub loop-x-preserved : goal.loop-x-preserved
+loop-x-preserved c =
+    let l = c.loop-x in
+    let left = c.args.left in
+    let long : length left ≡ 32 = search rules in
+    let here : get_or l.x-items l.x-index 0 ≡ get_or left l.x-index 0 = l.invariant.0.4 l.x-index (omega arith) in
+    let more = counted_more left l.x-index l.last (omega arith) l.invariant.1 l.invariant.2 in
+    let counts : c.from-last.result ≡ from_bool (nat_eq (get_or left l.x-index 0) 1) = c.from-last.ensures ∙ ap (λ (x : ℕ). from_bool (nat_eq x 1)) here in
+    (changing_more 32 (λ j. time_left) left l.x-items l.x-index _ (search rules) c.time_left.ensures l.invariant.0, rw counts more.0, rw counts more.1)
 
 pub returns : goal.returns
-returns c = (
-  times_done c.args.left c.loop-k.r c.loop-k.k (search rules) c.loop-k.invariant.0,
-  λ e t l. c.loop-k.invariant.1 e t (omega arith),
-)
+unfolding times_left
+returns c =
+    let l = c.loop-x in
+    let long : length c.args.left ≡ 32 = search rules in
+    let whole : take l.x-index c.args.left ≡ c.args.left = take_all l.x-index c.args.left (omega arith) in
+    (mapping_done 32 time_left c.args.left l.x-items l.x-index (search rules) l.invariant.0, rw whole at l.invariant.1)

@@ -1,18 +1,20 @@
 -- `ticks::wake_due`: each turn looks at one task more, and wakes it where it was due.
-use Prim.Native.Nat.{◌-◌}
-use native.Mathlib.Omega.{arith}
-use mathlib.Core.Path.{refl}
-use borrow.Author.Rules.{rules}
-use Rattle.scope.specs.Ticks.{is_due}
-use Rattle.ticks.proofs.Laws.{due_looked, due_done}
+use Rattle.std.proofs.Common.{◌≡◌, ◌∙◌, sym, arith, rules}
+use Rattle.scope.specs.Ticks.{is_due, wake_due}
+use Rattle.ticks.proofs.Laws.{due_more, due_passed}
 use Rattle.ticks.proofs.wake_due.Goals as goal
-
-pub loop-t-init : goal.loop-t-init
-loop-t-init c = (search rules, λ k. (omega arith, omega arith, refl))
+use Rattle.ticks.proofs.wake_due.Goals.{then-is_due, else-is_due}
 
 pub loop-t-preserved : goal.loop-t-preserved
 unfolding is_due
-loop-t-preserved c = (omega (arith, c.wake_if_due-woken.ensures.few, c.loop-t.invariant.0), λ k. due_looked _ _ _ _ _ c.loop-t.t (c.loop-t.invariant.1 k) (search rules) c.wake_if_due-woken.ensures.few (rw (← c.is_due.ensures) (c.wake_if_due-woken.ensures.result_after k)))
+loop-t-preserved c =
+    elim c.if-is_due.branch [
+      | then-is_due w ↦ rw (w.line-is, w.wakes-is, w.woken-is)
+          ((omega arith, due_more _ _ c.loop-t.t _ (search rules) _ (sym c.is_due.ensures ∙ w.if-is_due.true) w.wake_next.ensures ∙ c.loop-t.invariant.1))
+      | else-is_due w ↦ rw (w.line-is, w.wakes-is, w.woken-is)
+          ((omega arith, due_passed _ _ c.loop-t.t _ (search rules) (sym c.is_due.ensures ∙ w.if-is_due.false) ∙ c.loop-t.invariant.1))
+    ]
 
 pub returns : goal.returns
-returns c = λ k. due_done _ _ _ _ c.loop-t.t (c.loop-t.invariant.1 k) (search rules)
+unfolding wake_due
+returns c = let e : c.loop-t.t ≡ 32 = omega arith in rw e at c.loop-t.invariant.1

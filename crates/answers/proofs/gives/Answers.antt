@@ -1,8 +1,0 @@
--- `answers::gives` meets its contract: what it builds is the outcome defined, field by field.
-use mathlib.Core.Path.{refl}
-use Rattle.answers.specs.Outcomes.{outcome}
-use Rattle.answers.proofs.gives.Goals as goal
-
-pub returns : goal.returns
-unfolding outcome
-returns c = refl

@@ -1,9 +1,0 @@
--- `images::written`: each call tests a part of the bytes, and the tests together tell the whole.
-use borrow.Author.Rules.{rules}
-use Rattle.images.proofs.Tests.{tested}
-use Rattle.images.proofs.written.Goals as goal
-
-pub returns : goal.returns
-returns c =
-    tested c.args.image.now (search rules) c.requires _ _ _ _ _ c.take_u16s.ensures c.ready_places-places.ensures c.header_right.ensures
-    c.flags_right.ensures c.order_is.ensures

@@ -1,6 +1,0 @@
--- Each turn plays one record more.
-use Rattle.std.proofs.Common.{◌-◌}
-use Rattle.mixes_checked.proofs.play.Given as goal
-
-abbrev pub decreases-loop-i : goal.decreases-loop-i
-decreases-loop-i l = l.to - l.i

@@ -1,2 +1,0 @@
--- What the semaphore calls share: what is decided before anything changes.
-pub mod Deciding

@@ -1,7 +1,0 @@
--- `tables::flag` meets its contract: past the end a read gives the default.
-use Rattle.laws.proofs.Arrays.{past}
-use borrow.Author.Rules.{rules}
-use Rattle.tables.proofs.flag.Goals as goal
-
-pub returns : goal.returns
-returns c = search (rules, past)

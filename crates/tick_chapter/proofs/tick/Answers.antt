@@ -1,8 +1,0 @@
--- `tick_chapter::tick`: what the call of the lent columns says, at the state that lends them.
-use Rattle.std.proofs.Common.{refl}
-use Rattle.answers.specs.Outcomes.{answer_of}
-use Rattle.tick_chapter.proofs.tick.Goals as goal
-
-pub returns : goal.returns
-unfolding answer_of
-returns c = (λ m. c.tick_part-o.ensures c.args.s.now m, refl)

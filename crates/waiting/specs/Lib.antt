@@ -1,0 +1,2 @@
+-- What the calls that may wait share.
+pub mod Calls
