@@ -15,7 +15,8 @@ RUNS = '''    s.line.rings = [seats::ring_mask(&s.line.seat)];
     s.running = seats::runner(&s.line);
     s.running
 '''
-TOP = '''// A state that is lent, taken out of an image where it lies: nothing of it is copied first. (specs/Taken.antt; docs/IMAGE.md.)
+TOP = '''// A state that is lent, taken out of an image where it lies: nothing of it is copied first. There is a function for each
+// table, with the promise of its own columns. (specs/Taken.antt; docs/IMAGE.md.)
 // Printed by tools/generate/run, from its table of columns.
 '''
 

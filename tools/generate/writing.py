@@ -16,8 +16,8 @@ AROUND = {
     'tasks': ('    image::put_header(image);\n', ''),
     'queues': ('', '    image::put_order(image, &orders::ready_places(&s.line.seat));\n'),
 }
-TOP = '''// A state that is lent, put into a lent image where it lies: nothing of it is copied first. Each function answers where the next table begins.
-// (specs/Written.antt; docs/IMAGE.md.) Printed by tools/generate/run, from its table of columns.
+TOP = '''// A state that is lent, put into a lent image where it lies: nothing of it is copied first. Each function answers where the next table begins;
+// there is one for each table, with the promise of its own columns. (specs/Written.antt; docs/IMAGE.md.) Printed by tools/generate/run, from its table of columns.
 '''
 
 

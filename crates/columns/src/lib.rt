@@ -40,6 +40,7 @@ pub trait Entry: Copy {
     ghost each_value: { (xs : List ℕ) → map value xs ≡ values xs };
 }
 
+// (The instances are alike, a line or two each: an impl written by a macro of ours is refused.)
 impl Entry for u8 {
     const BYTES: usize = 1;
 

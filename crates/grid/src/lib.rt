@@ -2,6 +2,7 @@
 // is a `[[u16; 16]; 32]` that is passed and returned by value, with one cell, row or column changed, and it is filled from a lent slice of
 // grant records, each handed by value to the change of one cell. (specs/Grid.antt, Keeping.antt and Filling.antt.)
 // (A cast by `as` stands where Rust has no `From`; each is proved to lose nothing.)
+// (An outcome's status, and why tasks were woken, are numbers, as the definitions of an answer have them.)
 #![tactic(auto, unfolding(scope::specs::Choice::pick, crate::specs::Grid::inside, crate::specs::Grid::granted, crate::specs::Grid::row_cleared, crate::specs::Grid::column_cleared, crate::specs::Keeping::released, crate::specs::Keeping::kept, crate::specs::Filling::filled))]
 
 ghost use Rattle.std.specs.Prelude.{◌≡◌, ◌%◌, get_or};

@@ -13,6 +13,7 @@ fn mix_room() -> [u8; 65536]
 }
 
 // Where a read fails, what came before it is played.
+// (Each program names its step; what they share is in `mixing`.)
 fn main(rt: HostRuntime) -> ExitCode {
     let mut file = mix_room();
     let n = inputs::read_input(&mut rt.stdin(), &mut file).length;

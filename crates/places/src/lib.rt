@@ -1,6 +1,7 @@
 // The order of a pool's free buffers: its row of 64 places, by buffer, out of the places of all pools. (scope's specs/Places.antt.)
 // A row is copied out and in, and the loops over it have no way out in their middle: the compiler takes sixteen places at a time.
 // `as` narrows a number that is proved to fit: `try_from` would make a Result that is never an Err.
+// (Each function takes any bytes that have the row, and asks that they do. The loops go by index where a buffer's number is its place.)
 #![tactic(auto, unfolding(scope::specs::Choice::pick))]
 
 ghost use Rattle.std.specs.Prelude.{◌≡◌, ◌+◌, ◌-◌, ◌*◌, ◌%◌, ◌^◌, ◌<◌, ◌≤◌, length, get_or, eqb, ltb, leb, MatchOption};

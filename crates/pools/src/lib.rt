@@ -1,6 +1,7 @@
 // The pool calls. Each is lent the state and changes it where it lies; a refused call leaves it as it was.
 // (scope's specs/Pools.antt.)
 // (A cast by `as` stands where Rust has no `From`; each is proved to lose nothing.)
+// (Options come as a number. Each call reads the bit as its own, and tests the number at its own place among its refusals.)
 #![tactic(auto, unfolding(scope::specs::Choice::pick, tables::specs::Slots::slot_of, scope::specs::Answers::on_found, scope::specs::Answers::plain, scope::specs::Answers::gives, scope::specs::Answers::answer, answers::specs::Outcomes::outcome, answers::specs::Outcomes::answer_of, scope::specs::Areas::is_free, scope::specs::Pools::pool_create, scope::specs::Pools::pool_create_at, scope::specs::Pools::pool_delete_at, scope::specs::Pools::pool_ident, scope::specs::Pools::pool_ident_at, scope::specs::Pools::pool_get_buff_at, scope::specs::Pools::pool_get_buffer, scope::specs::Pools::pool_ret_buff_at, scope::specs::Pools::pool_ret_buffer, scope::specs::Pools::pool_info_at), using(scope::proofs::Buffers::buffers_few, crate::proofs::Laws::free_few))]
 
 ghost use Rattle.std.specs.Prelude.{◌≡◌, ◌<◌, ◌≤◌, set};
@@ -49,6 +50,7 @@ fn put_pool(pools: &mut Pools, i: usize, pool: Pool)
 }
 
 // "pool_create: 3, 14, 6, 7, 15": a full table is told before an overlap is looked for. The new pool takes the lowest slot.
+// (The call has five arguments.)
 pub fn pool_create(
     s: &mut State,
     name: u32,
@@ -121,6 +123,7 @@ pub fn pool_delete(s: &mut State, id: u32) -> Result<Outcome, Refusal>
 }
 
 // The live pool of that name in the lowest slot.
+// (Each kind of object has this call, with a definition of its own; the search is one.)
 pub fn pool_ident(s: &State, name: u32) -> Result<Outcome, Refusal>
     ensures { answer_of s.now no_wakes (outcome_of s.now.running result) ≡ pool_ident s.now name }
 {

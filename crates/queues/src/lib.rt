@@ -5,6 +5,7 @@
 // (A cast by `as` stands where Rust has no `From`; each is proved to lose nothing.)
 // (Queue i is object 16 + i, as the definitions have it. A message is lent whole, with how many of its bytes count: so the definitions
 // `shown_of` and `cell_of` take it.)
+// (Options come as a number. Each call reads the bit as its own, and tests the number at its own place among its refusals.)
 #![tactic(auto, unfolding(scope::specs::Choice::pick, tables::specs::Slots::slot_of, scope::specs::Answers::on_found, scope::specs::Answers::plain, scope::specs::Answers::gives, scope::specs::Answers::shows, scope::specs::Answers::answer, scope::specs::Answers::wakes_with, scope::specs::Answers::delivers_to, scope::specs::Answers::bit_of, answers::specs::Outcomes::outcome, answers::specs::Outcomes::woke, answers::specs::Outcomes::delivered, answers::specs::Outcomes::answer_of, answers::specs::Outcomes::answer_shown, waiting::specs::Calls::time_out, waiting::specs::Calls::wait_for, scope::specs::Queues::are_limits, scope::specs::Queues::fits_queue, scope::specs::Queues::queue_create, scope::specs::Queues::queue_create_at, scope::specs::Queues::queue_delete_at, scope::specs::Queues::queue_ident, scope::specs::Queues::queue_ident_at, scope::specs::Queues::queue_put_at, scope::specs::Queues::queue_wait_at, scope::specs::Queues::queue_receive_at, scope::specs::Queues::queue_info_at), using(seats::proofs::Laws::few))]
 
 ghost use Rattle.std.specs.Prelude.{◌≡◌, true, ◌<◌, ◌≤◌, length};
@@ -68,6 +69,7 @@ pub fn queue_delete(s: &mut State, wakes: &mut [u32; 32], id: u32) -> Result<Out
 }
 
 // The identifier of the queue of that name.
+// (Each kind of object has this call, with a definition of its own; the search is one.)
 pub fn queue_ident(s: &State, what: u32) -> Result<Outcome, Refusal>
     ensures { answer_of s.now no_wakes (outcome_of s.now.running result) ≡ queue_ident s.now what }
 {
@@ -107,6 +109,7 @@ fn hold(u: &mut Queues, call: SendCall, i: usize, cell: [u8; 65])
 }
 
 // "A message goes to the first waiter or else" the queue holds it. 27 before 28.
+// (Each parameter is a fact of its own.)
 fn put(
     s: &mut State,
     notices: &mut Notices,
@@ -156,6 +159,7 @@ pub fn queue_send(
 }
 
 // Or else to its front.
+// (Two calls of the table, by one function.)
 pub fn queue_jump(
     s: &mut State,
     notices: &mut Notices,

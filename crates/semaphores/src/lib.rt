@@ -3,6 +3,7 @@
 // Each call is lent the state and changes it where it lies; who runs then, its outcome says. A refusal changes nothing.
 // (scope's specs/Semaphores.antt.)
 // (A cast by `as` stands where Rust has no `From`; each is proved to lose nothing.)
+// (Options come as a number. Each call reads the bit as its own, and tests the number at its own place among its refusals.)
 #![tactic(auto, unfolding(scope::specs::Choice::pick, tables::specs::Slots::slot_of, scope::specs::Answers::on_found, scope::specs::Answers::plain, scope::specs::Answers::gives, scope::specs::Answers::answer, scope::specs::Answers::wakes_with, scope::specs::Answers::bit_of, scope::specs::Views::less, answers::specs::Outcomes::outcome, answers::specs::Outcomes::woke, answers::specs::Outcomes::answer_of, waiting::specs::Calls::time_out, waiting::specs::Calls::wait_for, scope::specs::Semaphores::sem_create, scope::specs::Semaphores::sem_create_at, scope::specs::Semaphores::sem_delete_at, scope::specs::Semaphores::sem_ident, scope::specs::Semaphores::sem_ident_at, scope::specs::Semaphores::sem_wait_at, scope::specs::Semaphores::sem_claim_at, scope::specs::Semaphores::sem_release_at, scope::specs::Semaphores::sem_info_at), using(seats::proofs::Laws::few))]
 
 ghost use Rattle.std.specs.Prelude.{◌≡◌, ◌<◌};
@@ -55,6 +56,7 @@ pub fn sem_delete(s: &mut State, wakes: &mut [u32; 32], id: u32) -> Result<Outco
 }
 
 // The identifier of the semaphore of that name.
+// (Each kind of object has this call, with a definition of its own; the search is one.)
 pub fn sem_ident(s: &State, what: u32) -> Result<Outcome, Refusal>
     ensures { answer_of s.now no_wakes (outcome_of s.now.running result) ≡ sem_ident s.now what }
 {

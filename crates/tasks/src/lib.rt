@@ -66,6 +66,7 @@ pub fn task_delete(s: &mut State, id: u32) -> Result<Outcome, Refusal>
     Ok(answers::plain(scope::OK, seats::runner(&s.line)))
 }
 
+// (Each kind of object has this call, with a definition of its own; the search is one.)
 pub fn task_ident(s: &State, name: u32) -> Result<Outcome, Refusal>
     ensures { answer_of s.now no_wakes (outcome_of s.now.running result)
         ≡ task_ident s.now name }

@@ -3,6 +3,7 @@
 // (A cast by `as` stands where Rust has no `From`; each is proved to lose nothing.)
 // (An object is a number, as the definitions have it: scope's specs/Objects.antt. The wake list is lent beside its count, which the outcome
 // tells: there is no heap.)
+// (Options come as a number. Each call reads the bit as its own, and tests the number at its own place among its refusals.)
 #![tactic(auto, unfolding(scope::specs::Choice::pick, scope::specs::Waiting::queue_key, scope::specs::Waiting::waits, scope::specs::Waiting::woken_seats, scope::specs::Waiting::woken_rings, scope::specs::Waiting::wake, scope::specs::Waiting::wake_next, scope::specs::Seats::rings_ready, scope::specs::Answers::plain, scope::specs::Answers::answer, answers::specs::Outcomes::outcome, answers::specs::Outcomes::answer_of, crate::specs::Calls::time_out, crate::specs::Calls::wait_for))]
 
 ghost use Rattle.std.specs.Prelude.{◌≡◌, ◌+◌, ◌<◌};
@@ -17,6 +18,7 @@ use scope::{Line, Refusal, State, Tasks};
 
 // Task `t` leaves the ready order and joins the queue of object `i`. What does not wait for another store is stored first: so less is kept for
 // later.
+// (Each parameter is a fact of its own: the caller has read the queue's order and the task's priority.)
 pub fn wait(line: &mut Line, i: usize, fifo: bool, priority: u8, ticks: u32, t: usize)
     requires { (i < 31) × (t < 32) }
     ensures { line.new ≡ waits line.old i fifo priority ticks t }
