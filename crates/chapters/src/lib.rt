@@ -2,23 +2,13 @@
 // (scope's specs/Step.antt.)
 #![tactic(auto, unfolding(scope::specs::Choice::pick, scope::specs::Step::caller_refusal))]
 
-ghost use Rattle.std.specs.Prelude.{◌≡◌, ◌<◌, IfOk};
+ghost use Rattle.std.specs.Prelude.{◌≡◌, IfOk};
 ghost use Rattle.scope.specs.Refusals.{status_of};
-ghost use Rattle.scope.specs.Calls.{known_calls, may_call};
 ghost use Rattle.scope.specs.Step.{caller_refusal};
-ghost use Rattle.rows.specs.Kinds.{number_of, mark_of};
+ghost use Rattle.rows.specs.Kinds.{number_of};
 
 use rows::{Call, Caller};
 use scope::Refusal;
-
-// Whether the caller may make the call of that number: a look into the table, with no choice among the calls.
-#[tactic(auto, unfolding(scope::specs::Calls::may_call))]
-fn may_call(call: u32, caller: Caller) -> bool
-    requires { call < known_calls }
-    ensures { result ≡ may_call call (mark_of caller) }
-{
-    (rows::who_of(call as usize) >> caller.mark()) % 2 == 1
-}
 
 // The call that is asked for, where its caller may make it: 25, 24, 2, in that order, by the call table. Which call it is, is told last, so
 // that the choice of its kind and the choice by its kind are one.
@@ -30,7 +20,7 @@ pub fn allowed(call: u32, mark: u32, running: usize) -> Result<Call, Refusal>
         return Err(Refusal::BadCall);
     }
     let caller = Caller::from_mark(mark).ok_or(Refusal::BadCall)?;
-    let may = may_call(call, caller);
+    let may = rows::may_call(call, caller);
     match caller {
         Caller::Task if !may => Err(Refusal::BadCall),
         Caller::Task if running >= scope::TASKS => Err(Refusal::NoCaller),

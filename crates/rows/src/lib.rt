@@ -244,12 +244,13 @@ pub fn may_of(call: usize) -> u64
     MAY[call]
 }
 
-// Whether the caller may make the call.
+// Whether the caller may make the call of that number: a look into the table, with no choice among the calls.
 #[tactic(auto, unfolding(scope::specs::Calls::may_call))]
-pub fn may_call(call: Call, caller: Caller) -> bool
-    ensures { result ≡ may_call (number_of call) (mark_of caller) }
+pub fn may_call(call: u32, caller: Caller) -> bool
+    requires { call < known_calls }
+    ensures { result ≡ may_call call (mark_of caller) }
 {
-    (who_of(call.number() as usize) >> caller.mark()) % 2 == 1
+    (who_of(call as usize) >> caller.mark()) % 2 == 1
 }
 
 // Whether the status stands in the call's row.

@@ -1,17 +1,19 @@
-// The task calls, a chapter of the call table: each is chosen by its kind. (scope's specs/Calls.antt.)
-#![tactic(auto)]
+// The task calls, a chapter of the call table: `does` chooses the call by its kind, `task` by its number, with the caller's test in front.
+// (scope's specs/Step.antt and Calls.antt.)
+#![tactic(auto, unfolding(scope::specs::Step::answered, scope::specs::Answers::plain, scope::specs::Answers::answer, answers::specs::Outcomes::answer_of, answers::specs::Outcomes::outcome))]
 
-ghost use Rattle.std.specs.Prelude.{◌≡◌, ℕ, List};
+ghost use Rattle.std.specs.Prelude.{◌≡◌, ℕ, ◌<◌, ◌≤◌, List};
 ghost use Rattle.scope.specs.Calls.{call_at};
+ghost use Rattle.scope.specs.Step.{answered};
 ghost use Rattle.rows.specs.Kinds.{task_number};
 ghost use Rattle.answers.specs.Outcomes.{answer_of, outcome_of};
 
 use answers::Outcome;
-use rows::TaskCall;
+use rows::{Call, TaskCall};
 use scope::{Refusal, Request, State};
 
-// A task call, on a state lent as one thing. None of them wakes a task.
-pub fn task(
+// What a task call does, on a state lent as one thing. Who may make it is tested before. None of them wakes a task.
+pub fn does(
     s: &mut State,
     wakes: &mut [u32; 32],
     call: TaskCall,
@@ -30,5 +32,28 @@ pub fn task(
         TaskCall::Suspend => tasks::task_suspend(s, request.a),
         TaskCall::Resume => tasks::task_resume(s, request.a),
         TaskCall::SetPriority => tasks::task_set_priority(s, request.a, request.b),
+    }
+}
+
+// A task call by its number: the caller's test, the call, and who runs after it, which is kept in the state. A refused caller wakes nobody.
+pub fn task(s: &mut State, wakes: &mut [u32; 32], request: &Request) -> Outcome
+    requires { (1 ≤ request.now.call) × (request.now.call < 8) }
+    ensures { ((m : List ℕ) → answer_of s.new wakes.new result
+        ≡ answered s.old request.now.call request.now.mark request.now.a request.now.b request.now.c request.now.d request.now.e m)
+        × (s.new.running ≡ result.runs) }
+{
+    let running = s.running;
+    match chapters::allowed(request.call, request.mark, running) {
+        Ok(Call::Task(call)) => {
+            let outcome = answers::outcome_of(does(s, wakes, call, request), running);
+            s.running = outcome.runs;
+            outcome
+        }
+        // Another chapter's calls have other numbers.
+        Ok(_) => unreachable!(),
+        Err(refusal) => {
+            wakes.fill(0);
+            answers::plain(refusal.number(), running)
+        }
     }
 }

@@ -1,5 +1,9 @@
--- The search finds every arm of `task_chapter::task` but this one.
+-- What the call does holds beside any message, so beside this one.
+use Rattle.std.proofs.Common.{arith, refl}
+use Rattle.scope.specs.Step.{answered}
+use Rattle.answers.specs.Outcomes.{answer_of}
 use Rattle.task_chapter.proofs.task.Goals as goal
 
-pub returns-in-Delete-clause-answer : goal.returns-in-Delete-clause-answer
-returns-in-Delete-clause-answer c m = rw c.in-Delete.is c.task_delete.ensures.answer
+pub returns-in-Ok-Task : goal.returns-in-Ok-Task
+unfolding answered answer_of
+returns-in-Ok-Task c = (λ m. grind (arith, c.does.ensures.answer m), refl)
