@@ -71,9 +71,11 @@ def flags():
 # the tests: the header, the columns of yes and no, the ready order
 def tests():
     calls = '\n        & '.join(f'columns::flags_only(image, {place}, {S}, {slots})' for place, S, slots in flags())
+    size = f'    requires {{ length image.now ≡ {SIZE} }}'
     return f'''
 // Whether the header is that of the edition.
-pub fn header_right(image: &[u8; SIZE]) -> bool
+pub fn header_right(image: &[u8]) -> bool
+{size}
     ensures {{ result ≡ header_right image.now }}
 {{
     columns::is_column(image, 0, 4, &HEADER)
@@ -81,14 +83,16 @@ pub fn header_right(image: &[u8; SIZE]) -> bool
 
 // Whether each yes or no is 1 or 0.
 #[tactic(auto, unfolding(crate::specs::Tests::flags_right))]
-pub fn flags_right(image: &[u8; SIZE]) -> bool
+pub fn flags_right(image: &[u8]) -> bool
+{size}
     ensures {{ result ≡ flags_right image.now }}
 {{
     {calls}
 }}
 
 // Whether the ready order has these places.
-pub fn order_is(image: &[u8; SIZE], places: &[u8; {ORDER}]) -> bool
+pub fn order_is(image: &[u8], places: &[u8; {ORDER}]) -> bool
+{size}
     ensures {{ result ≡ same_bytes (part {ORDER} {ORDER_AT} image.now) places.now }}
 {{
     columns::is_column(image, {ORDER_AT}, 1, places)
@@ -99,7 +103,7 @@ pub fn order_is(image: &[u8; SIZE], places: &[u8; {ORDER}]) -> bool
 def source():
     names = [t[0] for t in image_tables()]
     parts = [g for n in names for g in tables_of(n)]
-    ghost = ['std.specs.Prelude.{◌≡◌, [], ◌∷◌}', 'fields.specs.Columns.{part}', 'fields.specs.Fields.{put_fields}',
+    ghost = ['std.specs.Prelude.{◌≡◌, [], ◌∷◌, length}', 'fields.specs.Columns.{part}', 'fields.specs.Fields.{put_fields}',
              f'image.specs.Image.{{each, bytes, header_numbers, {", ".join(f"{ONE[n]}_fields" for n in names)}}}',
              f'image.specs.Reading.{{{", ".join(f"{FROM[g]}_from" for g in parts)}, same_bytes}}', 'image.specs.Tests.{header_right, flags_right}']
     functions = ''.join(function(verb, *t) for t in image_tables() for verb in ('put', 'take'))

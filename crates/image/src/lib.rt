@@ -2,7 +2,7 @@
 // (specs/Image.antt, specs/Reading.antt, specs/Tests.antt; docs/IMAGE.md has the places.)
 #![tactic(auto)]
 
-ghost use Rattle.std.specs.Prelude.{◌≡◌, [], ◌∷◌};
+ghost use Rattle.std.specs.Prelude.{◌≡◌, [], ◌∷◌, length};
 ghost use Rattle.fields.specs.Columns.{part};
 ghost use Rattle.fields.specs.Fields.{put_fields};
 ghost use Rattle.image.specs.Image.{each, bytes, header_numbers, task_fields, sem_fields, pool_fields, queue_fields};
@@ -131,7 +131,8 @@ pub fn take_queues(image: &[u8; SIZE], queues: &mut Queues)
 }
 
 // Whether the header is that of the edition.
-pub fn header_right(image: &[u8; SIZE]) -> bool
+pub fn header_right(image: &[u8]) -> bool
+    requires { length image.now ≡ 9920 }
     ensures { result ≡ header_right image.now }
 {
     columns::is_column(image, 0, 4, &HEADER)
@@ -139,7 +140,8 @@ pub fn header_right(image: &[u8; SIZE]) -> bool
 
 // Whether each yes or no is 1 or 0.
 #[tactic(auto, unfolding(crate::specs::Tests::flags_right))]
-pub fn flags_right(image: &[u8; SIZE]) -> bool
+pub fn flags_right(image: &[u8]) -> bool
+    requires { length image.now ≡ 9920 }
     ensures { result ≡ flags_right image.now }
 {
     columns::flags_only(image, 46, 17, 32)
@@ -154,7 +156,8 @@ pub fn flags_right(image: &[u8; SIZE]) -> bool
 }
 
 // Whether the ready order has these places.
-pub fn order_is(image: &[u8; SIZE], places: &[u8; 32]) -> bool
+pub fn order_is(image: &[u8], places: &[u8; 32]) -> bool
+    requires { length image.now ≡ 9920 }
     ensures { result ≡ same_bytes (part 32 9888 image.now) places.now }
 {
     columns::is_column(image, 9888, 1, places)
