@@ -20,8 +20,10 @@ pub struct Head {
 // What a step is lent beside the record: the state, and what it tells beside its outcome.
 #[derive(Clone, Copy)]
 pub struct Lent {
-    pub state: State,
+    // (First: after the state their addresses would agree in the last twelve bits with those of the first queue's messages, and reading a
+    // message would wait for the stores of the wake list.)
     pub notices: Notices,
+    pub state: State,
 }
 
 // The head of a mix; nothing to play where there is none.

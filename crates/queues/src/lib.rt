@@ -110,6 +110,8 @@ fn hold(u: &mut Queues, call: SendCall, i: usize, cell: [u8; 65])
 
 // "A message goes to the first waiter or else" the queue holds it. 27 before 28.
 // (Each parameter is a fact of its own.)
+// (In line: a result that a call stores field by field, and its caller reads as a whole at once, has the reader wait for the stores.)
+#[inline(always)]
 fn put(
     s: &mut State,
     notices: &mut Notices,

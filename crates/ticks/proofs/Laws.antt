@@ -52,9 +52,9 @@ module _ (k : Tasks) (before : Line) (t : ℕ) (w : Waking) (below : t < 32) whe
   due_passed due = let d : 32 - t ≡ suc (32 - (t + 1)) = omega arith in rw (d, wake_due, due, add-one t)
 
 -- nobody has one left, so nobody is due and nobody is woken
-pub none_due : (k : Tasks) (l : Line) (w : Waking) (n t : ℕ) → ((j : ℕ) → eqb (get_or l.left j 0) 1 ≡ false) → w ≡ wake_due k l n t w
+pub none_due : (k : Tasks) (l : Line) (w : Waking) (n t : ℕ) → ((j : ℕ) → j < t + n → eqb (get_or l.left j 0) 1 ≡ false) → w ≡ wake_due k l n t w
 unfolding wake_due is_due
 none_due k l w zero t h = refl
 none_due k l w (suc n) t h =
-    let e : is_due l t ≡ false = second_fails (waits_on (get_or l.seat t 0)) _ (h t) in
-    rw (wake_due, e) (none_due k l w n (suc t) h)
+    let e : is_due l t ≡ false = second_fails (waits_on (get_or l.seat t 0)) _ (h t (omega arith)) in
+    rw (wake_due, e) (none_due k l w n (suc t) (λ j b. h j (omega arith)))

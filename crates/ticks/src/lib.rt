@@ -42,12 +42,18 @@ fn is_due(seat: u16, left: u32) -> bool
 
 // "Those reaching 0 are woken with 13 in ascending slot order", told by the time_outs and the seats before the tick.
 // Answers how many were woken.
-fn wake_due(line: &mut Line, tasks: &Tasks, wakes: &mut [u32; 32], before: &Line) -> usize
-    ensures { waking_from line.new wakes.new result ≡ wake_due tasks.now before.now 32 0 (waking_from line.old wakes.old 0) }
+fn wake_due(
+    line: &mut Line,
+    tasks: &Tasks,
+    wakes: &mut [u32; 32],
+    left: &[u32; 32],
+    seat: &[u16; 32],
+) -> usize
+    ensures { waking_from line.new wakes.new result ≡ wake_due tasks.now (record line.old { left = left.now; seat = seat.now }) 32 0 (waking_from line.old wakes.old 0) }
 {
     let mut woken = 0;
     for t in 0..32 {
-        if is_due(before.seat[t], before.left[t]) {
+        if is_due(seat[t], left[t]) {
             waiting::wake_next(line, tasks, wakes, woken, t);
             woken += 1;
         }
@@ -55,7 +61,8 @@ fn wake_due(line: &mut Line, tasks: &Tasks, wakes: &mut [u32; 32], before: &Line
     woken
 }
 
-// To wake a task moves others' seats, so who is due is asked of what stood before the tick; it is copied only where somebody may be due.
+// To wake a task moves others' seats, so who is due is asked of what stood before the tick: of two columns, which are copied only where
+// somebody may be due.
 pub fn tick(s: &mut State, wakes: &mut [u32; 32]) -> Outcome
     ensures answer { answer_of s.new wakes.new result ≡ tick s.old }
     ensures running { s.new.running ≡ s.old.running }
@@ -66,9 +73,10 @@ pub fn tick(s: &mut State, wakes: &mut [u32; 32]) -> Outcome
         s.line.left = left;
         return answers::woke(0, scope::TIME_OUT, seats::runner(&s.line));
     }
-    let before = s.line;
+    let before = s.line.left;
+    let seat = s.line.seat;
     s.line.left = left;
-    let woken = wake_due(&mut s.line, &s.tasks, wakes, &before);
+    let woken = wake_due(&mut s.line, &s.tasks, wakes, &before, &seat);
     let runs = seats::runner(&s.line);
     answers::woke(woken, scope::TIME_OUT, runs)
 }

@@ -82,6 +82,8 @@ pub fn time_out(options: u32, ticks: u32) -> Result<Option<u32>, Refusal>
 }
 
 // The running task waits for object `i`.
+// (In line: a result that a call stores field by field, and its caller reads as a whole at once, has the reader wait for the stores.)
+#[inline(always)]
 pub fn wait_for(s: &mut State, i: usize, fifo: bool, ticks: u32) -> Result<Outcome, Refusal>
     requires { i < 31 }
     ensures answer { answer_of s.new no_wakes (outcome_of s.old.running result) ≡ wait_for s.old i fifo ticks }

@@ -7,7 +7,7 @@ use Rattle.ticks.proofs.tick.Goals as goal
 
 pub returns-then-last-eq0-clause-answer : goal.returns-then-last-eq0-clause-answer
 unfolding tick
-returns-then-last-eq0-clause-answer c = woke_moved _ _ _ _ _ _ _ _ _ _ _ _ c.woke.ensures c.runner.ensures (rw (← c.take_one-last.ensures.0) (none_due _ _ _ 32 0 (none_counted _ (sym c.take_one-last.ensures.1 ∙ c.if-last-eq0.true))))
+returns-then-last-eq0-clause-answer c = woke_moved _ _ _ _ _ _ _ _ _ _ _ _ c.woke.ensures c.runner.ensures (rw (← c.take_one-last.ensures.0) (none_due _ _ _ 32 0 (λ j b. none_counted _ (sym c.take_one-last.ensures.1 ∙ c.if-last-eq0.true) j)))
 
 pub returns-clause-answer : goal.returns-clause-answer
 unfolding tick
