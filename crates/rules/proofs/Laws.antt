@@ -1,21 +1,23 @@
--- What the rules lean on. A loop that counts holds the number of those that it passed; a mark past the last buffer is a bit above the power
--- of two.
+-- What the rules lean on. A loop that counts holds the number of those that it passed; a number found is a number counted; a mark past the
+-- last buffer is a bit above the power of two.
 -- Assumes nothing.
-use Prim.Native.Nat.{ℕ, ◌+◌, ◌/◌, ◌^◌, ◌≤◌, ◌<◌}
+use Prim.Native.Nat.{ℕ, zero, suc, ◌+◌, ◌/◌, ◌^◌, ◌≤◌, ◌<◌}
 use native.Mathlib.Omega.{arith}
 use native.Mathlib.Numerals.{add-one}
-use native.Mathlib.Nat.{div-eq_of_lt, div-lt_iff_lt-mul, one-mul}
-use mathlib.Core.Path.{◌≡◌, refl, sym, ◌∙◌}
+use native.Mathlib.Nat.{div-eq_of_lt, div-lt_iff_lt-mul, one-mul, not-suc-le-zero, eq-or-lt_of_le}
+use mathlib.Core.Path.{◌≡◌, refl, sym, subst, ap, ◌∙◌}
 use mathlib.Core.Logic.{⊎_elim}
 use mathlib.Core.Bool.{Bool, true, false, ◌&&◌, and_assoc, and-true}
+use mathlib.Core.List.{List}
 use lib.Dec.{eqb, ltb, leb}
 use mir.Val.{bool_byte}
 use lib.Pow.{pow_pos, pow_mono}
 use borrow.Author.Tests.{lt-ltb, le-ltb, le-leb, eq-eqb, ne_eqb}
-use Rattle.scope.specs.Choice.{pick, number}
+use Rattle.scope.specs.Choice.{pick, least, number}
+use Rattle.scope.specs.Seats.{is_on, on_seat}
 use Rattle.scope.specs.Rules.{holds_right}
-use Rattle.laws.proofs.Branches.{first_fails, second_decides, lt_or_le, pick_yes, pick_no}
-use Rattle.laws.proofs.Searches.{number-le}
+use Rattle.laws.proofs.Branches.{first_fails, second_decides, lt_or_le, pick_yes, pick_no, picked_yes, picked_no}
+use Rattle.laws.proofs.Searches.{least-true, least_below, number-le}
 use Rattle.laws.proofs.Arrays.{at_end_lem}
 pub use Rattle.laws.proofs.Testing.{Testing, testing_start, testing_more, testing_done}
 
@@ -43,6 +45,33 @@ counting_le {n} {p} {k} {t} m = omega (arith, number-le p t)
 
 pub counting_done : {n : ℕ} {p : ℕ → Bool} {k t : ℕ} → Counting n p k t → n ≤ t → k ≡ number p n
 counting_done {n} {p} {k} {t} m h = at_end_lem (λ (x : ℕ). k ≡ number p x) n t m.upto h m.sofar
+
+-- none passes, so none is counted; one passes, so one is
+module _ (p : ℕ → Bool) where
+  number_none : (n : ℕ) → ((j : ℕ) → j < n → p j ≡ false) → number p n ≡ 0
+  unfolding number
+  number_none zero none = refl
+  number_none (suc n) none = omega (arith, number_none n (λ j h. none j (omega arith)), picked_no {A = ℕ} (p n) 1 0 (none n (omega arith)))
+
+  number_some : (n j : ℕ) → j < n → p j ≡ true → 0 < number p n
+  unfolding number
+  number_some zero j h e = absurd (not-suc-le-zero h)
+  number_some (suc n) j h e =
+      ⊎_elim (λ q. omega (arith, picked_yes {A = ℕ} (p n) 1 0 (subst (λ (x : ℕ). p x ≡ true) q e)))
+      (λ l. omega (arith, number_some n j l e))
+      (eq-or-lt_of_le {n = j} {m = n} (omega arith))
+
+  -- whether a search finds a number is whether there is one to count
+  pub found_counted : (n : ℕ) → ltb 0 (number p n) ≡ ltb (least p n) n
+  found_counted n =
+      ⊎_elim (λ h. lt-ltb _ _ (number_some n (least p n) h (least-true p n h)) ∙ sym (lt-ltb _ _ h))
+      (λ h. ap (ltb 0) (number_none n (λ j l. least_below p n j (omega arith))) ∙ sym (le-ltb _ _ h))
+      (lt_or_le (least p n) n)
+
+-- a task is on the seat where one is counted there
+pub taken_counted : (q : List ℕ) (x n : ℕ) → n ≡ number (is_on q x) 32 → ltb 0 n ≡ ltb (on_seat q x) 32
+unfolding on_seat
+taken_counted q x n e = ap (ltb 0) e ∙ found_counted (is_on q x) 32
 
 -- a queue that holds nothing is right whoever waits, and one that holds something if nobody does
 module _ (n held most : ℕ) where
