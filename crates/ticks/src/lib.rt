@@ -33,11 +33,12 @@ fn take_one(left: [u32; 32]) -> Taken
     Taken { left, last }
 }
 
-// A task on this seat with this left of its time_out waits, and the tick takes the last one.
+// A task on this seat with this left of its time_out waits, and the tick takes the last one. (What is left is asked first: of few tasks
+// it is one, and who waits changes from tick to tick.)
 fn is_due(seat: u16, left: u32) -> bool
     ensures { result ≡ (waits_on seat && eqb left 1) }
 {
-    seats::waits_on(seat) && left == 1
+    left == 1 && seats::waits_on(seat)
 }
 
 // "Those reaching 0 are woken with 13 in ascending slot order", told by the time_outs and the seats before the tick.
