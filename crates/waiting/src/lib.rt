@@ -72,11 +72,11 @@ pub fn time_out(options: u32, ticks: u32) -> Result<Option<u32>, Refusal>
     if scope::LAST_OPTION < options {
         return Err(Refusal::InvalidOptions);
     }
+    if times::lacks_time_out(options, ticks) {
+        return Err(Refusal::InvalidParameter);
+    }
     if options == scope::NOWAIT {
         return Ok(None);
-    }
-    if !times::is_time_out(ticks) {
-        return Err(Refusal::InvalidParameter);
     }
     Ok(Some(ticks))
 }
